@@ -1,0 +1,28 @@
+use Rattle.std.specs.Prelude.{Bool, false, Option, None}
+use Rattle.st_policy.specs.declared.filter.FilterName.{FilterName}
+use Rattle.st_policy.specs.declared.filter.Action.{Action}
+use Rattle.st_policy.specs.declared.filter.Grant.{Grant}
+use Rattle.st_policy.specs.declared.filter.Predicate.{Predicate}
+use Rattle.st_policy.specs.declared.filter.Expr.{Expr}
+use Rattle.st_policy.specs.declared.filter.Expr.TheVariants as expr
+
+-- an expression, without where its parts lie in memory
+pub data Formula : Type 0 where
+  True : Formula
+
+abbrev pub formula : Expr → Formula
+formula expr.True = True
+
+-- a filter, without where its parts lie in memory
+pub record FilterValue : Type 0 where
+  pub name : FilterName
+  pub formula : Formula
+  pub action : Action
+  pub grant : Option Grant
+  pub log : Bool
+  pub predicate : Option Predicate
+
+-- the short form: it holds of every call, grants nothing, logs nothing and asks for no id
+abbrev pub plain_filter : FilterName → Action → FilterValue
+plain_filter name action =
+    record { name = name; formula = True; action = action; grant = None; log = false; predicate = None }

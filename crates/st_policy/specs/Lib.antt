@@ -1,0 +1,3 @@
+pub mod Formula
+pub mod Fast
+pub mod Policies
