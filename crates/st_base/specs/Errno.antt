@@ -1,4 +1,5 @@
-use Rattle.std.specs.Prelude.{ℕ, List, [], ◌∷◌, codes, map}
+use Rattle.std.specs.Prelude.{ℕ, List, [], ◌∷◌, codes, map, find, Option}
+use Rattle.std.specs.Str.{bytes_eq}
 use Rattle.std.specs.Char.{to_ascii_lowercase}
 use Rattle.st_base.specs.declared.errno.Errno.{Errno}
 use Rattle.st_base.specs.declared.errno.Errno.TheVariants.{EPERM, ENOENT, ESRCH, E2BIG, ENOEXEC, EBADF, EACCES, EFAULT, EEXIST, ENOTDIR, EISDIR, EINVAL, EMFILE, ENOSPC, EAGAIN, EADDRINUSE, ECONNREFUSED, ELOOP, ENAMETOOLONG, ENOTEMPTY, ENOSYS}
@@ -60,3 +61,7 @@ abbrev pub every_error : List Errno
 every_error =
     EPERM ∷ ENOENT ∷ ESRCH ∷ E2BIG ∷ ENOEXEC ∷ EBADF ∷ EACCES ∷ EFAULT ∷ EEXIST ∷ ENOTDIR ∷ EISDIR ∷
     EINVAL ∷ EMFILE ∷ ENOSPC ∷ EAGAIN ∷ EADDRINUSE ∷ ECONNREFUSED ∷ ELOOP ∷ ENAMETOOLONG ∷ ENOTEMPTY ∷ ENOSYS ∷ []
+
+-- the error of this name, in small letters
+abbrev pub error_named : List ℕ → Option Errno
+error_named word = find (λ errno. bytes_eq (word_of_error errno) word) every_error

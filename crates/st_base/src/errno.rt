@@ -1,6 +1,6 @@
-ghost use Rattle.std.specs.Prelude.{◌≡◌, ◌≢◌, IfSome, IfNone};
-ghost use Rattle.st_base.specs.declared.errno.Errno.{Errno};
-ghost use Rattle.st_base.specs.Errno.{number_of_error, name_of_error, word_of_error};
+ghost use Rattle.std.specs.Prelude.{◌≡◌, find};
+ghost use Rattle.std.specs.Str.{bytes_eq};
+ghost use Rattle.st_base.specs.Errno.{number_of_error, name_of_error, word_of_error, error_named};
 
 /// An error of a system call, as in errno(2).
 #[derive(Clone, Copy, Debug, PartialEq, Eq)]
@@ -143,14 +143,15 @@ impl Errno {
 
     /// The error that a policy's word names, in small letters.
     pub fn of_word(word: &[u8]) -> Option<Errno>
-        ensures named { IfSome result (λ errno. word.now ≡ word_of_error errno) }
-        ensures unknown { IfNone result ((errno : Errno) → word.now ≢ word_of_error errno) }
+        ensures { result ≡ error_named word.now }
     {
-        for &errno in &Errno::ALL {
-            if errno.word() == word {
-                return Some(errno);
-            }
-        }
-        None
+        first_named(&Errno::ALL, word)
     }
+}
+
+// The first of some errors with this name.
+fn first_named(errors: &[Errno], word: &[u8]) -> Option<Errno>
+    ensures { result ≡ find (λ errno. bytes_eq (word_of_error errno) word.now) errors.now }
+{
+    errors.iter().copied().find(|errno| errno.word() == word)
 }

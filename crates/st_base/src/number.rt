@@ -1,6 +1,6 @@
 ghost use Rattle.std.specs.Prelude.{◌≡◌, ℕ, ◌+◌, ◌*◌, ◌^◌, ◌<◌, ◌≤◌, IfSome, IfNone};
 ghost use Rattle.std.specs.Char.{digit_value};
-ghost use Rattle.st_base.specs.Number.{Writes, SpellsNumber, SpellsMode};
+ghost use Rattle.st_base.specs.Number.{numeral_up_to, number_in, mode_in};
 
 // The number that goes on with one more digit, where it is a digit of the radix and the number is below 2^64.
 fn with_digit(radix: u32, value: u64, byte: u8) -> Option<u64>
@@ -15,12 +15,11 @@ fn with_digit(radix: u32, value: u64, byte: u8) -> Option<u64>
         .checked_add(u64::from(digit))
 }
 
-// The number that digits write, where it is below 2^64.
-fn value_of(radix: u32, digits: &[u8]) -> Option<u64>
+// The number that digits of the radix write, where it is at most this.
+fn numeral_up_to(most: u64, radix: u32, digits: &[u8]) -> Option<u64>
     requires low { 2 ≤ radix }
     requires high { radix ≤ 36 }
-    ensures found { IfSome result (Writes radix digits.now) }
-    ensures none { IfNone result ((n : ℕ) → n < 2 ^ 64 → Writes radix digits.now n → ⊥) }
+    ensures { result ≡ numeral_up_to most radix digits.now }
 {
     if digits.is_empty() {
         return None;
@@ -29,38 +28,31 @@ fn value_of(radix: u32, digits: &[u8]) -> Option<u64>
     for &byte in digits {
         value = with_digit(radix, value, byte)?;
     }
-    Some(value)
+    if value <= most { Some(value) } else { None }
 }
 
 /// The number that a word spells: decimal digits, or `0x` and one to sixteen hexadecimal digits; below 2^64.
 pub fn number_of(word: &[u8]) -> Option<u64>
-    ensures found { IfSome result (SpellsNumber word.now) }
-    ensures none { IfNone result ((n : ℕ) → SpellsNumber word.now n → ⊥) }
+    ensures { result ≡ number_in word.now }
 {
-    match word {
-        [b'0', b'x', digits @ ..] => {
-            if digits.len() <= 16 {
-                value_of(16, digits)
-            } else {
-                None
-            }
+    if word.starts_with(b"0x") {
+        if word.len() <= 18 {
+            numeral_up_to(u64::MAX, 16, &word[2..])
+        } else {
+            None
         }
-        _ => value_of(10, word),
+    } else {
+        numeral_up_to(u64::MAX, 10, word)
     }
 }
 
 /// The mode that a word spells: one to four octal digits, at most 777.
 pub fn mode_of(word: &[u8]) -> Option<u32>
-    ensures found { IfSome result (SpellsMode word.now) }
-    ensures none { IfNone result ((n : ℕ) → SpellsMode word.now n → ⊥) }
+    ensures { result ≡ mode_in word.now }
 {
     if word.len() > 4 {
         return None;
     }
-    let value = value_of(8, word)?;
-    if value < 512 {
-        Some(value as u32)
-    } else {
-        None
-    }
+    let value = numeral_up_to(0o777, 8, word)?;
+    Some(value as u32)
 }

@@ -1,4 +1,5 @@
-use Rattle.std.specs.Prelude.{ℕ, List, [], ◌∷◌, codes}
+use Rattle.std.specs.Prelude.{ℕ, List, [], ◌∷◌, codes, find, Option}
+use Rattle.std.specs.Str.{bytes_eq}
 use Rattle.st_calls.specs.declared.call.SysCall.{SysCall}
 use Rattle.st_calls.specs.declared.call.SysCall.TheVariants.{GetPid, GetUid, GetEuid, Exit}
 use Rattle.st_calls.specs.declared.rule.Rule.{Rule}
@@ -14,6 +15,10 @@ name_of_call Exit = codes "exit"
 -- every call of the model
 abbrev pub every_call : List SysCall
 every_call = GetPid ∷ GetUid ∷ GetEuid ∷ Exit ∷ []
+
+-- the call of this name
+abbrev pub call_named : List ℕ → Option SysCall
+call_named word = find (λ call. bytes_eq (name_of_call call) word) every_call
 
 -- the rule that judges a call
 abbrev pub rule_of : SysCall → Rule

@@ -1,6 +1,6 @@
-ghost use Rattle.std.specs.Prelude.{◌≡◌, ◌≢◌, IfSome, IfNone};
-ghost use Rattle.st_calls.specs.declared.call.SysCall.{SysCall};
-ghost use Rattle.st_calls.specs.Call.{name_of_call};
+ghost use Rattle.std.specs.Prelude.{◌≡◌, find};
+ghost use Rattle.std.specs.Str.{bytes_eq};
+ghost use Rattle.st_calls.specs.Call.{name_of_call, call_named};
 
 /// A system call of the model, as in the system-call pages of OpenBSD's manual, section 2.
 #[derive(Clone, Copy, Debug, PartialEq, Eq)]
@@ -34,14 +34,15 @@ impl SysCall {
 
     /// The call that a word names.
     pub fn of_word(word: &[u8]) -> Option<SysCall>
-        ensures named { IfSome result (λ call. word.now ≡ name_of_call call) }
-        ensures unknown { IfNone result ((call : SysCall) → word.now ≢ name_of_call call) }
+        ensures { result ≡ call_named word.now }
     {
-        for &call in &SysCall::ALL {
-            if call.word() == word {
-                return Some(call);
-            }
-        }
-        None
+        first_named(&SysCall::ALL, word)
     }
+}
+
+// The first of some calls with this name.
+fn first_named(calls: &[SysCall], word: &[u8]) -> Option<SysCall>
+    ensures { result ≡ find (λ call. bytes_eq (name_of_call call) word.now) calls.now }
+{
+    calls.iter().copied().find(|call| call.word() == word)
 }

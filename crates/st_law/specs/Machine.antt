@@ -17,6 +17,8 @@ use Rattle.st_trace.specs.declared.entry.Cause.TheVariants.{Filter}
 use Rattle.st_trace.specs.declared.start.Instr.{Instr}
 use Rattle.st_trace.specs.declared.start.Instr.TheVariants.{Call}
 use Rattle.st_law.specs.declared.input.Input.{Input}
+use Rattle.st_law.specs.declared.input.Schedule.{Schedule}
+use Rattle.st_law.specs.declared.input.Schedule.TheVariants as schedule
 use Rattle.st_law.specs.History.{History, Process, process, owner, body, Pending, pending_after, left_after, ended_after, dying_after}
 
 -- a thread, as the machine keeps it
@@ -148,3 +150,7 @@ most_steps i = 10000 * (sum_by (λ row. length row.body) i.start.threads + 1)
 -- the choices that the schedule `rest` stands for
 abbrev pub rest_of : Input → List Choice
 rest_of i = rest (most_steps i) i (start i)
+
+-- the choices that a schedule makes
+abbrev pub played : Input → Schedule → List Choice
+played i schedule.Rest = rest_of i

@@ -21,3 +21,10 @@ pub enum Mode {
 pub struct Options {
     pub mode: Mode,
 }
+
+/// What a schedule file says: which choices are made.
+#[derive(Clone, Copy, Debug, PartialEq, Eq)]
+pub enum Schedule {
+    /// The first enabled choice again and again, until none is enabled.
+    Rest,
+}

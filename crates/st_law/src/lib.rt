@@ -4,4 +4,4 @@
 pub mod input;
 pub mod law;
 
-pub use input::{Input, Mode, Options};
+pub use input::{Input, Mode, Options, Schedule};

@@ -1,3 +1,4 @@
 pub mod Formula
 pub mod Fast
 pub mod Policies
+pub mod Form

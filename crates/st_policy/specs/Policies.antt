@@ -1,4 +1,5 @@
 use Rattle.std.specs.Prelude.{ℕ, Bool, List, [], ◌∷◌, filter, if◌then◌else◌, ◌==◌}
+use Rattle.std.specs.List.{list_any}
 use Rattle.std.specs.Str.{bytes_eq}
 use Rattle.st_calls.specs.declared.rule.Rule.{Rule}
 use Rattle.st_calls.specs.Call.{index_of_rule}
@@ -23,3 +24,7 @@ filters_of rule filters = filter (λ f. is_for rule f.name) filters
 -- the filters that were read for a binary and a rule, in order
 abbrev pub read_filters : List BinaryPolicy → List ℕ → Rule → List FilterValue
 read_filters policies binary rule = filters_of rule (policy_of policies binary)
+
+-- whether the rule has a filter
+abbrev pub has_filter : Rule → List FilterValue → Bool
+has_filter rule filters = list_any (λ f. is_for rule f.name) filters

@@ -1,6 +1,6 @@
 ghost use Rattle.std.specs.Prelude.{◌≡◌};
 ghost use Rattle.st_policy.specs.Fast.{fast};
-ghost use Rattle.st_policy.specs.Policies.{filters_of};
+ghost use Rattle.st_policy.specs.Policies.{filters_of, has_filter};
 
 use st_base::{Errno, Sequence};
 use st_calls::{FastAnswer, Rule};
@@ -83,6 +83,7 @@ impl Model for Filter {
 impl Filter {
     ghost use Rattle.st_policy.specs.Formula.{plain_filter};
     ghost use Rattle.st_policy.specs.Fast.{fast_answer};
+    ghost use Rattle.st_policy.specs.Policies.{is_for};
 
     /// The short form `name: action`: it holds of every call, grants nothing, logs nothing and asks for no id.
     pub fn plain(name: FilterName, action: Action) -> Self
@@ -105,6 +106,14 @@ impl Filter {
         self.name
     }
 
+    /// Whether it is for this rule.
+    pub fn is_for(&self, rule: Rule) -> bool
+        ensures { result ≡ is_for rule self.now.name }
+    {
+        let FilterName::Rule(name) = self.name;
+        name.index() == rule.index()
+    }
+
     /// What the kernel answers by itself where this filter is the first of its rule, as in systrace(4).
     pub fn fast_answer(&self) -> FastAnswer
         ensures { result ≡ fast_answer self.now }
@@ -125,10 +134,16 @@ pub fn fast(policy: &Policy, rule: Rule) -> FastAnswer
     ensures { result ≡ fast (filters_of rule policy.now) }
 {
     for filter in policy.as_slice() {
-        let FilterName::Rule(name) = filter.name();
-        if name.index() == rule.index() {
+        if filter.is_for(rule) {
             return filter.fast_answer();
         }
     }
     FastAnswer::Ask
+}
+
+/// Whether a policy has a filter of the rule.
+pub fn has_filter(policy: &Policy, rule: Rule) -> bool
+    ensures { result ≡ has_filter rule policy.now }
+{
+    policy.as_slice().iter().any(|filter| filter.is_for(rule))
 }

@@ -2,7 +2,11 @@
 #![tactic(auto)]
 
 pub mod filter;
+pub mod reader;
 pub mod set;
 
-pub use filter::{Action, Cmp, Expr, Filter, FilterName, Grant, Policy, Predicate, Who, fast};
+pub use filter::{
+    Action, Cmp, Expr, Filter, FilterName, Grant, Policy, Predicate, Who, fast, has_filter,
+};
+pub use reader::{FILTER_LIMIT, PolicyFault, read_policies};
 pub use set::{BinaryPolicy, PolicySet};

@@ -52,6 +52,13 @@ impl PolicySet {
         Ok(())
     }
 
+    /// The policies, in order.
+    pub fn as_slice(&self) -> &[BinaryPolicy]
+        ensures { result.now ≡ self.now }
+    {
+        self.policies.as_slice()
+    }
+
     /// The filters of a binary: those of its first policy, and none where it has no policy.
     pub fn get(&self, binary: &[u8]) -> &Policy
         ensures { result.now ≡ policy_of self.now binary.now }

@@ -1,0 +1,10 @@
+//! The audit of a run: a line for each call that a traced process made or was denied.
+#![tactic(auto)]
+
+pub mod audit;
+mod line;
+
+pub use audit::{audit_text, longer_runs_extend_the_audit};
+
+#[cfg(test)]
+mod tests;

@@ -1,0 +1,31 @@
+use Rattle.std.proofs.Common.{◌≡◌, ℕ, ◌+◌, Option, None, Some, refl, ap, arith}
+use Rattle.st_lex.specs.declared.token.LexFault.{LexFault}
+use Rattle.st_lex.specs.declared.token.LexFault.TheVariants.{BadByte, OpenQuote, BadEscape}
+use Rattle.st_lex.specs.Quoted.{further, moved, later}
+
+-- two distances add up
+pub further-further : (a b : ℕ) (o : Option ℕ) → further a (further b o) ≡ further (a + b) o
+further-further a b None = refl
+further-further a b (Some n) = ap (λ (m : ℕ). Some m) (omega arith)
+
+pub further-zero : (o : Option ℕ) → further 0 o ≡ o
+further-zero None = refl
+further-zero (Some n) = ap (λ (m : ℕ). Some m) (omega arith)
+
+pub moved-moved : (a b : ℕ) (f : LexFault) → moved a (moved b f) ≡ moved (a + b) f
+moved-moved a b (BadByte n) = ap (λ (m : ℕ). BadByte m) (omega arith)
+moved-moved a b (OpenQuote n) = ap (λ (m : ℕ). OpenQuote m) (omega arith)
+moved-moved a b (BadEscape n) = ap (λ (m : ℕ). BadEscape m) (omega arith)
+
+pub moved-zero : (f : LexFault) → moved 0 f ≡ f
+moved-zero (BadByte n) = ap (λ (m : ℕ). BadByte m) (omega arith)
+moved-zero (OpenQuote n) = ap (λ (m : ℕ). OpenQuote m) (omega arith)
+moved-zero (BadEscape n) = ap (λ (m : ℕ). BadEscape m) (omega arith)
+
+pub later-later : (a b : ℕ) (o : Option LexFault) → later a (later b o) ≡ later (a + b) o
+later-later a b None = refl
+later-later a b (Some f) = ap (λ (m : LexFault). Some m) (moved-moved a b f)
+
+pub later-zero : (o : Option LexFault) → later 0 o ≡ o
+later-zero None = refl
+later-zero (Some f) = ap (λ (m : LexFault). Some m) (moved-zero f)

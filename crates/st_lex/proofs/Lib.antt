@@ -1,0 +1,9 @@
+pub mod Distances
+pub mod Examples
+pub mod Lines
+pub mod Parts
+pub mod Prints
+pub mod Runs
+pub mod Scans
+pub mod Skips
+pub mod Within

@@ -1,0 +1,104 @@
+use Rattle.std.proofs.Common.{zero, suc, ◌≡◌, ℕ, ◌+◌, ◌-◌, ◌<◌, ◌≤◌, List, [], ◌∷◌, ◌++◌, length, take, drop, get_or, Option, None, Some, refl, ap, sym, ◌∙◌, arith, append_assoc}
+use Rattle.std.proofs.lemmas.List.{append-nil, drop_more, drop_all, drop-drop, take_rest, length-drop}
+use Rattle.st_lex.specs.declared.token.Token.{Token}
+use Rattle.st_lex.specs.declared.token.TokenKind.{TokenKind}
+use Rattle.st_lex.specs.declared.token.LexFault.{LexFault}
+use Rattle.st_lex.specs.declared.token.Lexed.{Lexed}
+use Rattle.st_lex.specs.declared.token.Front.{Front}
+use Rattle.st_lex.specs.declared.token.Front.TheVariants.{Gap, Piece, Broken}
+use Rattle.st_lex.specs.Quoted.{moved}
+use Rattle.st_lex.specs.Tokens.{front_of, line_behind, with_token, tokens_from}
+
+-- skipped bytes only move the place
+pub tokens_from-skip : (k at line : ℕ) (bytes : List ℕ) → k ≤ length bytes → tokens_from k at line bytes ≡ tokens_from 0 (at + k) line (drop k bytes)
+tokens_from-skip zero at line bytes h = let e : at ≡ at + 0 = omega arith in ap (λ (a : ℕ). tokens_from 0 a line bytes) e
+tokens_from-skip (suc k) at line [] h = absurd (omega arith)
+tokens_from-skip (suc k) at line (b ∷ bs) h =
+    let e : at + 1 + k ≡ at + suc k = omega arith in
+    tokens_from-skip k (at + 1) line bs (omega arith) ∙ ap (λ (a : ℕ). tokens_from 0 a line (drop k bs)) e
+
+-- what a text gives by what stands at its front
+unfoldable pub by_front : ℕ → ℕ → List ℕ → Front → Lexed
+by_front at line bs (Gap k) = tokens_from (k - 1) (at + 1) line bs
+by_front at line bs (Piece kind k) = with_token (record { kind = kind; at = at; len = k; line = line }) (tokens_from (k - 1) (at + 1) (line_behind kind line) bs)
+by_front at line bs (Broken fault) = record { tokens = []; fault = Some (moved at fault) }
+
+pub tokens_from-front : (at line b : ℕ) (bs : List ℕ) → tokens_from 0 at line (b ∷ bs) ≡ by_front at line bs (front_of (b ∷ bs))
+unfolding by_front
+tokens_from-front at line b bs = refl
+
+skip_front : (k at line b : ℕ) (bs : List ℕ) → 0 < k → k ≤ length bs + 1 → tokens_from (k - 1) (at + 1) line bs ≡ tokens_from 0 (at + k) line (drop k (b ∷ bs))
+skip_front zero at line b bs p h = absurd (omega arith)
+skip_front (suc k) at line b bs p h =
+    let d : suc k - 1 ≡ k = omega arith in
+    let e : at + 1 + k ≡ at + suc k = omega arith in
+    ap (λ (n : ℕ). tokens_from n (at + 1) line bs) d ∙ tokens_from-skip k (at + 1) line bs (omega arith) ∙ ap (λ (a : ℕ). tokens_from 0 a line (drop k bs)) e
+
+pub tokens_from-gap : (k at line b : ℕ) (bs : List ℕ) → Gap k ≡ front_of (b ∷ bs) → 0 < k → k ≤ length bs + 1 → tokens_from 0 at line (b ∷ bs) ≡ tokens_from 0 (at + k) line (drop k (b ∷ bs))
+unfolding by_front
+tokens_from-gap k at line b bs e p h = tokens_from-front at line b bs ∙ ap (by_front at line bs) (sym e) ∙ skip_front k at line b bs p h
+
+pub tokens_from-piece : (kind : TokenKind) (k at line b : ℕ) (bs : List ℕ) → Piece kind k ≡ front_of (b ∷ bs) → 0 < k → k ≤ length bs + 1 → tokens_from 0 at line (b ∷ bs) ≡ with_token (record { kind = kind; at = at; len = k; line = line }) (tokens_from 0 (at + k) (line_behind kind line) (drop k (b ∷ bs)))
+unfolding by_front
+tokens_from-piece kind k at line b bs e p h =
+    tokens_from-front at line b bs ∙ ap (by_front at line bs) (sym e) ∙ ap (with_token (record { kind = kind; at = at; len = k; line = line })) (skip_front k at (line_behind kind line) b bs p h)
+
+pub tokens_from-broken : (fault : LexFault) (at line b : ℕ) (bs : List ℕ) → Broken fault ≡ front_of (b ∷ bs) → tokens_from 0 at line (b ∷ bs) ≡ record { tokens = []; fault = Some (moved at fault) }
+unfolding by_front
+tokens_from-broken fault at line b bs e = tokens_from-front at line b bs ∙ ap (by_front at line bs) (sym e)
+
+-- tokens that come first
+abbrev pub before : List Token → Lexed → Lexed
+before ts lexed = record { tokens = ts ++ lexed.tokens; fault = lexed.fault }
+
+pub before-with_token : (ts : List Token) (t : Token) (lexed : Lexed) → before ts (with_token t lexed) ≡ before (ts ++ t ∷ []) lexed
+before-with_token ts t lexed =
+    let e : ts ++ (t ∷ lexed.tokens) ≡ (ts ++ t ∷ []) ++ lexed.tokens = sym (append_assoc ts (t ∷ []) lexed.tokens) in
+    let F : List Token → Lexed = λ xs. record { tokens = xs; fault = lexed.fault } in
+    ap F e
+
+pub before-none : (ts : List Token) (fault : Option LexFault) → before ts (record { tokens = []; fault = fault }) ≡ record { tokens = ts; fault = fault }
+before-none ts fault =
+    let F : List Token → Lexed = λ xs. record { tokens = xs; fault = fault } in
+    ap F (append-nil ts)
+
+-- the text behind a place, as its parts are passed on
+abbrev pub behind : List ℕ → ℕ → List ℕ
+behind text at = take (length text - (at + 1)) (drop (at + 1) text)
+
+parted : (text : List ℕ) (at : ℕ) → at < length text → drop at text ≡ get_or text at 0 ∷ behind text at
+parted text at h = drop_more text at 0 h ∙ ap (λ (xs : List ℕ). get_or text at 0 ∷ xs) (sym (take_rest text (at + 1)))
+
+pub length-behind : (text : List ℕ) (at : ℕ) → at < length text → at + (length (behind text at) + 1) ≡ length text
+length-behind text at h =
+    let e : length (behind text at) ≡ length text - (at + 1) = ap length (take_rest text (at + 1)) ∙ length-drop (at + 1) text in
+    omega arith
+
+dropped : (k at : ℕ) (text : List ℕ) → at < length text → drop k (get_or text at 0 ∷ behind text at) ≡ drop (at + k) text
+dropped k at text h = ap (drop k) (sym (parted text at h)) ∙ drop-drop k at text
+
+pub gap_at : (ts : List Token) (k at line : ℕ) (text : List ℕ) → at < length text → Gap k ≡ front_of (get_or text at 0 ∷ behind text at) → 0 < k → k ≤ length (behind text at) + 1 → before ts (tokens_from 0 at line (drop at text)) ≡ before ts (tokens_from 0 (at + k) line (drop (at + k) text))
+gap_at ts k at line text h e p q =
+    let d : tokens_from 0 at line (drop at text) ≡ tokens_from 0 (at + k) line (drop (at + k) text) = ap (tokens_from 0 at line) (parted text at h) ∙ tokens_from-gap k at line (get_or text at 0) (behind text at) e p q ∙ ap (tokens_from 0 (at + k) line) (dropped k at text h) in
+    ap (before ts) d
+
+pub piece_at : (ts : List Token) (kind : TokenKind) (k at line : ℕ) (text : List ℕ) → at < length text → Piece kind k ≡ front_of (get_or text at 0 ∷ behind text at) → 0 < k → k ≤ length (behind text at) + 1 → before ts (tokens_from 0 at line (drop at text)) ≡ before (ts ++ record { kind = kind; at = at; len = k; line = line } ∷ []) (tokens_from 0 (at + k) (line_behind kind line) (drop (at + k) text))
+piece_at ts kind k at line text h e p q =
+    let t : Token = record { kind = kind; at = at; len = k; line = line } in
+    let rest : Lexed = tokens_from 0 (at + k) (line_behind kind line) (drop (at + k) text) in
+    let d : tokens_from 0 at line (drop at text) ≡ with_token t rest = ap (tokens_from 0 at line) (parted text at h) ∙ tokens_from-piece kind k at line (get_or text at 0) (behind text at) e p q ∙ ap (λ (xs : List ℕ). with_token t (tokens_from 0 (at + k) (line_behind kind line) xs)) (dropped k at text h) in
+    ap (before ts) d ∙ before-with_token ts t rest
+
+pub broken_at : (ts : List Token) (fault : LexFault) (at line : ℕ) (text : List ℕ) → at < length text → Broken fault ≡ front_of (get_or text at 0 ∷ behind text at) → before ts (tokens_from 0 at line (drop at text)) ≡ record { tokens = ts; fault = Some (moved at fault) }
+broken_at ts fault at line text h e =
+    ap (before ts) (ap (tokens_from 0 at line) (parted text at h) ∙ tokens_from-broken fault at line (get_or text at 0) (behind text at) e) ∙ before-none ts (Some (moved at fault))
+
+pub all_read : (ts : List Token) (at line : ℕ) (text : List ℕ) → length text ≤ at → before ts (tokens_from 0 at line (drop at text)) ≡ record { tokens = ts; fault = None }
+all_read ts at line text h = ap (λ (xs : List ℕ). before ts (tokens_from 0 at line xs)) (drop_all at text h) ∙ before-none ts None
+
+pub line_behind-le : (kind : TokenKind) (line : ℕ) → line_behind kind line ≤ line + 1
+line_behind-le kind line = grind arith
+
+pub before-same : (ts us : List Token) (at line next : ℕ) (bytes : List ℕ) → us ≡ ts → next ≡ line → before ts (tokens_from 0 at line bytes) ≡ before us (tokens_from 0 at next bytes)
+before-same ts us at line next bytes e f =
+    ap (λ (xs : List Token). before xs (tokens_from 0 at line bytes)) (sym e) ∙ ap (λ (n : ℕ). before us (tokens_from 0 at n bytes)) (sym f)

@@ -1,0 +1,62 @@
+-- Quoted texts: where one ends, and the first fault inside.
+use Rattle.std.specs.Prelude.{ℕ, ◌+◌, Bool, false, ◌==◌, ◌&&◌, not, if◌then◌else◌, List, [], ◌∷◌, Option, None, Some}
+use Rattle.std.specs.Char.{is_ascii_hexdigit}
+use Rattle.st_lex.specs.declared.token.LexFault.{LexFault}
+use Rattle.st_lex.specs.declared.token.LexFault.TheVariants.{BadByte, OpenQuote, BadEscape}
+
+abbrev pub newline : ℕ
+newline = 10
+
+abbrev pub quote_mark : ℕ
+quote_mark = 34
+
+abbrev pub backslash : ℕ
+backslash = 92
+
+-- a count that begins some bytes earlier
+abbrev pub further : ℕ → Option ℕ → Option ℕ
+further k None = None
+further k (Some n) = Some (k + n)
+
+-- how many bytes stand behind the opening quote, up to and with the closing one; none where a newline or the end comes first
+abbrev pub closing : List ℕ → Option ℕ
+closing [] = None
+closing (b ∷ []) = if b == quote_mark then Some 1 else None
+closing (b ∷ c ∷ cs) =
+    if b == quote_mark then Some 1
+    else (if b == newline then None
+    else (if b == backslash then (if c == newline then None else further 2 (closing cs))
+    else further 1 (closing (c ∷ cs))))
+
+-- a fault that is some bytes further on
+abbrev pub moved : ℕ → LexFault → LexFault
+moved k (BadByte at) = BadByte (k + at)
+moved k (OpenQuote at) = OpenQuote (k + at)
+moved k (BadEscape at) = BadEscape (k + at)
+
+abbrev pub place_of : LexFault → ℕ
+place_of (BadByte at) = at
+place_of (OpenQuote at) = at
+place_of (BadEscape at) = at
+
+abbrev pub later : ℕ → Option LexFault → Option LexFault
+later k None = None
+later k (Some fault) = Some (moved k fault)
+
+-- behind `\x` stand two hexadecimal digits, of a byte that isn't zero
+abbrev pub is_byte_escape : List ℕ → Bool
+is_byte_escape [] = false
+is_byte_escape (h ∷ []) = false
+is_byte_escape (h ∷ l ∷ rest) = (is_ascii_hexdigit h && is_ascii_hexdigit l) && not ((h == 48) && (l == 48))
+
+-- the first fault of a closed quoted text, by its distance from the byte behind the opening quote
+abbrev pub inner_fault : List ℕ → Option LexFault
+inner_fault [] = None
+inner_fault (b ∷ []) = if b == 0 then Some (BadByte 0) else None
+inner_fault (b ∷ c ∷ cs) =
+    if b == quote_mark then None
+    else (if b == 0 then Some (BadByte 0)
+    else (if b == backslash then (if c == 0 then Some (BadByte 1)
+    else (if (c == 120) && not (is_byte_escape cs) then Some (BadEscape 0)
+    else later 2 (inner_fault cs)))
+    else later 1 (inner_fault (c ∷ cs))))

@@ -1,0 +1,213 @@
+ghost use Rattle.std.specs.Prelude.{◌≡◌, ◌+◌, ◌<◌, ◌≤◌, ◌∷◌, ◌^◌, ℕ, List, length, IfOk, IfSome};
+ghost use Rattle.std.specs.List.{prefix_len};
+ghost use Rattle.st_lex.specs.Slices.{AreSlices};
+ghost use Rattle.st_lex.specs.Tokens.{is_blank, is_word_byte, is_no_newline, sign_of, quoted_front, front_of, lexed_of, line_behind, LiesWithin};
+ghost use Rattle.st_lex.specs.Quoted.{closing, inner_fault, is_byte_escape, moved, place_of};
+
+use crate::token::{Front, LexFault, Lexed, Token, TokenKind};
+use st_base::Sequence;
+use std::alloc::{AllocError, Global};
+
+fn is_blank(byte: u8) -> bool
+    ensures { result ≡ is_blank byte }
+{
+    matches!(byte, b' ' | b'\t' | b'\r')
+}
+
+fn is_word_byte(byte: u8) -> bool
+    ensures { result ≡ is_word_byte byte }
+{
+    byte.is_ascii_alphanumeric() || matches!(byte, b'_' | b'-' | b'.' | b'/' | b'+' | b'~' | b'%')
+}
+
+fn word_len(bytes: &[u8]) -> usize
+    ensures { result ≡ prefix_len is_word_byte bytes.now }
+{
+    bytes.iter().take_while(|byte| is_word_byte(**byte)).count()
+}
+
+fn comment_len(bytes: &[u8]) -> usize
+    ensures { result ≡ prefix_len is_no_newline bytes.now }
+{
+    bytes.iter().take_while(|byte| **byte != b'\n').count()
+}
+
+// The kind of a token that is one byte.
+fn sign_of(byte: u8) -> Option<TokenKind>
+    ensures { result ≡ sign_of byte }
+{
+    let kind = match byte {
+        b'\n' => TokenKind::Line,
+        b':' => TokenKind::Colon,
+        b',' => TokenKind::Comma,
+        b'(' => TokenKind::Open,
+        b')' => TokenKind::Close,
+        b'[' => TokenKind::OpenBracket,
+        b']' => TokenKind::CloseBracket,
+        b'=' => TokenKind::Equal,
+        b'<' => TokenKind::Less,
+        b'>' => TokenKind::Greater,
+        _ => return None,
+    };
+    Some(kind)
+}
+
+// How many bytes stand behind an opening quote, up to and with the closing one.
+fn closing(bytes: &[u8]) -> Option<usize>
+    ensures is { result ≡ closing bytes.now }
+    ensures within { IfSome result (λ count. count ≤ length bytes.now) }
+{
+    let mut escaped = false;
+    for (index, &byte) in bytes.iter().enumerate() {
+        if byte == b'\n' {
+            return None;
+        }
+        if escaped {
+            escaped = false;
+        } else if byte == b'"' {
+            return Some(index + 1);
+        } else {
+            escaped = byte == b'\\';
+        }
+    }
+    None
+}
+
+// Two hexadecimal digits behind `\x` are a byte, but not the byte zero.
+fn is_byte_escape(bytes: &[u8]) -> bool
+    ensures { result ≡ is_byte_escape bytes.now }
+{
+    match bytes {
+        [high, low, ..] => high.is_ascii_hexdigit()
+            && low.is_ascii_hexdigit()
+            && !(*high == b'0' && *low == b'0'),
+        _ => false,
+    }
+}
+
+// The first fault inside a closed quoted text, counted from behind its opening quote.
+fn inner_fault(bytes: &[u8]) -> Option<LexFault>
+    requires { length bytes.now < 2 ^ 32 }
+    ensures is { result ≡ inner_fault bytes.now }
+    ensures within { IfSome result (λ fault. place_of fault < length bytes.now) }
+{
+    let mut escaped = false;
+    for (index, &byte) in bytes.iter().enumerate() {
+        let at = index as u32;
+        if byte == 0 {
+            return Some(LexFault::BadByte(at));
+        }
+        if escaped {
+            if byte == b'x' && !is_byte_escape(&bytes[index + 1..]) {
+                return Some(LexFault::BadEscape(at - 1));
+            }
+            escaped = false;
+        } else if byte == b'"' {
+            return None;
+        } else {
+            escaped = byte == b'\\';
+        }
+    }
+    None
+}
+
+// The fault, further on by this many bytes.
+fn moved(by: u32, fault: LexFault) -> LexFault
+    requires { by + place_of fault < 2 ^ 32 }
+    ensures { result ≡ moved by fault }
+{
+    match fault {
+        LexFault::BadByte(at) => LexFault::BadByte(by + at),
+        LexFault::OpenQuote(at) => LexFault::OpenQuote(by + at),
+        LexFault::BadEscape(at) => LexFault::BadEscape(by + at),
+    }
+}
+
+// What an opening quote and the bytes behind it are.
+fn quoted_front(after: &[u8]) -> Front
+    requires { length after.now + 1 < 2 ^ 32 }
+    ensures { result ≡ quoted_front (closing after.now) (inner_fault after.now) }
+{
+    match closing(after) {
+        None => Front::Broken(LexFault::OpenQuote(0)),
+        Some(count) => match inner_fault(after) {
+            None => Front::Piece(TokenKind::Quoted, 1 + count),
+            Some(fault) => Front::Broken(moved(1, fault)),
+        },
+    }
+}
+
+fn front(first: u8, after: &[u8]) -> Front
+    requires { length after.now + 1 < 2 ^ 32 }
+    ensures is { result ≡ front_of (first ∷ after.now) }
+    ensures within { LiesWithin (length after.now + 1) result }
+{
+    if is_blank(first) {
+        return Front::Gap(1);
+    }
+    if first == b'#' {
+        return Front::Gap(1 + comment_len(after));
+    }
+    if is_word_byte(first) {
+        return Front::Piece(TokenKind::Word, 1 + word_len(after));
+    }
+    if first == b'"' {
+        return quoted_front(after);
+    }
+    match (first, after) {
+        (b'!', [b'=', ..]) => Front::Piece(TokenKind::NotEqual, 2),
+        _ => match sign_of(first) {
+            Some(kind) => Front::Piece(kind, 1),
+            None => Front::Broken(LexFault::BadByte(0)),
+        },
+    }
+}
+
+fn line_behind(kind: TokenKind, line: u64) -> u64
+    requires { line + 1 < 2 ^ 64 }
+    ensures { result ≡ line_behind kind line }
+{
+    if kind == TokenKind::Line {
+        line + 1
+    } else {
+        line
+    }
+}
+
+/// The tokens of a text, by their places and lines, up to its first fault.
+pub fn tokens(alloc: Global, text: &[u8]) -> Result<Lexed, AllocError>
+    requires { length text.now < 2 ^ 32 }
+    ensures { IfOk result (λ lexed. lexed ≡ lexed_of text.now) }
+{
+    let mut tokens = Sequence::new(alloc);
+    let mut at: usize = 0;
+    let mut line: u64 = 1;
+    while at < text.len() {
+        match front(text[at], &text[at + 1..]) {
+            Front::Gap(len) => at += len,
+            Front::Piece(kind, len) => {
+                tokens.push(Token {
+                    kind,
+                    at: at as u32,
+                    len: len as u32,
+                    line: line as u32,
+                })?;
+                line = line_behind(kind, line);
+                at += len;
+            }
+            Front::Broken(fault) => {
+                let fault = Some(moved(at as u32, fault));
+                return Ok(Lexed { tokens, fault });
+            }
+        }
+    }
+    Ok(Lexed {
+        tokens,
+        fault: None,
+    })
+}
+
+/// The tokens of a text are parts of it: in order, words whole, quoted texts between their quotes, on their lines.
+pub fn tokens_are_slices()
+    ensures { (text : List ℕ) → AreSlices text (lexed_of text).tokens }
+{}

@@ -1,0 +1,111 @@
+ghost use Rattle.std.specs.Prelude.{◌≡◌, option_copied};
+ghost use Rattle.st_lex.specs.Text.{text_of_token, is_word, is_quoted, is_colon, is_comma, is_keyword, plain_quoted};
+
+use st_base::Sequence;
+
+/// What a token is.
+#[derive(Clone, Copy, Debug, PartialEq, Eq)]
+pub enum TokenKind {
+    Word,
+    Quoted,
+    Colon,
+    Comma,
+    Open,
+    Close,
+    OpenBracket,
+    CloseBracket,
+    Equal,
+    NotEqual,
+    Less,
+    Greater,
+    Line,
+}
+
+impl TokenKind {
+    pub fn is_word(self) -> bool
+        ensures { result ≡ is_word self }
+    {
+        matches!(self, TokenKind::Word)
+    }
+
+    pub fn is_quoted(self) -> bool
+        ensures { result ≡ is_quoted self }
+    {
+        matches!(self, TokenKind::Quoted)
+    }
+
+    pub fn is_colon(self) -> bool
+        ensures { result ≡ is_colon self }
+    {
+        matches!(self, TokenKind::Colon)
+    }
+
+    pub fn is_comma(self) -> bool
+        ensures { result ≡ is_comma self }
+    {
+        matches!(self, TokenKind::Comma)
+    }
+}
+
+/// A token: `len` bytes from the byte at `at`, on a line that is counted from 1.
+#[derive(Clone, Copy, Debug, PartialEq, Eq)]
+pub struct Token {
+    pub kind: TokenKind,
+    pub at: u32,
+    pub len: u32,
+    pub line: u32,
+}
+
+impl Token {
+    /// The bytes of the token, in the text that it was read from; of another text, the bytes at that place.
+    pub fn text<'a>(&self, text: &'a [u8]) -> &'a [u8]
+        ensures { result.now ≡ text_of_token text.now self.now }
+    {
+        let rest = &text[text.len().min(self.at as usize)..];
+        &rest[..rest.len().min(self.len as usize)]
+    }
+
+    /// Whether it is this Word.
+    pub fn is_keyword(&self, text: &[u8], word: &[u8]) -> bool
+        ensures { result ≡ is_keyword text.now word.now self.now }
+    {
+        self.kind.is_word() && self.text(text) == word
+    }
+
+    /// What a quoted text without a backslash holds.
+    pub fn plain_quoted<'a>(&self, text: &'a [u8]) -> Option<&'a [u8]>
+        ensures { option_copied result ≡ plain_quoted text.now self.now }
+    {
+        let bytes = self.text(text);
+        if !self.kind.is_quoted() || bytes.contains(&b'\\') {
+            return None;
+        }
+        match bytes {
+            [_, inner @ .., _] => Some(inner),
+            _ => None,
+        }
+    }
+}
+
+/// Why a text has no further tokens, with the place of the fault.
+#[derive(Clone, Copy, Debug, PartialEq, Eq)]
+pub enum LexFault {
+    BadByte(u32),
+    OpenQuote(u32),
+    BadEscape(u32),
+}
+
+/// The tokens of a text up to its first fault, or all of them where it has none.
+#[derive(Debug, Drop)]
+pub struct Lexed {
+    pub tokens: Sequence<Token>,
+    pub fault: Option<LexFault>,
+}
+
+/// What stands at the front of a text: a gap of some bytes, a token of some bytes, or a fault at a distance.
+#[derive(Clone, Copy, Debug, PartialEq, Eq)]
+pub enum Front {
+    Gap(usize),
+    Piece(TokenKind, usize),
+    Broken(LexFault),
+}

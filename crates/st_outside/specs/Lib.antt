@@ -1,0 +1,5 @@
+pub mod Count
+pub mod Files
+pub mod MemoryFiles
+pub mod MemorySink
+pub mod Sink

@@ -1,0 +1,20 @@
+use Rattle.std.specs.Prelude.{ℕ, ◌-◌, min, Bool, ◌||◌, List, length, ◌==◌, if◌then◌else◌}
+use Rattle.st_outside.specs.Count.{is_named, next_count}
+
+-- a sink in memory: the bytes written so far, how many there is room for in all, how many calls
+-- there were, the numbers of the calls that fail and of those that are short, and the count of faults
+pub record SinkInMemory : Type 0 where
+  pub bytes : List ℕ
+  pub room : ℕ
+  pub calls : ℕ
+  pub failing : List ℕ
+  pub short : List ℕ
+  pub faults : ℕ
+
+-- the next call fails: it is one of those named, or no room is left
+abbrev pub will_fail : SinkInMemory → Bool
+will_fail sink = is_named sink.failing (next_count sink.calls) || (length sink.bytes == sink.room)
+
+-- how many bytes the next call takes of so many: one where it is a short call, else what there is room for
+abbrev pub taken_of : SinkInMemory → ℕ → ℕ
+taken_of sink len = if is_named sink.short (next_count sink.calls) then 1 else min len (sink.room - length sink.bytes)

@@ -1,0 +1,40 @@
+ghost use Rattle.std.specs.Prelude.{◌≡◌, ◌≢◌, ℕ, ◌≤◌, List, length, IfOk};
+ghost use Rattle.st_outside.specs.Count.{Rises};
+ghost use Rattle.st_outside.specs.Files.{Held, CanHold, CanLack, CanExceed, CanFit};
+
+use st_base::Text;
+use std::alloc::Global;
+
+/// The greatest length of a file that a fetch gives, in bytes.
+pub const FILE_LIMIT: u64 = 1_048_576;
+
+/// Why a fetch gave no text.
+#[derive(Clone, Copy, Debug, PartialEq, Eq)]
+pub enum FetchFault {
+    /// The outside failed, and counted a fault.
+    Failed,
+    /// There is no file of that name.
+    Missing,
+    /// The file has more than `FILE_LIMIT` bytes.
+    TooLong,
+    /// No memory was left for the text.
+    NoMemory,
+}
+
+/// Files by name. Each name holds something, where that is told, and a count of faults never falls.
+pub trait Files {
+    ghost held: { Self → List ℕ → Held };
+
+    ghost faults: { Self → ℕ };
+
+    /// The whole content of the file of that name.
+    fn fetch(&mut self, alloc: Global, name: &Text) -> Result<Text, FetchFault>
+        ensures held { held self.new ≡ held self.old }
+        ensures content { IfOk result (λ text. CanHold (held self.old name.now) text) }
+        ensures within { IfOk result (λ text. length text ≤ FILE_LIMIT) }
+        ensures missing { result ≡ Err FetchFault.Missing → CanLack (held self.old name.now) }
+        ensures too_long { result ≡ Err FetchFault.TooLong → CanExceed (held self.old name.now) }
+        ensures no_memory { result ≡ Err FetchFault.NoMemory → CanFit (held self.old name.now) }
+        ensures failed { result ≡ Err FetchFault.Failed → Rises (faults self.old) (faults self.new) }
+        ensures quiet { result ≢ Err FetchFault.Failed → faults self.new ≡ faults self.old };
+}

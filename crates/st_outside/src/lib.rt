@@ -1,0 +1,17 @@
+//! Where the kernel meets the outside: files by name and sinks of bytes, over memory and over the host.
+#![tactic(auto)]
+
+mod count;
+pub mod files;
+pub mod memory_files;
+pub mod memory_sink;
+pub mod sink;
+pub mod std_files;
+pub mod std_sink;
+
+pub use files::{FILE_LIMIT, FetchFault, Files};
+pub use memory_files::MemoryFiles;
+pub use memory_sink::MemorySink;
+pub use sink::{Failed, Sink, write_all};
+pub use std_files::StdFiles;
+pub use std_sink::StdSink;

@@ -1,0 +1,177 @@
+ghost use Rattle.std.specs.Prelude.{◌≡◌, ◌≢◌, ℕ, ◌≤◌, ◌↔◌, [], ◌∷◌, ◌++◌, List, length, IfOk, OnOk, OnErr, IsTrue, IsFalse, MatchOption};
+ghost use Rattle.st_outside.specs.Count.{Rises, next_count};
+ghost use Rattle.st_outside.specs.Files.{Held, Absent, Holds, CanHold, CanLack, CanExceed, CanFit};
+ghost use Rattle.st_outside.specs.MemoryFiles.{held_of, fetch_fails};
+
+use crate::count::{contains_call, one_more};
+use crate::files::{FILE_LIMIT, FetchFault, Files};
+use st_base::Text;
+use std::alloc::{AllocError, Global};
+use std::marker::Model;
+
+/// A file in memory, by its name.
+#[derive(Debug, Drop)]
+pub struct HeldFile {
+    pub name: Text,
+    pub content: Text,
+}
+
+/// Files in memory. They tell what each name holds, and the named fetches fail.
+#[derive(Debug, Drop)]
+pub struct MemoryFiles {
+    files: Vec<HeldFile>,
+    fetches: u64,
+    failing: Vec<u32>,
+    faults: u64,
+}
+
+impl Model for MemoryFiles {
+    ghost use Rattle.st_outside.specs.MemoryFiles.{FilesInMemory};
+
+    ghost Value = { FilesInMemory };
+
+    ghost view = { λ m. record { files = m.files.items; fetches = m.fetches; failing = m.failing.items; faults = m.faults } };
+}
+
+impl MemoryFiles {
+    /// No files, and no fetch that fails.
+    pub fn new(alloc: Global) -> Self
+        ensures { result ≡ record { files = []; fetches = 0; failing = []; faults = 0 } }
+    {
+        MemoryFiles {
+            files: Vec::new(alloc),
+            fetches: 0,
+            failing: Vec::new(alloc),
+            faults: 0,
+        }
+    }
+
+    /// Adds a file. A name that is added again holds the later content. Without memory the file is dropped.
+    pub fn add(&mut self, name: Text, content: Text) -> Result<(), AllocError>
+        ensures ok { OnOk result (self.new ≡ record self.old { files = self.old.files ++ record { name = name; content = content } ∷ [] }) }
+        ensures later { OnOk result (held_of self.new.files name ≡ Holds content) }
+        ensures others { OnOk result ((n : List ℕ) → n ≢ name → held_of self.new.files n ≡ held_of self.old.files n) }
+        ensures err { OnErr result (self.new ≡ self.old) }
+    {
+        self.files.push(HeldFile { name, content })?;
+        Ok(())
+    }
+
+    /// Lets the fetch of this number fail, counted from 1.
+    pub fn fail_at(&mut self, call: u32) -> Result<(), AllocError>
+        ensures ok { OnOk result (self.new ≡ record self.old { failing = self.old.failing ++ call ∷ [] }) }
+        ensures err { OnErr result (self.new ≡ self.old) }
+    {
+        self.failing.push(call)?;
+        Ok(())
+    }
+
+    /// How many faults there were; at 2^64 - 1 the count stays.
+    pub fn faults(&self) -> u64
+        ensures { result ≡ self.now.faults }
+    {
+        self.faults
+    }
+}
+
+// The content that a name holds: of its files the one that was added last.
+fn content_of<'a>(files: &'a [HeldFile], name: &Text) -> Option<&'a Text>
+    ensures { MatchOption result (held_of files.now name.now ≡ Absent) (λ content. held_of files.now name.now ≡ Holds content.now) }
+{
+    let mut found = None;
+    for file in files {
+        if file.name.bytes() == name.bytes() {
+            found = Some(&file.content);
+        }
+    }
+    found
+}
+
+impl Files for MemoryFiles {
+    ghost held = { λ m. held_of m.files };
+
+    ghost faults = { λ m. m.faults };
+
+    fn fetch(&mut self, alloc: Global, name: &Text) -> Result<Text, FetchFault>
+        ensures held { held_of self.new.files ≡ held_of self.old.files }
+        ensures content { IfOk result (λ text. CanHold (held_of self.old.files name.now) text) }
+        ensures within { IfOk result (λ text. length text ≤ FILE_LIMIT) }
+        ensures missing { result ≡ Err FetchFault.Missing → CanLack (held_of self.old.files name.now) }
+        ensures too_long { result ≡ Err FetchFault.TooLong → CanExceed (held_of self.old.files name.now) }
+        ensures no_memory { result ≡ Err FetchFault.NoMemory → CanFit (held_of self.old.files name.now) }
+        ensures failed { result ≡ Err FetchFault.Failed → Rises self.old.faults self.new.faults }
+        ensures quiet { result ≢ Err FetchFault.Failed → self.new.faults ≡ self.old.faults }
+
+        // Exactly when each fault comes, what it gives, and what it leaves.
+        ensures fails { (result ≡ Err FetchFault.Failed) ↔ IsTrue (fetch_fails self.old) }
+        ensures lacks { (result ≡ Err FetchFault.Missing) ↔ (IsFalse (fetch_fails self.old) × (held_of self.old.files name.now ≡ Absent)) }
+        ensures exceeds { (result ≡ Err FetchFault.TooLong) ↔ (IsFalse (fetch_fails self.old) × CanExceed (held_of self.old.files name.now)) }
+        ensures gives { IfOk result (λ text. held_of self.old.files name.now ≡ Holds text) }
+        ensures after { result ≢ Err FetchFault.Failed → self.new ≡ record self.old { fetches = next_count self.old.fetches } }
+        ensures after_failure { result ≡ Err FetchFault.Failed → self.new ≡ record self.old { fetches = next_count self.old.fetches; faults = next_count self.old.faults } }
+    {
+        self.fetches = one_more(self.fetches);
+        if contains_call(&self.failing, self.fetches) {
+            self.faults = one_more(self.faults);
+            return Err(FetchFault::Failed);
+        }
+        let content = content_of(&self.files, name).ok_or(FetchFault::Missing)?;
+        if content.bytes().len() as u64 > FILE_LIMIT {
+            return Err(FetchFault::TooLong);
+        }
+        content.copy(alloc).map_err(|_| FetchFault::NoMemory)
+    }
+}
+
+#[cfg(test)]
+mod tests {
+    use super::*;
+    use std::test::Fail;
+
+    const CONTENT: &[u8] = b"content";
+
+    fn text(alloc: Global, bytes: &[u8]) -> Result<Text, Fail> {
+        Ok(Text::of(alloc, bytes)?)
+    }
+
+    fn repeated(alloc: Global, len: usize) -> Result<Vec<u8>, Fail> {
+        Ok(vec![in alloc; b'x'; len]?)
+    }
+
+    #[test]
+    fn fetches(rt: HostRuntime) -> Result<(), Fail> {
+        let mut files = MemoryFiles::new(rt.alloc());
+        let limit = repeated(rt.alloc(), 1_048_576)?;
+        let more = repeated(rt.alloc(), 1_048_577)?;
+        for (name, content) in [
+            (b"name".as_slice(), b"earlier".as_slice()),
+            (b"limit", &limit),
+            (b"more", &more),
+            (b"name", CONTENT),
+        ] {
+            files.add(text(rt.alloc(), name)?, text(rt.alloc(), content)?)?;
+        }
+        files.fail_at(2)?;
+        files.fail_at(6)?;
+        // The calls in order: what is fetched, what comes, and the count of faults after it.
+        for (name, want, faults) in [
+            (b"name".as_slice(), Ok(7), 0),
+            (b"name", Err(FetchFault::Failed), 1),
+            (b"names", Err(FetchFault::Missing), 1),
+            (b"limit", Ok(1_048_576), 1),
+            (b"more", Err(FetchFault::TooLong), 1),
+            (b"more", Err(FetchFault::Failed), 2),
+        ] {
+            let name = text(rt.alloc(), name)?;
+            let got = files
+                .fetch(rt.alloc(), &name)
+                .map(|text| text.bytes().len());
+            assert_eq!(rt; got, want);
+            assert_eq!(rt; files.faults(), faults);
+        }
+        let name = text(rt.alloc(), b"name")?;
+        let got = files.fetch(rt.alloc(), &name)?;
+        assert_eq!(rt; got.bytes(), CONTENT);
+        Ok(())
+    }
+}

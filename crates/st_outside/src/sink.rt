@@ -1,0 +1,38 @@
+ghost use Rattle.std.specs.Prelude.{◌≡◌, ℕ, ◌<◌, ◌≤◌, List, length, take, Option, IfOk, OnOk, OnErr};
+ghost use Rattle.st_outside.specs.Count.{Rises};
+ghost use Rattle.st_outside.specs.Sink.{Appends, AppendsFront};
+
+/// A sink took nothing, and counted a fault.
+#[derive(Clone, Copy, Debug, PartialEq, Eq)]
+pub struct Failed;
+
+/// Takes bytes in order. It tells the bytes written so far or does not, and a count of faults never falls.
+pub trait Sink {
+    ghost written: { Self → Option (List ℕ) };
+
+    ghost faults: { Self → ℕ };
+
+    /// Takes a front of the piece, at least a byte of it, and says how many bytes it took.
+    fn write_piece(&mut self, piece: &[u8]) -> Result<usize, Failed>
+        requires { 0 < length piece.now }
+        ensures some { IfOk result (λ n. 0 < n) }
+        ensures within { IfOk result (λ n. n ≤ length piece.now) }
+        ensures taken { IfOk result (λ n. Appends (written self.old) (written self.new) (take n piece.now)) }
+        ensures quiet { OnOk result (faults self.new ≡ faults self.old) }
+        ensures failed { OnErr result (Rises (faults self.old) (faults self.new)) }
+        ensures unwritten { OnErr result (written self.new ≡ written self.old) };
+}
+
+/// Writes the whole text, piece by piece. After a failure a front of it was written.
+pub fn write_all<S: Sink>(out: &mut S, text: &[u8]) -> Result<(), Failed>
+    ensures ok { OnOk result (Appends (S.written out.old) (S.written out.new) text.now) }
+    ensures quiet { OnOk result (S.faults out.new ≡ S.faults out.old) }
+    ensures failed { OnErr result (Rises (S.faults out.old) (S.faults out.new)) }
+    ensures front { OnErr result (AppendsFront (S.written out.old) (S.written out.new) text.now) }
+{
+    let mut done = 0;
+    while done < text.len() {
+        done += out.write_piece(&text[done..])?;
+    }
+    Ok(())
+}

@@ -1,0 +1,66 @@
+ghost use Rattle.std.specs.Prelude.{◌≡◌, None};
+
+use crate::count::one_more;
+use crate::sink::{Failed, Sink};
+use std::marker::Model;
+
+/// Standard output. It tells nothing of what was written.
+#[derive(Drop)]
+pub struct StdSink<'a, R: Print> {
+    rt: &'a R,
+    faults: u64,
+}
+
+impl<'a, R: Print> Model for StdSink<'a, R> {
+    ghost use Rattle.std.specs.Prelude.{ℕ};
+
+    ghost Value = { ℕ };
+
+    ghost view = { λ s. s.faults };
+}
+
+impl<'a, R: Print> StdSink<'a, R> {
+    /// The standard output of this runtime.
+    pub fn new(rt: &'a R) -> Self
+        ensures { result ≡ 0 }
+    {
+        StdSink { rt, faults: 0 }
+    }
+
+    /// How many faults there were; at 2^64 - 1 the count stays.
+    pub fn faults(&self) -> u64
+        ensures { result ≡ self.now }
+    {
+        self.faults
+    }
+}
+
+impl<'a, R: Print> Sink for StdSink<'a, R> {
+    ghost written = { λ _. None };
+
+    ghost faults = { λ s. s };
+
+    // The bytes go to the host at once, so that none of them waits in a buffer.
+    fn write_piece(&mut self, piece: &[u8]) -> Result<usize, Failed> {
+        match self.rt.write_some(piece) {
+            Ok(taken) if taken > 0 => Ok(taken),
+            _ => {
+                self.faults = one_more(self.faults);
+                Err(Failed)
+            }
+        }
+    }
+}
+
+#[cfg(test)]
+mod tests {
+    use super::*;
+    use crate::sink::write_all;
+
+    #[test]
+    fn writes_to_standard_output(rt: HostRuntime) {
+        let mut sink = StdSink::new(&rt);
+        assert_eq!(rt; write_all(&mut sink, b"standard output\n"), Ok(()));
+        assert_eq!(rt; sink.faults(), 0);
+    }
+}

@@ -1,0 +1,26 @@
+ghost use Rattle.std.specs.Prelude.{◌≡◌};
+ghost use Rattle.std.specs.List.{list_all};
+ghost use Rattle.st_script.specs.Path.{parts, is_component, is_absolute};
+
+fn is_component(part: &[u8]) -> bool
+    ensures { result ≡ is_component part.now }
+{
+    !part.is_empty() && part.len() <= 255 && part != b".".as_slice() && part != b"..".as_slice()
+}
+
+// Whether what stands between the slashes are components.
+fn has_components(names: &[u8]) -> bool
+    ensures { result ≡ list_all is_component (parts names.now) }
+{
+    names
+        .split(|byte| *byte == b'/')
+        .all(|part| is_component(part))
+}
+
+/// Whether a name is absolute and in normal form: `/`, or components behind slashes, none of them empty, `.` or
+/// `..` or longer than 255 bytes; at most 1,024 bytes together, as path_resolution limits names.
+pub fn is_absolute(name: &[u8]) -> bool
+    ensures { result ≡ is_absolute name.now }
+{
+    name.len() <= 1024 && name.starts_with(b"/") && (name.len() == 1 || has_components(&name[1..]))
+}

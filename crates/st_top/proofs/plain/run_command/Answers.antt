@@ -1,0 +1,19 @@
+use Rattle.std.proofs.Common.{◌≡◌, ap, sym, ◌∙◌, subst, Some}
+use Rattle.st_outside.specs.Files.{CanHold}
+use Rattle.st_script.specs.Script.{script_in}
+use Rattle.st_top.specs.Command.{Command}
+use Rattle.st_top.specs.Meaning.{MeansStart, MeansCommand}
+use Rattle.st_top.proofs.Endings.{prepares_by, leads_from_command}
+use Rattle.st_top.proofs.plain.run_command.Goals as goal
+
+pub returns-in-Ok-clause-prepares : goal.returns-in-Ok-clause-prepares
+returns-in-Ok-clause-prepares g c =
+    prepares_by (MeansStart c.args.command.now (g.F.Files.held c.fetch.new.files) (Some c.in-Ok.start)) (MeansCommand (g.F.Files.held c.args.files.now) (Some c.args.command.now))
+    (g.F.Files.faults c.fetch.new.files) (g.F.Files.faults c.args.files.now) (g.F.Files.faults c.run_start.new.files) c.run_start.result
+    (c.in_ok-text.ensures.quiet (λ e. cc))
+    (λ o m. leads_from_command c.args.command.now (g.F.Files.held c.args.files.now) c.in-Ok.start c.in_ok-text.text
+    (subst (λ name. CanHold (g.F.Files.held c.args.files.now name) c.in_ok-text.text) (ap (λ (command : Command). command.script) c.command.view_is) c.in_ok-text.ensures.content)
+    c.in_ok-text.ensures.within
+    (ap script_in (sym c.bytes.ensures) ∙ c.in-Ok.ensures.ok)
+    o (subst (λ held. MeansStart c.args.command.now held (Some c.in-Ok.start) o) c.fetch.ensures.held m))
+    c.run_start.ensures.prepares

@@ -1,0 +1,20 @@
+use Rattle.std.proofs.Common.{◌≡◌, ap, sym, ◌∙◌, subst, Some}
+use Rattle.st_outside.specs.Files.{CanHold}
+use Rattle.st_policy.specs.Form.{policies_in}
+use Rattle.st_top.specs.Command.{Command}
+use Rattle.st_top.specs.Meaning.{MeansInput, MeansStart, input_of}
+use Rattle.st_top.proofs.Endings.{prepares_by, leads_from_start}
+use Rattle.st_top.proofs.plain.run_start.Goals as goal
+
+pub returns-clause-prepares : goal.returns-clause-prepares
+returns-clause-prepares g c =
+    prepares_by (MeansInput c.args.command.now (g.F.Files.held c.fetch.new.files) (input_of c.in-Ok.policies c.args.start)) (MeansStart c.args.command.now (g.F.Files.held c.args.files.now) (Some c.args.start))
+    (g.F.Files.faults c.fetch.new.files) (g.F.Files.faults c.args.files.now) (g.F.Files.faults c.run_input.new.files) c.run_input.result
+    (c.in_ok-text.ensures.quiet (λ e. cc))
+    (λ o m. leads_from_start c.args.command.now (g.F.Files.held c.args.files.now) c.args.start c.in-Ok.policies c.in_ok-text.text
+    (subst (λ name. CanHold (g.F.Files.held c.args.files.now name) c.in_ok-text.text) (ap (λ (command : Command). command.policy) c.command.view_is) c.in_ok-text.ensures.content)
+    c.in_ok-text.ensures.within
+    (ap policies_in (sym c.bytes.ensures) ∙ c.in-Ok.ensures.ok)
+    (sym c.suits.ensures ∙ c.if-not-suits.false)
+    o (subst (λ held. MeansInput c.args.command.now held (input_of c.in-Ok.policies c.args.start) o) c.fetch.ensures.held m))
+    c.run_input.ensures.prepares

@@ -1,0 +1,5 @@
+pub mod Command
+pub mod Cover
+pub mod Meaning
+pub mod Ends
+pub mod Number

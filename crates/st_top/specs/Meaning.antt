@@ -1,0 +1,75 @@
+-- What words and files mean: a refusal, or a run and the text that is written of it. Each case stands where those before it don't.
+use Rattle.std.specs.Prelude.{◌≡◌, ℕ, ◌≤◌, ◌⊎◌, Bool, true, false, List, length, Option, Some, None}
+use Rattle.st_outside.specs.Files.{Held, CanHold, CanLack, CanExceed}
+use Rattle.st_outside.specs.declared.files.TheConstants.{FILE_LIMIT}
+use Rattle.st_trace.specs.declared.entry.Choice.{Choice}
+use Rattle.st_trace.specs.declared.start.Start.{Start}
+use Rattle.st_policy.specs.declared.set.BinaryPolicy.{BinaryPolicy}
+use Rattle.st_policy.specs.Form.{policies_in}
+use Rattle.st_script.specs.Script.{script_in}
+use Rattle.st_script.specs.Schedule.{schedule_in}
+use Rattle.st_law.specs.declared.input.Input.{Input}
+use Rattle.st_law.specs.declared.input.Options.{Options}
+use Rattle.st_law.specs.declared.input.Mode.TheVariants.{Enforce}
+use Rattle.st_law.specs.declared.input.Schedule.{Schedule}
+use Rattle.st_law.specs.Machine.{run, played}
+use Rattle.st_audit.specs.Audit.{audit}
+use Rattle.st_top.specs.declared.status.Status.{Status}
+use Rattle.st_top.specs.declared.status.Status.TheVariants.{Missing, Usage, TooLong, NotBuilt}
+use Rattle.st_top.specs.declared.status.Which.{Which}
+use Rattle.st_top.specs.declared.status.Which.TheVariants as which
+use Rattle.st_top.specs.Command.{Command, command_in}
+use Rattle.st_top.specs.Cover.{suits}
+
+-- what a call of the program comes to: it refuses, or it writes a text, that of a run by these choices
+pub data Outcome : Type 0 where
+  Refuses : Status → Outcome
+  Writes : Input → List Choice → List ℕ → Outcome
+
+-- a name that holds no file is missing, and one whose file is too long is refused; else the file is read
+abbrev pub Fetches : Held → Which → (List ℕ → Type 0) → Outcome → Type 0
+Fetches held which Read outcome =
+    (CanLack held × (outcome ≡ Refuses (Missing which))) ⊎
+    ((CanExceed held × (outcome ≡ Refuses (TooLong which))) ⊎
+    ((text : List ℕ) × CanHold held text × (length text ≤ FILE_LIMIT) × Read text))
+
+-- without options
+abbrev pub plain_options : Options
+plain_options = record { mode = Enforce }
+
+abbrev pub input_of : List BinaryPolicy → Start → Input
+input_of policies start = record { policies = policies; start = start; options = plain_options }
+
+-- what is written: the audit of the run by these choices
+abbrev pub writes : Input → List Choice → Outcome
+writes i choices = Writes i choices (audit i (run i choices))
+
+abbrev pub MeansSchedule : Input → Option Schedule → Outcome → Type 0
+MeansSchedule i None outcome = outcome ≡ Refuses (NotBuilt which.Schedule)
+MeansSchedule i (Some schedule) outcome = outcome ≡ writes i (played i schedule)
+
+abbrev pub MeansInput : Command → (List ℕ → Held) → Input → Outcome → Type 0
+MeansInput command held i outcome =
+    Fetches (held command.schedule) which.Schedule (λ text. MeansSchedule i (schedule_in text) outcome) outcome
+
+abbrev pub MeansSuited : Command → (List ℕ → Held) → Start → List BinaryPolicy → Bool → Outcome → Type 0
+MeansSuited command held start policies true outcome = MeansInput command held (input_of policies start) outcome
+MeansSuited command held start policies false outcome = outcome ≡ Refuses (NotBuilt (which.Policy 1))
+
+abbrev pub MeansPolicies : Command → (List ℕ → Held) → Start → Option (List BinaryPolicy) → Outcome → Type 0
+MeansPolicies command held start None outcome = outcome ≡ Refuses (NotBuilt (which.Policy 1))
+MeansPolicies command held start (Some policies) outcome = MeansSuited command held start policies (suits policies start) outcome
+
+abbrev pub MeansStart : Command → (List ℕ → Held) → Option Start → Outcome → Type 0
+MeansStart command held None outcome = outcome ≡ Refuses (NotBuilt which.Script)
+MeansStart command held (Some start) outcome =
+    Fetches (held command.policy) (which.Policy 1) (λ text. MeansPolicies command held start (policies_in text) outcome) outcome
+
+abbrev pub MeansCommand : (List ℕ → Held) → Option Command → Outcome → Type 0
+MeansCommand held None outcome = outcome ≡ Refuses Usage
+MeansCommand held (Some command) outcome =
+    Fetches (held command.script) which.Script (λ text. MeansStart command held (script_in text) outcome) outcome
+
+-- what words mean over files of which this much is told
+abbrev pub Means : List (List ℕ) → (List ℕ → Held) → Outcome → Type 0
+Means words held outcome = MeansCommand held (command_in words) outcome
