@@ -11,3 +11,6 @@ pub use errno::Errno;
 pub use ids::{Ids, Pid, Seq, Tid, Worker};
 pub use sequence::Sequence;
 pub use text::Text;
+
+#[cfg(test)]
+mod tests;

@@ -8,3 +8,6 @@ pub mod rule;
 pub use argument::{ArgText, Label};
 pub use call::SysCall;
 pub use rule::{FastAnswer, RULES, Rule};
+
+#[cfg(test)]
+mod tests;

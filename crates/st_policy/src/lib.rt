@@ -10,3 +10,6 @@ pub use filter::{
 };
 pub use reader::{FILTER_LIMIT, PolicyFault, read_policies};
 pub use set::{BinaryPolicy, PolicySet};
+
+#[cfg(test)]
+mod tests;

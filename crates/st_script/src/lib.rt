@@ -7,3 +7,6 @@ pub mod script;
 
 pub use schedule::read_schedule;
 pub use script::{INSTRUCTION_LIMIT, ScriptFault, read_script};
+
+#[cfg(test)]
+mod tests;

@@ -1,0 +1,87 @@
+use crate::path::is_absolute;
+use crate::{ScriptFault, read_schedule, read_script};
+use st_calls::SysCall;
+use st_law::Schedule;
+use st_trace::{Instr, Start};
+use std::test::Fail;
+
+fn script(rt: &HostRuntime, text: &[u8]) -> Result<Start, ScriptFault> {
+    if text.len() < 1000 {
+        read_script(rt.alloc(), text)
+    } else {
+        Err(ScriptFault::NoMemory)
+    }
+}
+
+#[test]
+fn one_process_and_one_thread_of_it(rt: HostRuntime) -> Result<(), Fail> {
+    let start = script(
+        &rt,
+        b"process p traced \"/bin/a\" 7 0x10 \"/\"\n\nthread a in p\ncall getpid\n call exit 0 5\nend\n",
+    )?;
+    let processes = start.processes.as_slice();
+    assert_eq!(rt; processes.len(), 1);
+    assert_eq!(rt; processes[0].binary.bytes(), b"/bin/a".as_slice());
+    assert_eq!(rt;
+        (processes[0].traced, processes[0].uid, processes[0].gid),
+        (true, 7, 16)
+    );
+    let threads = start.threads.as_slice();
+    assert_eq!(rt; threads.len(), 1);
+    assert_eq!(rt; threads[0].process, Some(1));
+    let body = [
+        Instr::Call(SysCall::GetPid, [0; 6]),
+        Instr::Call(SysCall::Exit, [0, 5, 0, 0, 0, 0]),
+    ];
+    assert_eq!(rt; threads[0].body.as_slice(), body.as_slice());
+    Ok(())
+}
+
+#[test]
+fn what_is_not_in_the_form_is_not_built(rt: HostRuntime) {
+    let texts = [
+        b"".as_slice(),
+        b"process p traced \"/bin/a\" 0 0 \"/\"\nthread a in p",
+        b"process p traced \"/bin/a\" 0 0 \"/\"\nthread a in q\nend",
+        b"process p traced \"/bin/a\" 0 0 \"/\"\nthread a in p\nend\nend",
+        b"process p untraced \"/bin/a\" 0 0 \"/\"\nthread a in p\nend",
+        b"process p traced \"bin/a\" 0 0 \"/\"\nthread a in p\nend",
+        b"process p traced \"/bin\\a\" 0 0 \"/\"\nthread a in p\nend",
+        b"process p traced \"/bin/a\" 4294967296 0 \"/\"\nthread a in p\nend",
+        b"process p traced \"/bin/a\" 0 0 \"/tmp\"\nthread a in p\nend",
+        b"process p traced \"/bin/a\" 0 0 \"/\"\nthread a in p\ncall open 0 0\nend",
+        b"process p traced \"/bin/a\" 0 0 \"/\"\nthread a in p\ncall exit 1 2 3 4 5 6 7\nend",
+        b"process p traced \"/bin/a\" 0 0 \"/\" # root\nthread a in p\nend",
+    ];
+    for text in texts {
+        assert!(rt; matches!(script(&rt, text), Err(ScriptFault::NotBuilt)));
+    }
+}
+
+#[test]
+fn names_are_absolute_and_normal(rt: HostRuntime) {
+    for name in [b"/".as_slice(), b"/bin/a", b"/...", b"/a b"] {
+        assert!(rt; is_absolute(name));
+    }
+    for name in [b"".as_slice(), b"a", b"//", b"/a/", b"/./a", b"/a/.."] {
+        assert!(rt; !is_absolute(name));
+    }
+}
+
+#[test]
+fn the_one_row_rest(rt: HostRuntime) -> Result<(), Fail> {
+    let cases = [
+        (b"\n rest \n".as_slice(), Some(Schedule::Rest)),
+        (b"rest", Some(Schedule::Rest)),
+        (b"rest\nrest", None),
+        (b"rest 1", None),
+        (b"thread 1", None),
+        (b"", None),
+    ];
+    for (text, schedule) in cases {
+        if text.len() < 1000 {
+            assert_eq!(rt; read_schedule(rt.alloc(), text)?, schedule);
+        }
+    }
+    Ok(())
+}
