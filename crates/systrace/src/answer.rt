@@ -1,0 +1,61 @@
+ghost use Rattle.std.specs.Prelude.{◌≡◌, None, IsSome};
+ghost use Rattle.st_top.specs.Command.{command_in};
+
+use st_base::Text;
+
+const HELP: &str =
+    "systrace runs the system calls of a script under a policy, and prints what became of each.
+
+usage: systrace step -f POLICY SCRIPT SCHEDULE
+       systrace --help
+       systrace --version
+
+POLICY    the policy of the script's binary: which of its system calls are permitted, and which are denied
+SCRIPT    the process that runs, its thread, and the system calls that the thread makes
+SCHEDULE  the order in which the threads run: the one line 'rest' runs them to their end
+";
+
+const VERSION: &str = "systrace 0.1.0\n";
+
+/// What `--help` and `--version` print, each as the only word.
+pub fn answer_of(words: &[Text]) -> Option<&'static str>
+    ensures no_command { IsSome result → command_in words.now ≡ None }
+{
+    let [word] = words else {
+        return None;
+    };
+    if word.bytes() == b"--help".as_slice() {
+        Some(HELP)
+    } else if word.bytes() == b"--version".as_slice() {
+        Some(VERSION)
+    } else {
+        None
+    }
+}
+
+#[cfg(test)]
+mod tests {
+    use super::*;
+    use std::alloc::{AllocError, Global};
+    use std::test::Fail;
+
+    fn words_of(alloc: Global, line: &[&[u8]]) -> Result<Vec<Text>, AllocError> {
+        let mut words = Vec::new(alloc);
+        for word in line {
+            words.push(Text::of(alloc, word)?)?;
+        }
+        Ok(words)
+    }
+
+    #[test]
+    fn answers_one_word_alone(rt: HostRuntime) -> Result<(), Fail> {
+        let version = words_of(rt.alloc(), &[b"--version"])?;
+        assert_eq!(rt; answer_of(version.as_slice()), Some("systrace 0.1.0\n"));
+        let help = words_of(rt.alloc(), &[b"--help"])?;
+        assert!(rt; answer_of(help.as_slice()).is_some());
+        let both = words_of(rt.alloc(), &[b"--help", b"--version"])?;
+        assert_eq!(rt; answer_of(both.as_slice()), None);
+        assert_eq!(rt; answer_of(&[]), None);
+        Ok(())
+    }
+}
