@@ -8,7 +8,7 @@ use st_calls::SysCall;
 use st_trace::{CallResult, Cause, Change, Entry};
 use std::alloc::{AllocError, Global};
 
-// What a thread does next: its entry, before any memory is taken for it.
+/// What a thread does next: its entry, before any memory is taken for it.
 #[derive(Clone, Copy)]
 pub enum Step {
     Enter(Pending),
@@ -46,7 +46,7 @@ fn changes_of(
 }
 
 impl Step {
-    // The entry of the step, by a thread of a process with these ids.
+    /// The entry of the step, by a thread of a process with these ids.
     pub fn entry(self, alloc: Global, tid: Tid, pid: Pid, ids: Ids) -> Result<Entry, AllocError>
         ensures { IfOk result (λ entry. entry ≡ entry_by tid pid ids self) }
     {

@@ -9,7 +9,7 @@ use st_policy::{Policy, fast};
 use std::alloc::{AllocError, Global};
 use std::marker::Model;
 
-// The kernel's own answers under one policy, by the places of the rules, so that no step searches the policy.
+/// The kernel's own answers under one policy, by the places of the rules, so that no step searches the policy.
 #[derive(Debug, Drop)]
 pub struct Table {
     answers: Vec<FastAnswer>,
@@ -29,7 +29,7 @@ impl Model for Table {
 }
 
 impl Table {
-    // The answers under a policy.
+    /// The answers under a policy.
     pub fn of(alloc: Global, policy: &Policy) -> Result<Self, AllocError>
         ensures { IfOk result (λ table. table ≡ fast_answers policy.now) }
     {
@@ -40,7 +40,7 @@ impl Table {
         Ok(Table { answers })
     }
 
-    // The answer for a rule.
+    /// The answer for a rule.
     pub fn answer(&self, rule: Rule) -> FastAnswer
         ensures { (filters : List FilterValue) → self.now ≡ fast_answers filters → result ≡ fast (filters_of rule filters) }
     {

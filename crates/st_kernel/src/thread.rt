@@ -7,7 +7,7 @@ use st_calls::SysCall;
 use st_trace::{Change, Entry, Instr, Way};
 use std::marker::Model;
 
-// A call that the thread has entered, and that is neither made nor denied yet.
+/// A call that the thread has entered, and that is neither made nor denied yet.
 #[derive(Clone, Copy, Debug)]
 pub struct Pending {
     pub call: SysCall,
@@ -25,7 +25,7 @@ impl Model for Pending {
     ghost inverse = { λ p. record { call = p.call; regs = p.regs; way = p.way } };
 }
 
-// Where a thread is.
+/// Where a thread is.
 #[derive(Debug, Drop)]
 pub struct Thread<'a> {
     pub owner: Pid,
@@ -67,7 +67,7 @@ fn ends_process(changes: &[Change], pid: Pid) -> bool
 }
 
 impl<'a> Thread<'a> {
-    // A thread before its first step.
+    /// A thread before its first step.
     pub fn new(owner: Pid, body: &'a [Instr]) -> Self
         ensures { result ≡ record { owner = owner; left = body.now; pending = None; dying = false; ended = false } }
     {
@@ -80,7 +80,7 @@ impl<'a> Thread<'a> {
         }
     }
 
-    // What an entry makes of the thread, whose number is given.
+    /// What an entry makes of the thread, whose number is given.
     pub fn follow(&mut self, tid: Tid, entry: &Entry)
         ensures { self.new ≡ thread_after entry.now tid self.old }
     {

@@ -22,24 +22,28 @@ pub enum TokenKind {
 }
 
 impl TokenKind {
+    /// Whether it is a Word.
     pub fn is_word(self) -> bool
         ensures { result ≡ is_word self }
     {
         matches!(self, TokenKind::Word)
     }
 
+    /// Whether it is a quoted text.
     pub fn is_quoted(self) -> bool
         ensures { result ≡ is_quoted self }
     {
         matches!(self, TokenKind::Quoted)
     }
 
+    /// Whether it is `:`.
     pub fn is_colon(self) -> bool
         ensures { result ≡ is_colon self }
     {
         matches!(self, TokenKind::Colon)
     }
 
+    /// Whether it is `,`.
     pub fn is_comma(self) -> bool
         ensures { result ≡ is_comma self }
     {

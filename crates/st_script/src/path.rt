@@ -17,8 +17,8 @@ fn has_components(names: &[u8]) -> bool
         .all(|part| is_component(part))
 }
 
-/// Whether a name is absolute and in normal form: `/`, or components behind slashes, none of them empty, `.` or
-/// `..` or longer than 255 bytes; at most 1,024 bytes together, as path_resolution limits names.
+/// Whether a name is absolute and in normal form: `/`, or components behind slashes, none of them empty, `.`, `..` or
+/// longer than 255 bytes; at most 1,024 bytes together.
 pub fn is_absolute(name: &[u8]) -> bool
     ensures { result ≡ is_absolute name.now }
 {
