@@ -1,3 +1,4 @@
 pub mod Audit
 pub mod Entered
 pub mod Extends
+pub mod How

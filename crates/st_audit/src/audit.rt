@@ -4,17 +4,16 @@ ghost use Rattle.st_audit.specs.Audit.{audit, line_of};
 ghost use Rattle.st_audit.specs.Entered.{entered_after, entered_in, Knows};
 ghost use Rattle.st_audit.specs.Extends.{GrowsWithTheRun};
 
-use crate::line::{append_traced_line, cause_text, result_text};
+use crate::line::{How, append_traced_line};
 use st_base::{Text, Tid};
 use st_calls::SysCall;
 use st_law::Input;
-use st_trace::Entry;
+use st_trace::{CallResult, Entry};
 use std::alloc::{AllocError, Global};
 use std::collections::BTreeMap;
 
 // Appends what an entry prints behind a history whose entered calls are known.
 fn append_entry(
-    alloc: Global,
     text: &mut Text,
     input: &Input,
     entered: &BTreeMap<Tid, SysCall>,
@@ -28,10 +27,7 @@ fn append_entry(
             call,
             result: outcome,
             ..
-        } => {
-            let answer = result_text(alloc, *outcome)?;
-            append_traced_line(alloc, text, input, *tid, *call, b"fast", answer.bytes())
-        }
+        } => append_traced_line(text, input, *tid, *call, How::Fast, *outcome),
         Entry::Denied {
             tid,
             errno,
@@ -39,8 +35,8 @@ fn append_entry(
             ..
         } => match entered.get(tid) {
             Some(call) => {
-                let how = cause_text(alloc, *cause)?;
-                append_traced_line(alloc, text, input, *tid, *call, how.bytes(), errno.name())
+                let outcome = CallResult::Failed(*errno);
+                append_traced_line(text, input, *tid, *call, How::Denied(*cause), outcome)
             }
             None => Ok(()),
         },
@@ -71,7 +67,7 @@ pub fn audit_text(alloc: Global, trace: &[Entry], input: &Input) -> Result<Text,
     let mut text = Text::new(alloc);
     let mut entered = BTreeMap::new(alloc);
     for entry in trace {
-        append_entry(alloc, &mut text, input, &entered, entry)?;
+        append_entry(&mut text, input, &entered, entry)?;
         note_entry(&mut entered, entry)?;
     }
     Ok(text)

@@ -1,12 +1,21 @@
-ghost use Rattle.std.specs.Prelude.{◌≡◌, ◌++◌, option_copied, IfOk, OnOk};
+ghost use Rattle.std.specs.Prelude.{◌≡◌, ◌++◌, option_copied, OnOk};
 ghost use Rattle.st_law.specs.History.{row_of, process, owner};
 ghost use Rattle.st_audit.specs.Audit.{result_text, cause_text, line_text, traced_line};
+ghost use Rattle.st_audit.specs.How.{how_text};
 
 use st_base::{Pid, Text, Tid};
 use st_calls::SysCall;
 use st_law::Input;
+use st_lex::quote;
 use st_trace::{CallResult, Cause};
-use std::alloc::{AllocError, Global};
+use std::alloc::AllocError;
+
+/// How a call went.
+#[derive(Clone, Copy, Debug, PartialEq, Eq)]
+pub enum How {
+    Fast,
+    Denied(Cause),
+}
 
 // What a line says of a call: by which thread, and with what end.
 #[derive(Clone, Copy)]
@@ -15,24 +24,50 @@ struct Line<'a> {
     tid: Tid,
     policy: &'a [u8],
     call: SysCall,
-    how: &'a [u8],
-    answer: &'a [u8],
+    how: How,
+    outcome: CallResult,
 }
 
-fn append_line(alloc: Global, text: &mut Text, line: &Line<'_>) -> Result<(), AllocError>
-    ensures { OnOk result (text.new ≡ text.old ++ line_text line.now.pid line.now.tid line.now.policy.now line.now.call line.now.how.now line.now.answer.now) }
+fn append_cause(text: &mut Text, cause: Cause) -> Result<(), AllocError>
+    ensures { OnOk result (text.new ≡ text.old ++ cause_text cause) }
 {
-    text.append_number(alloc, u64::from(line.pid))?;
+    let Cause::Filter(number) = cause;
+    text.append(b"barred#")?;
+    text.append_number(u64::from(number))
+}
+
+fn append_how(text: &mut Text, how: How) -> Result<(), AllocError>
+    ensures { OnOk result (text.new ≡ text.old ++ how_text how) }
+{
+    match how {
+        How::Fast => text.append(b"fast"),
+        How::Denied(cause) => append_cause(text, cause),
+    }
+}
+
+fn append_result(text: &mut Text, outcome: CallResult) -> Result<(), AllocError>
+    ensures { OnOk result (text.new ≡ text.old ++ result_text outcome) }
+{
+    match outcome {
+        CallResult::Value(number) => text.append_number(number),
+        CallResult::Failed(errno) => text.append(errno.name()),
+    }
+}
+
+fn append_line(text: &mut Text, line: &Line<'_>) -> Result<(), AllocError>
+    ensures { OnOk result (text.new ≡ text.old ++ line_text line.now.pid line.now.tid line.now.policy.now line.now.call (how_text line.now.how) (result_text line.now.outcome)) }
+{
+    text.append_number(u64::from(line.pid))?;
     text.push(b'.')?;
-    text.append_number(alloc, u64::from(line.tid))?;
+    text.append_number(u64::from(line.tid))?;
     text.push(b' ')?;
-    st_lex::quote(alloc, line.policy, text)?;
+    quote(line.policy, text)?;
     text.append(b" native-")?;
     text.append(line.call.word())?;
     text.push(b' ')?;
-    text.append(line.how)?;
+    append_how(text, line.how)?;
     text.append(b" = ")?;
-    text.append(line.answer)?;
+    append_result(text, line.outcome)?;
     text.push(b'\n')
 }
 
@@ -56,20 +91,18 @@ fn owner(input: &Input, tid: Tid) -> Pid
 
 /// Appends the line of a thread's call, where its process is traced.
 pub fn append_traced_line(
-    alloc: Global,
     text: &mut Text,
     input: &Input,
     tid: Tid,
     call: SysCall,
-    how: &[u8],
-    answer: &[u8],
+    how: How,
+    outcome: CallResult,
 ) -> Result<(), AllocError>
-    ensures { OnOk result (text.new ≡ text.old ++ traced_line (process input.now (owner input.now tid)) (owner input.now tid) tid call how.now answer.now) }
+    ensures { OnOk result (text.new ≡ text.old ++ traced_line (process input.now (owner input.now tid)) (owner input.now tid) tid call (how_text how) (result_text outcome)) }
 {
     let pid = owner(input, tid);
     match row_of(input.start.processes.as_slice(), pid) {
         Some(row) if row.traced => append_line(
-            alloc,
             text,
             &Line {
                 pid,
@@ -77,33 +110,9 @@ pub fn append_traced_line(
                 policy: row.binary.bytes(),
                 call,
                 how,
-                answer,
+                outcome,
             },
         ),
         _ => Ok(()),
     }
-}
-
-/// The number that a call gave, or the name of its error.
-pub fn result_text(alloc: Global, outcome: CallResult) -> Result<Text, AllocError>
-    ensures { IfOk result (λ text. text ≡ result_text outcome) }
-{
-    match outcome {
-        CallResult::Value(number) => {
-            let mut text = Text::new(alloc);
-            text.append_number(alloc, number)?;
-            Ok(text)
-        }
-        CallResult::Failed(errno) => Text::of(alloc, errno.name()),
-    }
-}
-
-/// How a call was denied.
-pub fn cause_text(alloc: Global, cause: Cause) -> Result<Text, AllocError>
-    ensures { IfOk result (λ text. text ≡ cause_text cause) }
-{
-    let Cause::Filter(number) = cause;
-    let mut text = Text::of(alloc, b"barred#")?;
-    text.append_number(alloc, u64::from(number))?;
-    Ok(text)
 }

@@ -51,9 +51,11 @@ fn texts_grow_at_the_end(rt: HostRuntime) -> Result<(), Fail> {
     let alloc = rt.alloc();
     let mut text = Text::of(alloc, b"a")?;
     text.push(b'.')?;
-    text.append_number(alloc, 42)?;
+    text.append_number(42)?;
     text.append(b"!")?;
     assert_eq!(rt; text.copy(alloc)?.bytes(), b"a.42!".as_slice());
+    text.truncate(2);
+    assert_eq!(rt; (text.len(), text.is_empty()), (2, false));
     Ok(())
 }
 

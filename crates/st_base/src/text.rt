@@ -1,5 +1,6 @@
-ghost use Rattle.std.specs.Prelude.{◌≡◌, [], ◌∷◌, ◌++◌, length, decimal, IfOk, OnOk, OnErr};
+ghost use Rattle.std.specs.Prelude.{◌≡◌, ◌↔◌, [], ◌∷◌, ◌++◌, length, take, decimal, IsTrue, IfOk, OnOk, OnErr};
 
+use itoa::Buffer;
 use std::alloc::{AllocError, Global};
 use std::marker::Model;
 
@@ -43,6 +44,27 @@ impl Text {
         self.bytes.as_slice()
     }
 
+    /// How many bytes there are.
+    pub fn len(&self) -> usize
+        ensures { result ≡ length self.now }
+    {
+        self.bytes.len()
+    }
+
+    /// Whether there are none.
+    pub fn is_empty(&self) -> bool
+        ensures { IsTrue result ↔ (self.now ≡ []) }
+    {
+        self.bytes.is_empty()
+    }
+
+    /// Keeps so many bytes at the front, or all where there are fewer.
+    pub fn truncate(&mut self, len: usize)
+        ensures { self.new ≡ take len self.old }
+    {
+        self.bytes.truncate(len);
+    }
+
     /// Adds a byte at the end.
     pub fn push(&mut self, byte: u8) -> Result<(), AllocError>
         ensures ok { OnOk result (self.new ≡ self.old ++ byte ∷ []) }
@@ -61,12 +83,12 @@ impl Text {
     }
 
     /// Adds a number in decimal digits at the end.
-    pub fn append_number(&mut self, alloc: Global, number: u64) -> Result<(), AllocError>
+    pub fn append_number(&mut self, number: u64) -> Result<(), AllocError>
         ensures ok { OnOk result (self.new ≡ self.old ++ decimal number) }
         ensures err { OnErr result (self.new ≡ self.old) }
     {
-        let digits = number.to_string(alloc)?;
-        self.append(digits.as_bytes())
+        let mut buffer = Buffer::new();
+        self.append(buffer.format(number).as_bytes())
     }
 
     /// An equal text of its own.

@@ -1,9 +1,9 @@
-ghost use Rattle.std.specs.Prelude.{◌≡◌, ℕ, List, ◌++◌, ◌<◌, OnOk, OnErr};
+ghost use Rattle.std.specs.Prelude.{◌≡◌, ℕ, List, ◌++◌, ◌<◌, length, take, OnOk, OnErr};
 ghost use Rattle.st_lex.specs.Quote.{hex_digit, quoted, quoted_byte, AreBytes, one_token};
 ghost use Rattle.st_lex.specs.Tokens.{lexed_of};
 
 use st_base::Text;
-use std::alloc::{AllocError, Global};
+use std::alloc::AllocError;
 
 // The lower-case hexadecimal digit of a number below 16.
 fn hex_digit(value: u8) -> u8
@@ -19,7 +19,8 @@ fn hex_digit(value: u8) -> u8
 
 // Appends a byte as it stands between quotes.
 fn quote_byte(byte: u8, out: &mut Text) -> Result<(), AllocError>
-    ensures { OnOk result (out.new ≡ out.old ++ quoted_byte byte) }
+    ensures ok { OnOk result (out.new ≡ out.old ++ quoted_byte byte) }
+    ensures err { OnErr result (out.new ≡ out.old) }
 {
     match byte {
         b'"' | b'\\' => out.append(&[b'\\', byte]),
@@ -33,17 +34,29 @@ fn quote_byte(byte: u8, out: &mut Text) -> Result<(), AllocError>
     }
 }
 
+// Appends the quoted form; without memory it may leave a front of it behind the text.
+fn append_quoted(bytes: &[u8], out: &mut Text) -> Result<(), AllocError>
+    ensures ok { OnOk result (out.new ≡ out.old ++ quoted bytes.now) }
+    ensures front { take (length out.old) out.new ≡ out.old }
+{
+    out.push(b'"')?;
+    for &byte in bytes {
+        quote_byte(byte, out)?;
+    }
+    out.push(b'"')
+}
+
 /// Appends the canonical quoted form of these bytes. Without memory the text stays as it was.
-pub fn quote(alloc: Global, bytes: &[u8], out: &mut Text) -> Result<(), AllocError>
+pub fn quote(bytes: &[u8], out: &mut Text) -> Result<(), AllocError>
     ensures ok { OnOk result (out.new ≡ out.old ++ quoted bytes.now) }
     ensures err { OnErr result (out.new ≡ out.old) }
 {
-    let mut text = Text::of(alloc, b"\"")?;
-    for &byte in bytes {
-        quote_byte(byte, &mut text)?;
+    let len = out.len();
+    let written = append_quoted(bytes, out);
+    if written.is_err() {
+        out.truncate(len);
     }
-    text.push(b'"')?;
-    out.append(text.bytes())
+    written
 }
 
 /// What `quote` prints of bytes that aren't zero is one quoted token without a fault.

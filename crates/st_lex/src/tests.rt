@@ -81,7 +81,7 @@ fn tells_places_and_lines(rt: HostRuntime) -> Result<(), Fail> {
 #[test]
 fn prints_quoted(rt: HostRuntime) -> Result<(), Fail> {
     let mut out = Text::of(rt.alloc(), b"<")?;
-    quote(rt.alloc(), b"a\"b\\c$d\x07", &mut out)?;
+    quote(b"a\"b\\c$d\x07", &mut out)?;
     assert_eq!(rt; out.bytes(), b"<\"a\\\"b\\\\c\\x24d\\x07\"".as_slice());
     Ok(())
 }

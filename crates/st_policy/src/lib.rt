@@ -8,7 +8,7 @@ pub mod set;
 pub use filter::{
     Action, Cmp, Expr, Filter, FilterName, Grant, Policy, Predicate, Who, fast, has_filter,
 };
-pub use reader::{FILTER_LIMIT, PolicyFault, read_policies};
+pub use reader::{FILTER_LIMIT, PolicyFault, filter_row, header_row, read_policies};
 pub use set::{BinaryPolicy, PolicySet};
 
 #[cfg(test)]

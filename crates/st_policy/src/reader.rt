@@ -53,7 +53,8 @@ fn action_named(word: &[u8]) -> Option<Action>
     }
 }
 
-fn filter_row(text: &[u8], row: &[Token]) -> Option<Filter>
+/// The filter of a row: `native-CALL: permit`, or `deny`.
+pub fn filter_row(text: &[u8], row: &[Token]) -> Option<Filter>
     ensures { result ≡ filter_row text.now row.now }
 {
     let [named, colon, action] = row else {
@@ -99,7 +100,8 @@ fn is_native(text: &[u8], tokens: &[Token]) -> bool
     }
 }
 
-fn header_row<'a>(text: &'a [u8], row: &[Token]) -> Option<&'a [u8]>
+/// The binary of a header: `Policy: BINARY, Emulation: native`.
+pub fn header_row<'a>(text: &'a [u8], row: &[Token]) -> Option<&'a [u8]>
     ensures { option_copied result ≡ header_row text.now row.now }
 {
     match row {

@@ -5,8 +5,11 @@ pub mod path;
 pub mod schedule;
 pub mod script;
 
-pub use schedule::read_schedule;
-pub use script::{INSTRUCTION_LIMIT, ScriptFault, read_script};
+pub use schedule::{read_schedule, schedule_row};
+pub use script::{
+    INSTRUCTION_LIMIT, NamedProcess, ScriptFault, call_row, is_end, is_thread_row, process_row,
+    read_script,
+};
 
 #[cfg(test)]
 mod tests;

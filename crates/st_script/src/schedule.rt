@@ -6,7 +6,8 @@ use st_law::Schedule;
 use st_lex::{Token, next_row, plain_tokens};
 use std::alloc::{AllocError, Global};
 
-fn schedule_row(text: &[u8], row: &[Token]) -> Option<Schedule>
+/// The schedule of a row: `rest`.
+pub fn schedule_row(text: &[u8], row: &[Token]) -> Option<Schedule>
     ensures { result ≡ schedule_row text.now row.now }
 {
     match row {

@@ -97,7 +97,8 @@ fn traced_process(
     }
 }
 
-fn process_row(
+/// The process of a row: `process NAME traced "BINARY" UID GID "/"`.
+pub fn process_row(
     alloc: Global,
     text: &[u8],
     row: &[Token],
@@ -121,8 +122,8 @@ fn process_row(
     Ok(Some(NamedProcess { name, row }))
 }
 
-// Whether the row is a thread of the process of this name.
-fn is_thread_row(text: &[u8], owner: &[u8], row: &[Token]) -> bool
+/// Whether a row is `thread NAME in PROCESS` with the process of this name.
+pub fn is_thread_row(text: &[u8], owner: &[u8], row: &[Token]) -> bool
     ensures { result ≡ is_thread_row text.now owner.now row.now }
 {
     match row {
@@ -160,7 +161,8 @@ fn registers(text: &[u8], numbers: &[Token]) -> Option<[u64; 6]>
     Some([a, b, c, d, e, f])
 }
 
-fn call_row(text: &[u8], row: &[Token]) -> Option<Instr>
+/// The instruction of a row: `call NAME` and up to six numbers.
+pub fn call_row(text: &[u8], row: &[Token]) -> Option<Instr>
     ensures { result ≡ call_row text.now row.now }
 {
     let [keyword, name, numbers @ ..] = row else {
@@ -174,7 +176,8 @@ fn call_row(text: &[u8], row: &[Token]) -> Option<Instr>
     Some(Instr::Call(call, regs))
 }
 
-fn is_end(text: &[u8], row: &[Token]) -> bool
+/// Whether a row is `end`.
+pub fn is_end(text: &[u8], row: &[Token]) -> bool
     ensures { result ≡ is_end text.now row.now }
 {
     match row {

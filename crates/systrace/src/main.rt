@@ -7,13 +7,15 @@ ghost use Rattle.st_top.specs.Number.{number_of_status};
 
 mod answer;
 mod message;
+mod misfit;
 
 use crate::answer::answer_of;
-use crate::message::{OUT_OF_MEMORY, message};
+use crate::message::{OUT_OF_MEMORY, message, misfit_message, word_of};
+use crate::misfit::misfit_in;
 use st_base::Text;
-use st_outside::{StdFiles, StdSink};
+use st_outside::{Files as _, StdFiles, StdSink};
 use st_top::{Status, systrace_plain};
-use std::alloc::{AllocError, Global};
+use std::alloc::AllocError;
 use std::process::ExitCode;
 use std::rt::{Env, Files};
 use std::{env, io};
@@ -44,37 +46,50 @@ fn serve<R: Files + Print + AllocGlobal>(rt: &R, words: &[Text]) -> Status {
     }
 }
 
-fn line_of(alloc: Global, status: Status, words: &[Text]) -> Result<Text, AllocError> {
-    let mut line = message(alloc, status, words)?;
-    line.push(b'\n')?;
-    Ok(line)
+// The line for a status. Where a file isn't in the form that is read, it is read again to tell where it leaves it.
+fn line_of<R: Files + AllocGlobal>(
+    rt: &R,
+    status: Status,
+    words: &[Text],
+) -> Result<Text, AllocError> {
+    let alloc = rt.alloc();
+    if let Status::NotBuilt(which) = status
+        && let Some(name) = word_of(words, which)
+        && let Ok(text) = StdFiles::new(rt).fetch(alloc, name)
+        && let Some(misfit) = misfit_in(alloc, which, text.bytes())?
+    {
+        return misfit_message(alloc, name.bytes(), &misfit);
+    }
+    message(alloc, status, words)
 }
 
 // Tells a person of a status. A failed write is ignored, since there is nobody else to tell.
-fn tell(err: &impl Print, alloc: Global, status: Status, words: &[Text]) {
-    let _ = match line_of(alloc, status, words) {
-        Ok(line) => err.write_all(line.bytes()),
+fn tell<R: Files + AllocGlobal>(rt: &R, err: &impl Print, status: Status, words: &[Text]) {
+    let _ = match line_of(rt, status, words) {
+        Ok(mut line) => match line.push(b'\n') {
+            Ok(()) => err.write_all(line.bytes()),
+            Err(_) => err.println(OUT_OF_MEMORY),
+        },
         Err(_) => err.println(OUT_OF_MEMORY),
     };
 }
 
-fn end(err: &impl Print, alloc: Global, status: Status, words: &[Text]) -> ExitCode
+fn end<R: Files + AllocGlobal>(rt: &R, err: &impl Print, status: Status, words: &[Text]) -> ExitCode
     ensures { exit_status result ≡ number_of_status status }
 {
     if status != Status::Done {
-        tell(err, alloc, status, words);
+        tell(rt, err, status, words);
     }
     ExitCode::from(status.number())
 }
 
 fn main(rt: HostRuntime) -> ExitCode {
-    let alloc = rt.alloc();
     let err = rt.stderr();
     match words_of(&rt) {
         Ok(words) => {
             let status = serve(&rt, words.as_slice());
-            end(&err, alloc, status, words.as_slice())
+            end(&rt, &err, status, words.as_slice())
         }
-        Err(_) => end(&err, alloc, Status::NoMemory, &[]),
+        Err(_) => end(&rt, &err, Status::NoMemory, &[]),
     }
 }

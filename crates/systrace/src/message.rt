@@ -1,3 +1,4 @@
+use crate::misfit::Misfit;
 use st_base::Text;
 use st_top::{Status, Which};
 use std::alloc::{AllocError, Global};
@@ -7,30 +8,34 @@ pub const OUT_OF_MEMORY: &str = "systrace: out of memory";
 
 const USAGE: &str = "usage: systrace step -f POLICY SCRIPT SCHEDULE";
 
-// The word that names a file in `step -f POLICY SCRIPT SCHEDULE`.
-fn name_of(words: &[Text], which: Which) -> &[u8] {
+/// The word that names a file in `step -f POLICY SCRIPT SCHEDULE`.
+pub fn word_of(words: &[Text], which: Which) -> Option<&Text> {
     let place = match which {
         Which::Policy(_) => 2,
         Which::Script => 3,
         Which::Schedule => 4,
     };
-    match words.get(place) {
+    words.get(place)
+}
+
+fn name_of(words: &[Text], which: Which) -> &[u8] {
+    match word_of(words, which) {
         Some(word) => word.bytes(),
         None => &[],
     }
 }
 
+// How much of a row a message shows, in bytes.
+const SHOWN: usize = 60;
+
+// What is not built of a file whose rows are all in the form.
 fn not_built(which: Which) -> &'static str {
     match which {
         Which::Policy(_) => {
-            "not a policy that this version reads: expected 'Policy: /BINARY, Emulation: native' for the script's binary, then lines 'native-CALL: permit' or 'native-CALL: deny' that cover the script's calls (getpid, getuid, geteuid, exit)"
+            "not a policy of this script: expected that of its process's binary, with a filter for each of its calls, and at most 4096 filters"
         }
-        Which::Script => {
-            "not a script that this version reads: expected 'process NAME traced \"/BINARY\" UID GID \"/\"', 'thread NAME in NAME', lines 'call CALL NUMBER..' (getpid, getuid, geteuid, exit), then 'end'"
-        }
-        Which::Schedule => {
-            "not a schedule that this version reads: expected the one line 'rest'"
-        }
+        Which::Script => "not a script that is built: expected at most 4096 instructions",
+        Which::Schedule => "not a schedule that is built: expected the one line 'rest'",
     }
 }
 
@@ -39,6 +44,25 @@ fn about_file(alloc: Global, name: &[u8], fault: &str) -> Result<Text, AllocErro
     line.append(name)?;
     line.append(b": ")?;
     line.append(fault.as_bytes())?;
+    Ok(line)
+}
+
+/// The line that tells a person where a file leaves the form that is read, without its newline.
+pub fn misfit_message(alloc: Global, name: &[u8], misfit: &Misfit<'_>) -> Result<Text, AllocError> {
+    let mut line = Text::of(alloc, b"systrace: ")?;
+    line.append(name)?;
+    line.push(b':')?;
+    line.append_number(misfit.line as u64)?;
+    line.push(b':')?;
+    line.append_number(misfit.column as u64)?;
+    if misfit.found.is_empty() {
+        line.append(b": found the end of the file, expected ")?;
+    } else {
+        line.append(b": found '")?;
+        line.append(&misfit.found[..misfit.found.len().min(SHOWN)])?;
+        line.append(b"', expected ")?;
+    }
+    line.append(misfit.expected.as_bytes())?;
     Ok(line)
 }
 
@@ -70,6 +94,7 @@ pub fn message(alloc: Global, status: Status, words: &[Text]) -> Result<Text, Al
 #[cfg(test)]
 mod tests {
     use super::*;
+    use crate::misfit::misfit_in;
     use std::test::Fail;
 
     fn words(alloc: Global) -> Result<Vec<Text>, AllocError> {
@@ -130,17 +155,17 @@ mod tests {
             (
                 Status::NotBuilt(Which::Policy(1)),
                 11,
-                b"systrace: p: not a policy that this version reads: expected 'Policy: /BINARY, Emulation: native' for the script's binary, then lines 'native-CALL: permit' or 'native-CALL: deny' that cover the script's calls (getpid, getuid, geteuid, exit)",
+                b"systrace: p: not a policy of this script: expected that of its process's binary, with a filter for each of its calls, and at most 4096 filters",
             ),
             (
                 Status::NotBuilt(Which::Script),
                 11,
-                b"systrace: a b: not a script that this version reads: expected 'process NAME traced \"/BINARY\" UID GID \"/\"', 'thread NAME in NAME', lines 'call CALL NUMBER..' (getpid, getuid, geteuid, exit), then 'end'",
+                b"systrace: a b: not a script that is built: expected at most 4096 instructions",
             ),
             (
                 Status::NotBuilt(Which::Schedule),
                 11,
-                b"systrace: \xff: not a schedule that this version reads: expected the one line 'rest'",
+                b"systrace: \xff: not a schedule that is built: expected the one line 'rest'",
             ),
         ] {
             assert_eq!(rt;
@@ -148,6 +173,68 @@ mod tests {
                 want
             );
             assert_eq!(rt; status.number(), number);
+        }
+        Ok(())
+    }
+
+    fn told(alloc: Global, which: Which, text: &[u8]) -> Result<Text, AllocError> {
+        if text.len() > 1000 {
+            return Ok(Text::new(alloc));
+        }
+        match misfit_in(alloc, which, text)? {
+            Some(misfit) => misfit_message(alloc, b"f", &misfit),
+            None => Ok(Text::new(alloc)),
+        }
+    }
+
+    #[test]
+    fn tells_where_a_file_leaves_its_form(rt: HostRuntime) -> Result<(), Fail> {
+        let policy = Which::Policy(1);
+        let script = Which::Script;
+        for (which, text, want) in [
+            (
+                policy,
+                b"".as_slice(),
+                b"systrace: f:1:1: found the end of the file, expected 'Policy: /BINARY, Emulation: native'".as_slice(),
+            ),
+            (
+                policy,
+                b"Policy: /a, Emulation: native\n\n native-open: permit\n",
+                b"systrace: f:3:2: found 'native-open: permit', expected 'native-CALL: permit' or 'native-CALL: deny', CALL being getpid, getuid, geteuid or exit",
+            ),
+            (
+                policy,
+                b"Policy: /a, Emulation: native # a",
+                b"systrace: f:1:31: found '# a', expected no '#', which is not built",
+            ),
+            (
+                policy,
+                b"Policy: /a; Emulation: native",
+                b"systrace: f:1:11: found '; Emulation: native', expected a token",
+            ),
+            (policy, b"Policy: /a, Emulation: native", b""),
+            (
+                script,
+                b"process p traced \"/a\" 0 0 \"/\"\nthread a in q\nend",
+                b"systrace: f:2:1: found 'thread a in q', expected 'thread NAME in PROCESS', PROCESS being the process above",
+            ),
+            (
+                script,
+                b"process p traced \"/a\" 0 0 \"/\"\nthread a in p\ncall open",
+                b"systrace: f:3:1: found 'call open', expected 'call CALL' with up to six numbers, CALL being getpid, getuid, geteuid or exit, or 'end'",
+            ),
+            (
+                script,
+                b"process p traced \"/a\" 0 0 \"/\"\nthread a in p\nend\nend",
+                b"systrace: f:4:1: found 'end', expected the end of the file",
+            ),
+            (
+                Which::Schedule,
+                b"rest\nthread 1",
+                b"systrace: f:2:1: found 'thread 1', expected the end of the file",
+            ),
+        ] {
+            assert_eq!(rt; told(rt.alloc(), which, text)?.bytes(), want);
         }
         Ok(())
     }
