@@ -90,6 +90,10 @@ fn main(rt: HostRuntime) -> ExitCode {
             let status = serve(&rt, words.as_slice());
             end(&rt, &err, status, words.as_slice())
         }
+        // A word that is no text is no word of a command.
+        Err(error) if error.kind() == io::ErrorKind::InvalidData => {
+            end(&rt, &err, Status::Usage, &[])
+        }
         Err(_) => end(&rt, &err, Status::NoMemory, &[]),
     }
 }
