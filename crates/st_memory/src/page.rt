@@ -1,0 +1,99 @@
+ghost use Rattle.std.specs.Prelude.{◌≡◌, ℕ, ◌+◌, ◌%◌, ◌<◌, ◌≤◌, length, slice_index, IfOk};
+ghost use Rattle.std.specs.Int.{w64, to_le_bytes};
+ghost use Rattle.st_memory.specs.Memory.{byte_of, put_in, stored_in, word_of};
+
+use std::alloc::{AllocError, Global};
+use std::marker::Model;
+
+/// How many words a space has.
+pub const SPACE_WORDS: u32 = 8_192;
+
+/// How many bytes a space has.
+pub const SPACE_BYTES: u64 = 65_536;
+
+/// The words of one space.
+#[derive(Debug, Drop)]
+pub struct Page {
+    words: Vec<u64>,
+}
+
+impl Model for Page {
+    ghost use Rattle.std.specs.Prelude.{◌≡◌, List, ℕ, length};
+
+    ghost Value = { List ℕ };
+
+    ghost view = { λ p. p.words.items };
+
+    ghost use Rattle.st_memory.specs.declared.page.TheConstants.{SPACE_WORDS};
+
+    ghost invariant = { λ p. length p.words.items ≡ SPACE_WORDS };
+}
+
+impl Page {
+    /// A space of zeros.
+    pub fn zeros(alloc: Global) -> Result<Self, AllocError>
+        ensures { IfOk result (λ page. (b : ℕ) → byte_of page b ≡ 0) }
+    {
+        Ok(Page {
+            words: vec![in alloc; 0; SPACE_WORDS as usize]?,
+        })
+    }
+
+    /// The word at a place.
+    pub fn word(&self, place: usize) -> u64
+        requires { place < SPACE_WORDS }
+        ensures { result ≡ word_of (byte_of self.now) place }
+    {
+        self.words[place]
+    }
+
+    /// The byte of this number.
+    pub fn byte(&self, at: usize) -> u8
+        requires { at < SPACE_BYTES }
+        ensures { result ≡ byte_of self.now at }
+    {
+        self.words[at / 8].to_le_bytes()[at % 8]
+    }
+
+    /// Stores a word at a place.
+    pub fn put_word(&mut self, place: usize, word: u64)
+        requires { place < SPACE_WORDS }
+        ensures { (b : ℕ) → byte_of self.new b ≡ stored_in (byte_of self.old) place word b }
+    {
+        self.words[place] = word;
+    }
+
+    // Puts bytes that all fall into one word.
+    fn put_part(&mut self, at: usize, part: &[u8])
+        requires inside { at < SPACE_BYTES }
+        requires one_word { at % 8 + length part.now ≤ 8 }
+        ensures { (b : ℕ) → byte_of self.new b ≡ put_in (byte_of self.old) at part.now b }
+    {
+        let place = at / 8;
+        self.words[place] = merged(self.words[place], at % 8, part);
+    }
+
+    /// Puts bytes from this one on, a word at a time.
+    pub fn put_bytes(&mut self, at: usize, bytes: &[u8])
+        requires { 0 < length bytes.now → at + length bytes.now ≤ SPACE_BYTES }
+        ensures { (b : ℕ) → byte_of self.new b ≡ put_in (byte_of self.old) at bytes.now b }
+    {
+        let mut done = 0;
+        while done < bytes.len() {
+            let room = 8 - (at + done) % 8;
+            let end = done + room.min(bytes.len() - done);
+            self.put_part(at + done, &bytes[done..end]);
+            done = end;
+        }
+    }
+}
+
+// A word with some of its bytes replaced, from this one on.
+fn merged(word: u64, from: usize, part: &[u8]) -> u64
+    requires { from + length part.now ≤ 8 }
+    ensures { (k : ℕ) → k < 8 → slice_index (to_le_bytes w64 result) k ≡ put_in (slice_index (to_le_bytes w64 word)) from part.now k }
+{
+    let mut bytes = word.to_le_bytes();
+    bytes[from..from + part.len()].copy_from_slice(part);
+    u64::from_le_bytes(bytes)
+}

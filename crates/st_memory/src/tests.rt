@@ -1,0 +1,90 @@
+use crate::{MemFault, Spaces};
+use std::test::Fail;
+
+#[test]
+fn spaces_are_apart(rt: HostRuntime) -> Result<(), Fail> {
+    let alloc = rt.alloc();
+    let mut spaces = Spaces::new(alloc);
+    let first = spaces.make(alloc)?;
+    let second = spaces.make(alloc)?;
+    assert_eq!(rt; first, 1);
+    assert_eq!(rt; second, 2);
+    assert_eq!(rt; spaces.put_word(second, 7, 9), Ok(()));
+    assert_eq!(rt; spaces.word(first, 7), Some(0));
+    assert_eq!(rt; spaces.word(second, 7), Some(9));
+    assert_eq!(rt; spaces.word(second, 6), Some(0));
+    Ok(())
+}
+
+#[test]
+fn words_end_at_8192(rt: HostRuntime) -> Result<(), Fail> {
+    let alloc = rt.alloc();
+    let cases = [
+        (0, Ok(()), Some(u64::MAX)),
+        (8191, Ok(()), Some(u64::MAX)),
+        (8192, Err(MemFault::Outside), None),
+        (u32::MAX, Err(MemFault::Outside), None),
+    ];
+    for (place, stored, read) in cases {
+        let mut spaces = Spaces::new(alloc);
+        let space = spaces.make(alloc)?;
+        assert_eq!(rt;
+            spaces.put_word(space, place, u64::MAX),
+            stored,
+            "at {place}"
+        );
+        assert_eq!(rt; spaces.word(space, place), read, "at {place}");
+    }
+    Ok(())
+}
+
+#[test]
+fn bytes_end_at_65536(rt: HostRuntime) -> Result<(), Fail> {
+    let alloc = rt.alloc();
+    let cases = [
+        (0, b"".as_slice(), true),
+        (65535, b"a", true),
+        (65536, b"a", false),
+        (65530, b"123456", true),
+        (65530, b"1234567", false),
+        (u64::MAX, b"ab", false),
+        (65536, b"", true),
+        (u64::MAX, b"", true),
+    ];
+    for (at, bytes, inside) in cases {
+        let mut spaces = Spaces::new(alloc);
+        let space = spaces.make(alloc)?;
+        let put = spaces.put_bytes(space, at, bytes);
+        match spaces.bytes(alloc, space, at, bytes.len() as u64) {
+            Ok(text) => {
+                assert!(rt; inside, "at {at}");
+                assert_eq!(rt; put, Ok(()), "at {at}");
+                assert_eq!(rt; text.bytes(), bytes, "at {at}");
+            }
+            Err(fault) => {
+                assert!(rt; !inside, "at {at}");
+                assert_eq!(rt; put, Err(MemFault::Outside), "at {at}");
+                assert_eq!(rt; fault, MemFault::Outside, "at {at}");
+            }
+        }
+    }
+    Ok(())
+}
+
+#[test]
+fn texts_cross_words(rt: HostRuntime) -> Result<(), Fail> {
+    let alloc = rt.alloc();
+    let mut spaces = Spaces::new(alloc);
+    let space = spaces.make(alloc)?;
+    assert_eq!(rt; spaces.put_bytes(space, 6, b"abcdefghijkl"), Ok(()));
+    let words = [
+        (0, 0x6261_0000_0000_0000),
+        (1, 0x6a69_6867_6665_6463),
+        (2, 0x6c6b),
+        (3, 0),
+    ];
+    for (place, word) in words {
+        assert_eq!(rt; spaces.word(space, place), Some(word), "at {place}");
+    }
+    Ok(())
+}

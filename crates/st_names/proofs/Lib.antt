@@ -1,0 +1,5 @@
+pub mod Endings
+mod Examples
+pub mod Objects
+pub mod Prefixes
+pub mod Walks

@@ -1,0 +1,4 @@
+pub mod Name
+pub mod Seen
+pub mod Tree
+pub mod Walk

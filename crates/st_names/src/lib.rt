@@ -1,0 +1,17 @@
+//! Names in the modelled file tree: absolute names, the components of a text, what is seen of a name, and how names are resolved.
+#![tactic(auto)]
+
+pub mod name;
+pub mod parts;
+pub mod seen;
+pub mod tree;
+pub mod walk;
+
+pub use name::AbsName;
+pub use parts::{NameFault, components};
+pub use seen::{Seen, SeenText};
+pub use tree::a_tree_is_a_map;
+pub use walk::{a_resolution_ends, a_walk_asks_in_order};
+
+#[cfg(test)]
+mod tests;

@@ -1,0 +1,68 @@
+ghost use Rattle.std.specs.Prelude.{◌≡◌, ◌↔◌, true, ◌<◌, ◌≤◌, length, IfOk};
+ghost use Rattle.st_names.specs.Name.{is_component, components_of, has_long_part, longest_name};
+
+use st_base::{Sequence, Text};
+use std::alloc::{AllocError, Global};
+
+/// Why a text has no components.
+#[derive(Clone, Copy, Debug, PartialEq, Eq)]
+pub enum NameFault {
+    /// The text has more than 1,024 bytes.
+    TooLong,
+    /// A part of it has more than 255 bytes.
+    PartTooLong,
+    NoMemory,
+}
+
+impl From<AllocError> for NameFault {
+    ghost use Rattle.st_names.specs.declared.parts.NameFault.TheVariants.{NoMemory};
+
+    ghost from_gives = { λ _ fault. fault ≡ NoMemory };
+
+    fn from(_error: AllocError) -> NameFault {
+        NameFault::NoMemory
+    }
+}
+
+fn is_component(part: &[u8]) -> bool
+    ensures { result ≡ is_component part.now }
+{
+    !part.is_empty() && part != b".".as_slice()
+}
+
+// Whether a part between slashes is longer than a component may be.
+fn has_long_part(text: &[u8]) -> bool
+    ensures { result ≡ has_long_part text.now }
+{
+    text.split(|byte| *byte == b'/')
+        .any(|part| part.len() > 255)
+}
+
+// The parts between slashes, but for those that are empty or `.`.
+fn kept_parts(alloc: Global, text: &[u8]) -> Result<Sequence<Text>, AllocError>
+    ensures { IfOk result (λ parts. parts ≡ components_of text.now) }
+{
+    let mut parts = Sequence::new(alloc);
+    for part in text.split(|byte| *byte == b'/') {
+        if is_component(part) {
+            parts.push(Text::of(alloc, part)?)?;
+        }
+    }
+    Ok(parts)
+}
+
+/// The components of a name's text: what stands between slashes, without empty parts and `.`.
+pub fn components(alloc: Global, text: &[u8]) -> Result<Sequence<Text>, NameFault>
+    ensures ok { IfOk result (λ parts. parts ≡ components_of text.now) }
+    ensures too_long { (result ≡ Err NameFault.TooLong) ↔ (longest_name < length text.now) }
+    ensures part_too_long { (result ≡ Err NameFault.PartTooLong) ↔ ((length text.now ≤ longest_name) × (has_long_part text.now ≡ true)) }
+{
+    if text.len() > 1024 {
+        return Err(NameFault::TooLong);
+    }
+    if has_long_part(text) {
+        return Err(NameFault::PartTooLong);
+    }
+    let parts = kept_parts(alloc, text)?;
+    Ok(parts)
+}
