@@ -106,25 +106,10 @@ mod tests {
     }
 
     #[test]
-    fn tells_each_status(rt: HostRuntime) -> Result<(), Fail> {
+    fn tells_a_status_without_a_file(rt: HostRuntime) -> Result<(), Fail> {
         let words = words(rt.alloc())?;
         for (status, number, want) in [
             (Status::Done, 0, b"".as_slice()),
-            (
-                Status::Missing(Which::Policy(1)),
-                1,
-                b"systrace: p: no such file",
-            ),
-            (
-                Status::Missing(Which::Script),
-                1,
-                b"systrace: a b: no such file",
-            ),
-            (
-                Status::Missing(Which::Schedule),
-                1,
-                b"systrace: \xff: no such file",
-            ),
             (
                 Status::Usage,
                 2,
@@ -137,6 +122,35 @@ mod tests {
                 b"systrace: standard output could not be written",
             ),
             (Status::NoMemory, 7, b"systrace: out of memory"),
+        ] {
+            assert_eq!(rt;
+                message(rt.alloc(), status, words.as_slice())?.bytes(),
+                want
+            );
+            assert_eq!(rt; status.number(), number);
+        }
+        Ok(())
+    }
+
+    #[test]
+    fn tells_a_file_by_its_name(rt: HostRuntime) -> Result<(), Fail> {
+        let words = words(rt.alloc())?;
+        for (status, number, want) in [
+            (
+                Status::Missing(Which::Policy(1)),
+                1,
+                b"systrace: p: no such file".as_slice(),
+            ),
+            (
+                Status::Missing(Which::Script),
+                1,
+                b"systrace: a b: no such file",
+            ),
+            (
+                Status::Missing(Which::Schedule),
+                1,
+                b"systrace: \xff: no such file",
+            ),
             (
                 Status::TooLong(Which::Policy(1)),
                 9,
