@@ -1,5 +1,6 @@
 -- How the parts of a call of the program come to what its words and files mean.
-use Rattle.std.proofs.Common.{◌≡◌, ℕ, ◌≤◌, ◌⊎◌, inl, inr, true, List, length, Option, Some, None, Result, Ok, Err, refl, sym, ap, ◌∙◌, subst}
+use Rattle.std.proofs.Common.{◌≡◌, ℕ, ◌≤◌, ◌⊎◌, inl, inr, true, false, List, length, Option, Some, Result, Ok, Err, refl, sym, ap, subst}
+use Rattle.std.specs.Result.{IsErr, IsErrAnd}
 use Rattle.st_outside.specs.Count.{Rises}
 use Rattle.st_outside.specs.Files.{Held, CanHold}
 use Rattle.st_outside.specs.Sink.{Appends}
@@ -15,11 +16,12 @@ use Rattle.st_law.specs.Machine.{run, played}
 use Rattle.st_law.proofs.Laws.{run_lawful}
 use Rattle.st_audit.specs.Audit.{audit}
 use Rattle.st_top.specs.declared.status.Status.{Status}
+use Rattle.st_top.specs.declared.status.Which.{Which}
 use Rattle.st_top.specs.declared.status.Status.TheVariants.{Done, Missing, Usage, ReadFault, WriteFault, NoMemory, TooLong, NotBuilt}
 use Rattle.st_top.specs.Command.{Command}
 use Rattle.st_top.specs.Cover.{suits}
-use Rattle.st_top.specs.Meaning.{Outcome, Writes, MeansSchedule, MeansInput, MeansSuited, MeansPolicies, MeansStart, MeansCommand, input_of}
-use Rattle.st_top.specs.Ends.{IsMeant, Refused, Prepares, Ends}
+use Rattle.st_top.specs.Meaning.{Outcome, Stops, Refuses, Writes, is_stop, Fetches, MeansSchedule, MeansInput, MeansSuited, MeansPolicies, MeansStart, MeansCommand, input_of}
+use Rattle.st_top.specs.Ends.{IsMeant, FetchRefused, Refused, Prepares, Ends}
 use Rattle.st_top.proofs.Meanings.{IsOne}
 
 -- what a later part prepares is prepared where its meaning leads to the whole one
@@ -29,10 +31,26 @@ prepares_by M N f old new (Err Usage) same leads p = leads _ p
 prepares_by M N f old new (Err (Missing which)) same leads p = leads _ p
 prepares_by M N f old new (Err (TooLong which)) same leads p = leads _ p
 prepares_by M N f old new (Err (NotBuilt which)) same leads p = leads _ p
-prepares_by M N f old new (Err ReadFault) same leads p = subst (λ n. Rises n new) same p
+prepares_by M N f old new (Err ReadFault) same leads p = (subst (λ n. Rises n new) same p.0, (p.1.0, leads (Stops p.1.0) p.1.1))
 prepares_by M N f old new (Err NoMemory) same leads p = tt
 prepares_by M N f old new (Err Done) same leads p = absurd p
 prepares_by M N f old new (Err WriteFault) same leads p = absurd p
+
+-- an error that is handed on
+pub handed_on : (P : Result (List ℕ) Status → Type 0) (s : Status) (r : Result (List ℕ) Status) → IsErr r → IsErrAnd r (λ e. e ≡ s) → P (Err s) → P r
+handed_on P s (Ok text) failed same p = cc
+handed_on P s (Err e) failed same p = subst (λ v. P (Err v)) (sym same) p
+
+-- why a file was not fetched is a refusal that is meant, or a stop there
+pub fetch_refused : (h : Held) (w : Which) (R : List ℕ → Outcome → Type 0) (old new : ℕ) (s : Status) → FetchRefused h w old new s → Refused (λ o. Fetches h w (λ text. R text o) o) old new s
+fetch_refused h w R old new (Missing other) p = inr (inl (p.1, ap (λ v. Refuses (Missing v)) p.0))
+fetch_refused h w R old new (TooLong other) p = inr (inr (inl (p.1, ap (λ v. Refuses (TooLong v)) p.0)))
+fetch_refused h w R old new ReadFault p = (p, (w, inl refl))
+fetch_refused h w R old new NoMemory p = tt
+fetch_refused h w R old new (NotBuilt other) p = absurd p
+fetch_refused h w R old new Usage p = absurd p
+fetch_refused h w R old new Done p = absurd p
+fetch_refused h w R old new WriteFault p = absurd p
 
 module _ (command : Command) (held : List ℕ → Held) where
   -- the audit of the run that the schedule file makes is meant
@@ -40,32 +58,37 @@ module _ (command : Command) (held : List ℕ → Held) where
   meant_run i text printed schedule content within read audited = record {
     input = i;
     choices = played i schedule;
-    meant = inr (inr (text, content, within, subst (λ o. MeansSchedule i o (Writes i (played i schedule) printed)) (sym read) (ap (Writes i (played i schedule)) audited)));
+    meant = inr (inr (inr (text, content, within, subst (λ o. MeansSchedule i o (Writes i (played i schedule) printed)) (sym read) (ap (Writes i (played i schedule)) audited))));
     lawful = run_lawful i (played i schedule);
   }
 
   -- a policy file that suits the start leads to the input
   pub leads_from_start : (start : Start) (policies : List BinaryPolicy) (text : List ℕ) → CanHold (held command.policy) text → length text ≤ FILE_LIMIT → policies_in text ≡ Some policies → suits policies start ≡ true → (o : Outcome) → MeansInput command held (input_of policies start) o → MeansStart command held (Some start) o
   leads_from_start start policies text content within read suited o m =
-      inr (inr (text, content, within, subst (λ p. MeansPolicies command held start p o) (sym read) (subst (λ b. MeansSuited command held start policies b o) (sym suited) m)))
+      inr (inr (inr (text, content, within, subst (λ p. MeansPolicies command held start p o) (sym read) (subst (λ b. MeansSuited command held start policies b o) (sym suited) m))))
 
   -- a script that is read leads to its start
   pub leads_from_command : (start : Start) (text : List ℕ) → CanHold (held command.script) text → length text ≤ FILE_LIMIT → script_in text ≡ Some start → (o : Outcome) → MeansStart command held (Some start) o → MeansCommand held (Some command) o
   leads_from_command start text content within read o m =
-      inr (inr (text, content, within, subst (λ s. MeansStart command held s o) (sym read) m))
+      inr (inr (inr (text, content, within, subst (λ s. MeansStart command held s o) (sym read) m)))
+
+by_stop : (old new : Option (List ℕ)) (status : Status) (o : Outcome) → (is_stop o ≡ false → Ends o old new status) → Ends o old new status
+by_stop old new status (Stops which) f = tt
+by_stop old new status (Refuses refusal) f = f refl
+by_stop old new status (Writes input choices text) f = f refl
 
 -- where the text that is meant was written, the call ends as it is meant
 pub ends_written : (M : Outcome → Type 0) (text : List ℕ) (old new : Option (List ℕ)) → IsOne M → IsMeant M text → Appends old new text → (o : Outcome) → M o → (Done ≡ NoMemory) ⊎ Ends o old new Done
 ends_written M text old new one meant appended o m =
-    inr (subst (λ o. Ends o old new Done) (one (Writes meant.input meant.choices text) o meant.meant m) (refl, appended))
+    inr (by_stop old new Done o (λ go. subst (λ o. Ends o old new Done) (one (Writes meant.input meant.choices text) o refl go meant.meant m) (refl, appended)))
 
 -- where the status that is meant is answered, the call ends as it is meant
 pub ends_refused : (M : Outcome → Type 0) (f g : ℕ) (old new : Option (List ℕ)) (status : Status) → IsOne M → Refused M f g status → (Rises f g → ⊥) → (o : Outcome) → M o → (status ≡ NoMemory) ⊎ Ends o old new status
-ends_refused M f g old new Usage one refused quiet o m = inr (subst (λ o. Ends o old new Usage) (one _ o refused m) refl)
-ends_refused M f g old new (Missing which) one refused quiet o m = inr (subst (λ o. Ends o old new (Missing which)) (one _ o refused m) refl)
-ends_refused M f g old new (TooLong which) one refused quiet o m = inr (subst (λ o. Ends o old new (TooLong which)) (one _ o refused m) refl)
-ends_refused M f g old new (NotBuilt which) one refused quiet o m = inr (subst (λ o. Ends o old new (NotBuilt which)) (one _ o refused m) refl)
-ends_refused M f g old new ReadFault one refused quiet o m = absurd (quiet refused)
+ends_refused M f g old new Usage one refused quiet o m = inr (by_stop old new Usage o (λ go. subst (λ o. Ends o old new Usage) (one (Refuses Usage) o refl go refused m) refl))
+ends_refused M f g old new (Missing which) one refused quiet o m = inr (by_stop old new (Missing which) o (λ go. subst (λ o. Ends o old new (Missing which)) (one (Refuses (Missing which)) o refl go refused m) refl))
+ends_refused M f g old new (TooLong which) one refused quiet o m = inr (by_stop old new (TooLong which) o (λ go. subst (λ o. Ends o old new (TooLong which)) (one (Refuses (TooLong which)) o refl go refused m) refl))
+ends_refused M f g old new (NotBuilt which) one refused quiet o m = inr (by_stop old new (NotBuilt which) o (λ go. subst (λ o. Ends o old new (NotBuilt which)) (one (Refuses (NotBuilt which)) o refl go refused m) refl))
+ends_refused M f g old new ReadFault one refused quiet o m = absurd (quiet refused.0)
 ends_refused M f g old new NoMemory one refused quiet o m = inl refl
 ends_refused M f g old new Done one refused quiet o m = absurd refused
 ends_refused M f g old new WriteFault one refused quiet o m = absurd refused

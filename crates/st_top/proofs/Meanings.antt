@@ -1,6 +1,6 @@
 -- Words over files that are told mean one thing.
-use Rattle.std.proofs.Common.{◌≡◌, ℕ, ◌≤◌, ◌<◌, ◌⊎◌, inl, inr, Bool, true, false, List, length, Option, Some, None, refl, sym, ap, ◌∙◌, subst, arith}
-use Rattle.st_outside.specs.Files.{Held, Untold, Absent, Holds, CanHold, CanLack, CanExceed}
+use Rattle.std.proofs.Common.{◌≡◌, ℕ, ◌≤◌, ◌<◌, inl, inr, Bool, true, false, List, length, Option, Some, None, sym, ap, ◌∙◌, subst, arith}
+use Rattle.st_outside.specs.Files.{Held, Untold, Absent, Holds}
 use Rattle.st_outside.specs.declared.files.TheConstants.{FILE_LIMIT}
 use Rattle.st_policy.specs.declared.set.BinaryPolicy.{BinaryPolicy}
 use Rattle.st_policy.specs.Form.{policies_in}
@@ -13,58 +13,66 @@ use Rattle.st_top.specs.declared.status.Which.{Which}
 use Rattle.st_top.specs.declared.status.Which.TheVariants as which
 use Rattle.st_top.specs.Command.{Command, command_in}
 use Rattle.st_top.specs.Cover.{suits}
-use Rattle.st_top.specs.Meaning.{Outcome, Fetches, MeansSchedule, MeansInput, MeansSuited, MeansPolicies, MeansStart, MeansCommand, Means, input_of}
+use Rattle.st_top.specs.Meaning.{Outcome, Stops, is_stop, Reads, Fetches, MeansSchedule, MeansInput, MeansSuited, MeansPolicies, MeansStart, MeansCommand, Means, input_of}
 use Rattle.st_top.specs.Ends.{IsTold}
 
--- a relation that holds of one outcome at the most
+-- a relation that holds of one outcome at the most, beside stops
 abbrev pub IsOne : (Outcome → Type 0) → Type 0
-IsOne R = (a b : Outcome) → R a → R b → a ≡ b
+IsOne R = (a b : Outcome) → is_stop a ≡ false → is_stop b ≡ false → R a → R b → a ≡ b
+
+stopped : (o : Outcome) (w : Which) (P : Type 0) → is_stop o ≡ false → o ≡ Stops w → P
+stopped o w P go is = let yes : is_stop o ≡ true = ap is_stop is in cc
 
 too_long : (content text : List ℕ) → text ≡ content → FILE_LIMIT < length content → length text ≤ FILE_LIMIT → ⊥
 too_long content text same long short = let e : length text ≡ length content = ap length same in omega arith
 
+reads_one : (h : Held) (w : Which) (R : List ℕ → Outcome → Type 0) → IsTold h → ((text : List ℕ) → IsOne (R text)) → (a b : Outcome) → is_stop a ≡ false → is_stop b ≡ false → Reads h w (λ text. R text a) a → Reads h w (λ text. R text b) b → a ≡ b
+reads_one Untold w R told one a b u v p q = absurd told
+reads_one Absent w R told one a b u v (inl p) (inl q) = p.1 ∙ sym q.1
+reads_one Absent w R told one a b u v (inl p) (inr (inl q)) = absurd q.0
+reads_one Absent w R told one a b u v (inl p) (inr (inr q)) = absurd q.1
+reads_one Absent w R told one a b u v (inr (inl p)) q = absurd p.0
+reads_one Absent w R told one a b u v (inr (inr p)) q = absurd p.1
+reads_one (Holds text) w R told one a b u v (inl p) q = absurd p.0
+reads_one (Holds text) w R told one a b u v (inr p) (inl q) = absurd q.0
+reads_one (Holds text) w R told one a b u v (inr (inl p)) (inr (inl q)) = p.1 ∙ sym q.1
+reads_one (Holds text) w R told one a b u v (inr (inl p)) (inr (inr q)) = absurd (too_long text q.0 q.1 p.0 q.2)
+reads_one (Holds text) w R told one a b u v (inr (inr p)) (inr (inl q)) = absurd (too_long text p.0 p.1 q.0 p.2)
+reads_one (Holds text) w R told one a b u v (inr (inr p)) (inr (inr q)) =
+    one text a b u v (subst (λ t. R t a) p.1 p.3) (subst (λ t. R t b) q.1 q.3)
+
 -- a file that is told has one content, so what is fetched means one thing where each content does
 pub fetches_one : (h : Held) (w : Which) (R : List ℕ → Outcome → Type 0) → IsTold h → ((text : List ℕ) → IsOne (R text)) → IsOne (λ o. Fetches h w (λ text. R text o) o)
-fetches_one Untold w R told one a b p q = absurd told
-fetches_one Absent w R told one a b (inl p) (inl q) = p.1 ∙ sym q.1
-fetches_one Absent w R told one a b (inl p) (inr (inl q)) = absurd q.0
-fetches_one Absent w R told one a b (inl p) (inr (inr q)) = absurd q.1
-fetches_one Absent w R told one a b (inr (inl p)) q = absurd p.0
-fetches_one Absent w R told one a b (inr (inr p)) q = absurd p.1
-fetches_one (Holds text) w R told one a b (inl p) q = absurd p.0
-fetches_one (Holds text) w R told one a b (inr p) (inl q) = absurd q.0
-fetches_one (Holds text) w R told one a b (inr (inl p)) (inr (inl q)) = p.1 ∙ sym q.1
-fetches_one (Holds text) w R told one a b (inr (inl p)) (inr (inr q)) = absurd (too_long text q.0 q.1 p.0 q.2)
-fetches_one (Holds text) w R told one a b (inr (inr p)) (inr (inl q)) = absurd (too_long text p.0 p.1 q.0 p.2)
-fetches_one (Holds text) w R told one a b (inr (inr p)) (inr (inr q)) =
-    one text a b (subst (λ t. R t a) p.1 p.3) (subst (λ t. R t b) q.1 q.3)
+fetches_one h w R told one a b u v (inl p) q = stopped a w (a ≡ b) u p
+fetches_one h w R told one a b u v (inr p) (inl q) = stopped b w (a ≡ b) v q
+fetches_one h w R told one a b u v (inr p) (inr q) = reads_one h w R told one a b u v p q
 
 schedule_one : (i : Input) (o : Option Schedule) → IsOne (MeansSchedule i o)
-schedule_one i None a b p q = p ∙ sym q
-schedule_one i (Some schedule) a b p q = p ∙ sym q
+schedule_one i None a b u v p q = p ∙ sym q
+schedule_one i (Some schedule) a b u v p q = p ∙ sym q
 
 module _ (held : List ℕ → Held) (told : (name : List ℕ) → IsTold (held name)) (command : Command) where
   input_one : (i : Input) → IsOne (MeansInput command held i)
   input_one i = fetches_one (held command.schedule) which.Schedule (λ text. MeansSchedule i (schedule_in text)) (told command.schedule) (λ text. schedule_one i (schedule_in text))
 
   suited_one : (start : Start) (policies : List BinaryPolicy) (b : Bool) → IsOne (MeansSuited command held start policies b)
-  suited_one start policies true a b p q = input_one (input_of policies start) a b p q
-  suited_one start policies false a b p q = p ∙ sym q
+  suited_one start policies true a b u v p q = input_one (input_of policies start) a b u v p q
+  suited_one start policies false a b u v p q = p ∙ sym q
 
   policies_one : (start : Start) (o : Option (List BinaryPolicy)) → IsOne (MeansPolicies command held start o)
-  policies_one start None a b p q = p ∙ sym q
-  policies_one start (Some policies) a b p q = suited_one start policies (suits policies start) a b p q
+  policies_one start None a b u v p q = p ∙ sym q
+  policies_one start (Some policies) a b u v p q = suited_one start policies (suits policies start) a b u v p q
 
   start_one : (o : Option Start) → IsOne (MeansStart command held o)
-  start_one None a b p q = p ∙ sym q
-  start_one (Some start) a b p q = fetches_one (held command.policy) (which.Policy 1) (λ text. MeansPolicies command held start (policies_in text)) (told command.policy) (λ text. policies_one start (policies_in text)) a b p q
+  start_one None a b u v p q = p ∙ sym q
+  start_one (Some start) a b u v p q = fetches_one (held command.policy) (which.Policy 1) (λ text. MeansPolicies command held start (policies_in text)) (told command.policy) (λ text. policies_one start (policies_in text)) a b u v p q
 
   command_some : IsOne (MeansCommand held (Some command))
   command_some = fetches_one (held command.script) which.Script (λ text. MeansStart command held (script_in text)) (told command.script) (λ text. start_one (script_in text))
 
 command_one : (held : List ℕ → Held) → ((name : List ℕ) → IsTold (held name)) → (o : Option Command) → IsOne (MeansCommand held o)
-command_one held told None a b p q = p ∙ sym q
-command_one held told (Some command) a b p q = command_some held told command a b p q
+command_one held told None a b u v p q = p ∙ sym q
+command_one held told (Some command) a b u v p q = command_some held told command a b u v p q
 
-pub one_meaning : (words : List (List ℕ)) (held : List ℕ → Held) (a b : Outcome) → ((name : List ℕ) → IsTold (held name)) → Means words held a → Means words held b → a ≡ b
-one_meaning words held a b told p q = command_one held told (command_in words) a b p q
+pub one_meaning : (words : List (List ℕ)) (held : List ℕ → Held) (a b : Outcome) → ((name : List ℕ) → IsTold (held name)) → is_stop a ≡ false → is_stop b ≡ false → Means words held a → Means words held b → a ≡ b
+one_meaning words held a b told u v p q = command_one held told (command_in words) a b u v p q

@@ -1,5 +1,5 @@
 -- How a call of the program ends, against what its words and files mean.
-use Rattle.std.specs.Prelude.{◌≡◌, ℕ, ◌⊎◌, List, Option, Result}
+use Rattle.std.specs.Prelude.{◌≡◌, ℕ, List, Option, Result}
 use Rattle.std.specs.Prelude.{Ok, Err}
 use Rattle.st_outside.specs.Count.{Rises}
 use Rattle.st_outside.specs.Files.{Held, Untold, Absent, Holds, CanLack, CanExceed}
@@ -11,7 +11,7 @@ use Rattle.st_law.specs.Machine.{run}
 use Rattle.st_top.specs.declared.status.Status.{Status}
 use Rattle.st_top.specs.declared.status.Status.TheVariants.{Done, Missing, Usage, ReadFault, WriteFault, NoMemory, TooLong, NotBuilt}
 use Rattle.st_top.specs.declared.status.Which.{Which}
-use Rattle.st_top.specs.Meaning.{Outcome, Refuses, Writes}
+use Rattle.st_top.specs.Meaning.{Outcome, Stops, Refuses, Writes}
 
 -- a text is what is meant to be written of some run, and the run is lawful
 pub record IsMeant (Meant : Outcome → Type 0) (text : List ℕ) : Type 0 where
@@ -20,13 +20,18 @@ pub record IsMeant (Meant : Outcome → Type 0) (text : List ℕ) : Type 0 where
   pub meant : Meant (Writes input choices text)
   pub lawful : Lawful input (run input choices)
 
--- before anything is written: a text is meant, or a status is meant, or the files' count of faults rose, or memory is wanting
+-- some file is come to, with all before it as it has to be
+abbrev pub IsStopped : (Outcome → Type 0) → Type 0
+IsStopped Meant = (which : Which) × Meant (Stops which)
+
+-- before anything is written: a status is meant, or a file that is come to can't be read and the files' count of faults rose, or
+-- memory is wanting
 abbrev pub Refused : (Outcome → Type 0) → ℕ → ℕ → Status → Type 0
 Refused Meant old new Usage = Meant (Refuses Usage)
 Refused Meant old new (Missing which) = Meant (Refuses (Missing which))
 Refused Meant old new (TooLong which) = Meant (Refuses (TooLong which))
 Refused Meant old new (NotBuilt which) = Meant (Refuses (NotBuilt which))
-Refused Meant old new ReadFault = Rises old new
+Refused Meant old new ReadFault = Rises old new × IsStopped Meant
 Refused Meant old new NoMemory = Unit {0}
 Refused Meant old new Done = ⊥
 Refused Meant old new WriteFault = ⊥
@@ -60,7 +65,8 @@ IsTold Untold = ⊥
 IsTold Absent = Unit {0}
 IsTold (Holds text) = Unit {0}
 
--- the status is that of the outcome, and the outcome's text was written
+-- the status is that of the outcome, and the outcome's text was written; of a stop nothing is said here
 abbrev pub Ends : Outcome → Option (List ℕ) → Option (List ℕ) → Status → Type 0
+Ends (Stops which) old new status = Unit {0}
 Ends (Refuses refusal) old new status = status ≡ refusal
 Ends (Writes input choices text) old new status = (status ≡ Done) × Appends old new text

@@ -21,17 +21,29 @@ use Rattle.st_top.specs.declared.status.Which.TheVariants as which
 use Rattle.st_top.specs.Command.{Command, command_in}
 use Rattle.st_top.specs.Cover.{suits}
 
--- what a call of the program comes to: it refuses, or it writes a text, that of a run by these choices
+-- what a call of the program comes to: it refuses, it writes a text, that of a run by these choices, or it stops at a file
+-- that can't be read
 pub data Outcome : Type 0 where
+  Stops : Which → Outcome
   Refuses : Status → Outcome
   Writes : Input → List Choice → List ℕ → Outcome
 
+-- whether an outcome is a stop, which any file that is come to can cause
+abbrev pub is_stop : Outcome → Bool
+is_stop (Stops which) = true
+is_stop (Refuses status) = false
+is_stop (Writes input choices text) = false
+
 -- a name that holds no file is missing, and one whose file is too long is refused; else the file is read
-abbrev pub Fetches : Held → Which → (List ℕ → Type 0) → Outcome → Type 0
-Fetches held which Read outcome =
+abbrev pub Reads : Held → Which → (List ℕ → Type 0) → Outcome → Type 0
+Reads held which Read outcome =
     (CanLack held × (outcome ≡ Refuses (Missing which))) ⊎
     ((CanExceed held × (outcome ≡ Refuses (TooLong which))) ⊎
     ((text : List ℕ) × CanHold held text × (length text ≤ FILE_LIMIT) × Read text))
+
+-- a file that is come to may also fail to be read
+abbrev pub Fetches : Held → Which → (List ℕ → Type 0) → Outcome → Type 0
+Fetches held which Read outcome = (outcome ≡ Stops which) ⊎ Reads held which Read outcome
 
 -- without options
 abbrev pub plain_options : Options

@@ -9,7 +9,7 @@ ghost use Rattle.st_audit.specs.Audit.{audit};
 ghost use Rattle.st_top.specs.declared.status.Which.{Which};
 ghost use Rattle.st_top.specs.Command.{command_in};
 ghost use Rattle.st_top.specs.Meaning.{Outcome, Refuses, Means, MeansCommand, MeansStart, MeansInput};
-ghost use Rattle.st_top.specs.Ends.{FetchRefused, Prepares, WritesWhole, WritesFront, IsTold, Ends};
+ghost use Rattle.st_top.specs.Ends.{FetchRefused, IsStopped, Prepares, WritesWhole, WritesFront, IsTold, Ends};
 
 use crate::command::{Command, command_of};
 use crate::cover::suits;
@@ -155,8 +155,9 @@ pub fn systrace_plain<F: Files, S: Sink>(
     ensures too_long { (which : Which) → result ≡ Status.TooLong which → Means words.now (F.held files.old) (Refuses (Status.TooLong which)) }
     ensures not_built { (which : Which) → result ≡ Status.NotBuilt which → Means words.now (F.held files.old) (Refuses (Status.NotBuilt which)) }
 
-    // A fault comes only where its count rose. What was written before a fault of writing is a front of the text.
-    ensures read_fault { result ≡ Status.ReadFault → Rises (F.faults files.old) (F.faults files.new) }
+    // A fault comes only where its count rose, and one of reading only at a file before which nothing is refused. What was
+    // written before a fault of writing is a front of the text.
+    ensures read_fault { result ≡ Status.ReadFault → Rises (F.faults files.old) (F.faults files.new) × IsStopped (Means words.now (F.held files.old)) }
     ensures write_fault { result ≡ Status.WriteFault → Rises (S.faults out.old) (S.faults out.new) }
     ensures front { result ≡ Status.WriteFault → WritesFront (Means words.now (F.held files.old)) (S.written out.old) (S.written out.new) }
 

@@ -1,9 +1,11 @@
-use Rattle.std.proofs.Common.{◌≡◌, ap, sym, ◌∙◌, subst, Some}
+use Rattle.std.proofs.Common.{ap, sym, ◌∙◌, subst, Some}
 use Rattle.st_outside.specs.Files.{CanHold}
 use Rattle.st_script.specs.Script.{script_in}
 use Rattle.st_top.specs.Command.{Command}
 use Rattle.st_top.specs.Meaning.{MeansStart, MeansCommand}
-use Rattle.st_top.proofs.Endings.{prepares_by, leads_from_command}
+use Rattle.st_top.specs.declared.status.Which.TheVariants as which
+use Rattle.st_top.specs.Ends.{FetchRefused, Prepares}
+use Rattle.st_top.proofs.Endings.{fetch_refused, handed_on, prepares_by, leads_from_command}
 use Rattle.st_top.proofs.plain.run_command.Goals as goal
 
 pub returns-in-Ok-clause-prepares : goal.returns-in-Ok-clause-prepares
@@ -17,3 +19,10 @@ returns-in-Ok-clause-prepares g c =
     (ap script_in (sym c.bytes.ensures) ∙ c.in-Ok.ensures.ok)
     o (subst (λ held. MeansStart c.args.command.now held (Some c.in-Ok.start) o) c.fetch.ensures.held m))
     c.run_start.ensures.prepares
+
+pub returns-in_err-text-clause-prepares : goal.returns-in_err-text-clause-prepares
+returns-in_err-text-clause-prepares g c =
+    handed_on (Prepares (MeansCommand (g.F.Files.held c.args.files.now) (Some c.args.command.now)) (g.F.Files.faults c.args.files.now) (g.F.Files.faults c.fetch.new.files)) c.in_err-text.field-0.0 c.from_residual.result c.from_residual.ensures.0 c.from_residual.ensures.1
+    (fetch_refused (g.F.Files.held c.args.files.now c.args.command.now.script) which.Script (λ text. MeansStart c.args.command.now (g.F.Files.held c.args.files.now) (script_in text))
+    (g.F.Files.faults c.args.files.now) (g.F.Files.faults c.fetch.new.files) c.in_err-text.field-0.0
+    (subst (λ name. FetchRefused (g.F.Files.held c.args.files.now name) which.Script (g.F.Files.faults c.args.files.now) (g.F.Files.faults c.fetch.new.files) c.in_err-text.field-0.0) (ap (λ (command : Command). command.script) c.command.view_is) c.in_err-text.ensures.refused))
