@@ -4,7 +4,7 @@ use Rattle.std.specs.BTreeMap.{BTreeMap, get}
 use Rattle.std.specs.Ordering.{nat_cmp}
 use Rattle.st_calls.specs.declared.call.SysCall.{SysCall}
 use Rattle.st_trace.specs.declared.entry.Entry.{Entry}
-use Rattle.st_trace.specs.declared.entry.Entry.TheVariants.{Entered, Used, Denied, Ended}
+use Rattle.st_trace.specs.declared.entry.Entry.TheVariants.{Entered, Used, Denied}
 use Rattle.st_law.specs.History.{History, pending}
 
 -- the call that a thread has entered, and that is neither made nor denied yet
@@ -16,7 +16,7 @@ abbrev pub entered_after : Entry → ℕ → Option SysCall → Option SysCall
 entered_after (Entered u call regs way) t before = if u == t then Some call else before
 entered_after (Used u seq call regs args ids result changes) t before = if u == t then None else before
 entered_after (Denied u seq errno cause) t before = if u == t then None else before
-entered_after (Ended u) t before = before
+entered_after _ t before = before
 
 -- what the map has for a thread
 abbrev pub entered_in : BTreeMap ℕ SysCall → ℕ → Option SysCall

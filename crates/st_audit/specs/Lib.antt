@@ -1,3 +1,5 @@
+pub mod Answer
+pub mod Argument
 pub mod Audit
 pub mod Entered
 pub mod Extends

@@ -1,51 +1,71 @@
 ghost use Rattle.std.specs.Prelude.{◌≡◌, ℕ, ◌∷◌, ◌++◌, IfOk, OnOk};
 ghost use Rattle.st_law.specs.History.{History};
+ghost use Rattle.st_audit.specs.Answer.{HasAnswers};
 ghost use Rattle.st_audit.specs.Audit.{audit, line_of};
 ghost use Rattle.st_audit.specs.Entered.{entered_after, entered_in, Knows};
 ghost use Rattle.st_audit.specs.Extends.{GrowsWithTheRun};
 
-use crate::line::{How, append_traced_line};
-use st_base::{Text, Tid};
+use crate::answer::{Answer, note_answer};
+use crate::argument::{args_denied, args_used};
+use crate::how::How;
+use crate::line::{Told, append_traced_line};
+use st_base::{Seq, Text, Tid};
 use st_calls::SysCall;
 use st_law::Input;
 use st_trace::{CallResult, Entry};
 use std::alloc::{AllocError, Global};
 use std::collections::BTreeMap;
 
-// Appends what an entry prints behind a history whose entered calls are known.
+// Appends what an entry prints behind a history whose entered calls and applied answers are known.
 fn append_entry(
     text: &mut Text,
     input: &Input,
     entered: &BTreeMap<Tid, SysCall>,
+    answers: &BTreeMap<Seq, Answer<'_>>,
     entry: &Entry,
 ) -> Result<(), AllocError>
-    ensures { OnOk result ((h : History) → Knows entered.now h → text.new ≡ text.old ++ line_of input.now h entry.now) }
+    ensures { OnOk result ((h : History) → Knows entered.now h → HasAnswers answers.now h → text.new ≡ text.old ++ line_of input.now h entry.now) }
 {
     match entry {
         Entry::Used {
             tid,
+            seq,
             call,
+            args,
             result: outcome,
             ..
-        } => append_traced_line(text, input, *tid, *call, How::Fast, *outcome),
+        } => {
+            let told = Told {
+                call: *call,
+                args: args_used(*seq, args.as_slice()),
+                how: How::used(answers, *seq),
+                outcome: *outcome,
+            };
+            append_traced_line(text, input, *tid, &told)
+        }
         Entry::Denied {
             tid,
+            seq,
             errno,
             cause,
-            ..
         } => match entered.get(tid) {
             Some(call) => {
-                let outcome = CallResult::Failed(*errno);
-                append_traced_line(text, input, *tid, *call, How::Denied(*cause), outcome)
+                let told = Told {
+                    call: *call,
+                    args: args_denied(answers, *seq, *cause),
+                    how: How::denied(*seq, *cause),
+                    outcome: CallResult::Failed(*errno),
+                };
+                append_traced_line(text, input, *tid, &told)
             }
             None => Ok(()),
         },
-        Entry::Entered { .. } | Entry::Ended { .. } => Ok(()),
+        _ => Ok(()),
     }
 }
 
 // Takes an entry into the map of entered calls.
-fn note_entry(entered: &mut BTreeMap<Tid, SysCall>, entry: &Entry) -> Result<(), AllocError>
+fn note_entered(entered: &mut BTreeMap<Tid, SysCall>, entry: &Entry) -> Result<(), AllocError>
     ensures { OnOk result ((t : ℕ) → entered_in entered.new t ≡ entered_after entry.now t (entered_in entered.old t)) }
 {
     match entry {
@@ -55,7 +75,7 @@ fn note_entry(entered: &mut BTreeMap<Tid, SysCall>, entry: &Entry) -> Result<(),
         Entry::Used { tid, .. } | Entry::Denied { tid, .. } => {
             entered.remove(tid);
         }
-        Entry::Ended { .. } => {}
+        _ => {}
     }
     Ok(())
 }
@@ -66,9 +86,11 @@ pub fn audit_text(alloc: Global, trace: &[Entry], input: &Input) -> Result<Text,
 {
     let mut text = Text::new(alloc);
     let mut entered = BTreeMap::new(alloc);
+    let mut answers = BTreeMap::new(alloc);
     for entry in trace {
-        append_entry(&mut text, input, &entered, entry)?;
-        note_entry(&mut entered, entry)?;
+        append_entry(&mut text, input, &entered, &answers, entry)?;
+        note_entered(&mut entered, entry)?;
+        note_answer(&mut answers, entry)?;
     }
     Ok(text)
 }

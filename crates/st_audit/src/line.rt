@@ -1,48 +1,43 @@
 ghost use Rattle.std.specs.Prelude.{◌≡◌, ◌++◌, option_copied, OnOk};
-ghost use Rattle.st_law.specs.History.{row_of, process, owner};
-ghost use Rattle.st_audit.specs.Audit.{result_text, cause_text, line_text, traced_line};
-ghost use Rattle.st_audit.specs.How.{how_text};
+ghost use Rattle.st_law.specs.History.{row_of, owner};
+ghost use Rattle.st_audit.specs.Audit.{result_text, caller_text, line_text, call_line};
 
+use crate::argument::append_args;
+use crate::how::{How, append_how};
 use st_base::{Pid, Text, Tid};
-use st_calls::SysCall;
+use st_calls::{ArgText, Rule, SysCall};
 use st_law::Input;
 use st_lex::quote;
-use st_trace::{CallResult, Cause};
+use st_trace::CallResult;
 use std::alloc::AllocError;
 
-/// How a call went.
-#[derive(Clone, Copy, Debug, PartialEq, Eq)]
-pub enum How {
-    Fast,
-    Denied(Cause),
-}
-
-// What a line says of a call: by which thread, and with what end.
+// Who makes a call, under which policy.
 #[derive(Clone, Copy)]
-struct Line<'a> {
+struct Caller<'a> {
     pid: Pid,
     tid: Tid,
     policy: &'a [u8],
-    call: SysCall,
-    how: How,
-    outcome: CallResult,
 }
 
-fn append_cause(text: &mut Text, cause: Cause) -> Result<(), AllocError>
-    ensures { OnOk result (text.new ≡ text.old ++ cause_text cause) }
-{
-    let Cause::Filter(number) = cause;
-    text.append(b"barred#")?;
-    text.append_number(u64::from(number))
+/// What a line says of a call: with which arguments it was made or denied, how, and with what end.
+#[derive(Clone, Copy)]
+pub struct Told<'a> {
+    pub call: SysCall,
+    pub args: &'a [ArgText],
+    pub how: How,
+    pub outcome: CallResult,
 }
 
-fn append_how(text: &mut Text, how: How) -> Result<(), AllocError>
-    ensures { OnOk result (text.new ≡ text.old ++ how_text how) }
+fn append_caller(text: &mut Text, caller: &Caller<'_>, call: SysCall) -> Result<(), AllocError>
+    ensures { OnOk result (text.new ≡ text.old ++ caller_text caller.now.pid caller.now.tid caller.now.policy.now call) }
 {
-    match how {
-        How::Fast => text.append(b"fast"),
-        How::Denied(cause) => append_cause(text, cause),
-    }
+    text.append_number(u64::from(caller.pid))?;
+    text.push(b'.')?;
+    text.append_number(u64::from(caller.tid))?;
+    text.push(b' ')?;
+    quote(caller.policy, text)?;
+    text.append(b" native-")?;
+    text.append(Rule::of(call).word())
 }
 
 fn append_result(text: &mut Text, outcome: CallResult) -> Result<(), AllocError>
@@ -54,20 +49,15 @@ fn append_result(text: &mut Text, outcome: CallResult) -> Result<(), AllocError>
     }
 }
 
-fn append_line(text: &mut Text, line: &Line<'_>) -> Result<(), AllocError>
-    ensures { OnOk result (text.new ≡ text.old ++ line_text line.now.pid line.now.tid line.now.policy.now line.now.call (how_text line.now.how) (result_text line.now.outcome)) }
+fn append_line(text: &mut Text, caller: &Caller<'_>, told: &Told<'_>) -> Result<(), AllocError>
+    ensures { OnOk result (text.new ≡ text.old ++ line_text caller.now.pid caller.now.tid caller.now.policy.now told.now.call told.now.args.now told.now.how told.now.outcome) }
 {
-    text.append_number(u64::from(line.pid))?;
-    text.push(b'.')?;
-    text.append_number(u64::from(line.tid))?;
+    append_caller(text, caller, told.call)?;
+    append_args(text, told.args)?;
     text.push(b' ')?;
-    quote(line.policy, text)?;
-    text.append(b" native-")?;
-    text.append(line.call.word())?;
-    text.push(b' ')?;
-    append_how(text, line.how)?;
+    append_how(text, told.how)?;
     text.append(b" = ")?;
-    append_result(text, line.outcome)?;
+    append_result(text, told.outcome)?;
     text.push(b'\n')
 }
 
@@ -94,25 +84,16 @@ pub fn append_traced_line(
     text: &mut Text,
     input: &Input,
     tid: Tid,
-    call: SysCall,
-    how: How,
-    outcome: CallResult,
+    told: &Told<'_>,
 ) -> Result<(), AllocError>
-    ensures { OnOk result (text.new ≡ text.old ++ traced_line (process input.now (owner input.now tid)) (owner input.now tid) tid call (how_text how) (result_text outcome)) }
+    ensures { OnOk result (text.new ≡ text.old ++ call_line input.now tid told.now.call told.now.args.now told.now.how told.now.outcome) }
 {
     let pid = owner(input, tid);
     match row_of(input.start.processes.as_slice(), pid) {
-        Some(row) if row.traced => append_line(
-            text,
-            &Line {
-                pid,
-                tid,
-                policy: row.binary.bytes(),
-                call,
-                how,
-                outcome,
-            },
-        ),
+        Some(row) if row.traced => {
+            let policy = row.binary.bytes();
+            append_line(text, &Caller { pid, tid, policy }, told)
+        }
         _ => Ok(()),
     }
 }

@@ -1,6 +1,6 @@
 use crate::audit_text;
 use st_base::{Errno, Ids, Pid, Sequence, Text, Tid};
-use st_calls::SysCall;
+use st_calls::{ArgText, Label, Rule, Snapshot, SysCall, Verdict};
 use st_law::{Input, Mode, Options};
 use st_policy::PolicySet;
 use st_trace::{CallResult, Cause, Entry, ProcessRow, Start, ThreadRow, Way};
@@ -38,9 +38,22 @@ fn input_of(alloc: Global, start: Start) -> Input {
     }
 }
 
+// A traced process with a thread.
+fn reader(alloc: Global) -> Result<Input, AllocError> {
+    let mut start = Start {
+        tree: Sequence::new(alloc),
+        processes: Sequence::new(alloc),
+        threads: Sequence::new(alloc),
+    };
+    add_process(alloc, &mut start, true, b"/bin/cat")?;
+    add_thread(alloc, &mut start, 1)?;
+    Ok(input_of(alloc, start))
+}
+
 // A traced process, an untraced one, and a traced one with bytes that are quoted, with a thread each.
 fn input(alloc: Global) -> Result<Input, AllocError> {
     let mut start = Start {
+        tree: Sequence::new(alloc),
         processes: Sequence::new(alloc),
         threads: Sequence::new(alloc),
     };
@@ -81,6 +94,62 @@ fn denied(tid: Tid, errno: Errno, number: u32) -> Entry {
         seq: None,
         errno,
         cause: Cause::Filter(number),
+    }
+}
+
+fn names(alloc: Global, index: u32, name: &[u8]) -> Result<Sequence<ArgText>, AllocError> {
+    let mut args = Sequence::new(alloc);
+    args.push(ArgText {
+        label: Label::Filename,
+        index,
+        text: Text::of(alloc, name)?,
+    })?;
+    Ok(args)
+}
+
+fn answered(
+    alloc: Global,
+    seq: u64,
+    name: &[u8],
+    verdict: Verdict,
+    applied: bool,
+) -> Result<Entry, AllocError> {
+    Ok(Entry::Answered {
+        worker: 1,
+        snapshot: Snapshot {
+            seq,
+            pid: 1,
+            ids: Ids::of(1000, 1000),
+            policy: Text::of(alloc, b"/bin/cat")?,
+            rule: Rule::FsRead,
+            call: SysCall::Open,
+            regs: [0; 6],
+            parts: names(alloc, 0, name)?,
+        },
+        verdict,
+        applied,
+    })
+}
+
+fn used_held(seq: u64, args: Sequence<ArgText>, alloc: Global) -> Entry {
+    Entry::Used {
+        tid: 1,
+        seq: Some(seq),
+        call: SysCall::Open,
+        regs: [0; 6],
+        args,
+        ids: Ids::of(1000, 1000),
+        result: CallResult::Value(3),
+        changes: Sequence::new(alloc),
+    }
+}
+
+fn denied_held(seq: u64, errno: Errno, cause: Cause) -> Entry {
+    Entry::Denied {
+        tid: 1,
+        seq: Some(seq),
+        errno,
+        cause,
     }
 }
 
@@ -127,6 +196,47 @@ fn quotes_the_policy(rt: HostRuntime) -> Result<(), Fail> {
     )];
     let text = audit_text(alloc, &trace, &input(alloc)?)?;
     let expected = b"3.3 \"/c\\\"\\x24\" native-geteuid fast = ENOSYS\n";
+    assert_eq!(rt; text.bytes(), expected.as_slice());
+    Ok(())
+}
+
+#[test]
+fn prints_held_calls(rt: HostRuntime) -> Result<(), Fail> {
+    let alloc = rt.alloc();
+    let permit = Verdict::Permit(1, Ids::of(1000, 1000));
+    let trace = [
+        entered(1, SysCall::Open, Way::Held(1)),
+        Entry::Claimed { worker: 1, seq: 1 },
+        answered(alloc, 1, b"/etc/hosts", permit, true)?,
+        used_held(1, names(alloc, 0, b"/etc/hosts")?, alloc),
+        entered(1, SysCall::Open, Way::Held(2)),
+        answered(alloc, 2, b"/etc/spwd", Verdict::Unmatched, true)?,
+        denied_held(2, Errno::EPERM, Cause::NoFilter),
+    ];
+    let text = audit_text(alloc, &trace, &reader(alloc)?)?;
+    let expected =
+        b"1.1 \"/bin/cat\" native-fsread filename=\"/etc/hosts\" permit#1 = 3\n1.1 \"/bin/cat\" native-fsread filename=\"/etc/spwd\" nofilter = EPERM\n";
+    assert_eq!(rt; text.bytes(), expected.as_slice());
+    Ok(())
+}
+
+#[test]
+fn prints_refusals_and_faults(rt: HostRuntime) -> Result<(), Fail> {
+    let alloc = rt.alloc();
+    let refuse = Verdict::Refuse(2, Errno::ENOENT);
+    let trace = [
+        entered(1, SysCall::Open, Way::Held(1)),
+        answered(alloc, 1, b"/etc/spwd", refuse, true)?,
+        answered(alloc, 1, b"/tmp/x", Verdict::Unmatched, false)?,
+        answered(alloc, 2, b"/tmp/y", Verdict::Unmatched, true)?,
+        denied_held(1, Errno::ENOENT, Cause::Filter(2)),
+        entered(1, SysCall::Open, Way::Held(2)),
+        denied_held(2, Errno::EPERM, Cause::Fault),
+        used_held(3, names(alloc, 1, b"/tmp/z")?, alloc),
+    ];
+    let text = audit_text(alloc, &trace, &reader(alloc)?)?;
+    let expected =
+        b"1.1 \"/bin/cat\" native-fsread filename=\"/etc/spwd\" deny#2 = ENOENT\n1.1 \"/bin/cat\" native-fsread fault = EPERM\n1.1 \"/bin/cat\" native-fsread filename[1]=\"/tmp/z\" permit#0 = 3\n";
     assert_eq!(rt; text.bytes(), expected.as_slice());
     Ok(())
 }

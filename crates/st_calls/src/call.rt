@@ -9,15 +9,17 @@ pub enum SysCall {
     GetUid,
     GetEuid,
     Exit,
+    Open,
 }
 
 impl SysCall {
     /// Every call of the model.
-    pub const ALL: [SysCall; 4] = [
+    pub const ALL: [SysCall; 5] = [
         SysCall::GetPid,
         SysCall::GetUid,
         SysCall::GetEuid,
         SysCall::Exit,
+        SysCall::Open,
     ];
 
     /// The name, as a script writes it, and a policy behind `native-`.
@@ -29,6 +31,7 @@ impl SysCall {
             SysCall::GetUid => b"getuid",
             SysCall::GetEuid => b"geteuid",
             SysCall::Exit => b"exit",
+            SysCall::Open => b"open",
         }
     }
 

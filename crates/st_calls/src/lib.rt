@@ -3,10 +3,12 @@
 
 pub mod argument;
 pub mod call;
+pub mod judged;
 pub mod rule;
 
-pub use argument::{ArgText, Label};
+pub use argument::{ArgSpec, ArgText, Label, PartKind, args_of};
 pub use call::SysCall;
+pub use judged::{Snapshot, Verdict};
 pub use rule::{FastAnswer, RULES, Rule};
 
 #[cfg(test)]

@@ -1,25 +1,50 @@
 ghost use Rattle.std.specs.Prelude.{◌≡◌, ◌<◌};
-ghost use Rattle.st_calls.specs.Call.{rule_of, index_of_rule};
+ghost use Rattle.st_calls.specs.Call.{rule_of, name_of_rule, index_of_rule};
 
 use crate::call::SysCall;
 use st_base::Errno;
 
 /// How many rules there are.
-pub const RULES: usize = 4;
+pub const RULES: usize = 6;
 
 /// The name under which a policy judges a call.
 #[derive(Clone, Copy, Debug, PartialEq, Eq)]
 pub enum Rule {
     /// The call's own name.
     Call(SysCall),
+    /// What only reads names and files, by the alias of systrace(1).
+    FsRead,
 }
 
 impl Rule {
+    /// Every rule, each at its place.
+    pub const ALL: [Rule; RULES] = [
+        Rule::Call(SysCall::GetPid),
+        Rule::Call(SysCall::GetUid),
+        Rule::Call(SysCall::GetEuid),
+        Rule::Call(SysCall::Exit),
+        Rule::Call(SysCall::Open),
+        Rule::FsRead,
+    ];
+
     /// The rule of a call.
     pub fn of(call: SysCall) -> Self
         ensures { result ≡ rule_of call }
     {
-        Rule::Call(call)
+        match call {
+            SysCall::Open => Rule::FsRead,
+            _ => Rule::Call(call),
+        }
+    }
+
+    /// The name, as a policy writes it behind `native-`.
+    pub fn word(self) -> &'static [u8]
+        ensures { result.now ≡ name_of_rule self }
+    {
+        match self {
+            Rule::Call(call) => call.word(),
+            Rule::FsRead => b"fsread",
+        }
     }
 
     /// The rule's place among all, from 0 and below `RULES`, for tables by rule.
@@ -32,6 +57,8 @@ impl Rule {
             Rule::Call(SysCall::GetUid) => 1,
             Rule::Call(SysCall::GetEuid) => 2,
             Rule::Call(SysCall::Exit) => 3,
+            Rule::Call(SysCall::Open) => 4,
+            Rule::FsRead => 5,
         }
     }
 }

@@ -7,6 +7,7 @@ fn words_name_calls(rt: HostRuntime) {
         (b"getuid", Some(SysCall::GetUid)),
         (b"geteuid", Some(SysCall::GetEuid)),
         (b"exit", Some(SysCall::Exit)),
+        (b"open", Some(SysCall::Open)),
         (b"getgid", None),
         (b"Exit", None),
     ];
@@ -16,8 +17,9 @@ fn words_name_calls(rt: HostRuntime) {
 }
 
 #[test]
-fn a_call_is_judged_by_its_own_rule(rt: HostRuntime) {
+fn a_call_is_judged_by_its_rule(rt: HostRuntime) {
     assert_eq!(rt; SysCall::GetEuid.word(), b"geteuid".as_slice());
     assert_eq!(rt; Rule::of(SysCall::Exit), Rule::Call(SysCall::Exit));
     assert_eq!(rt; Rule::of(SysCall::Exit).index(), 3);
+    assert_eq!(rt; Rule::of(SysCall::Open).word(), b"fsread".as_slice());
 }

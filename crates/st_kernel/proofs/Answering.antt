@@ -1,9 +1,9 @@
 -- The table of the kernel's own answers, at a rule.
 use Rattle.std.proofs.Common.{◌≡◌, List, refl, get_or}
-use Rattle.st_calls.specs.declared.call.SysCall.TheVariants.{GetPid, GetUid, GetEuid, Exit}
+use Rattle.st_calls.specs.declared.call.SysCall.TheVariants.{GetPid, GetUid, GetEuid, Exit, Open}
 use Rattle.st_calls.specs.declared.rule.FastAnswer.{FastAnswer}
 use Rattle.st_calls.specs.declared.rule.Rule.{Rule}
-use Rattle.st_calls.specs.declared.rule.Rule.TheVariants.{Call}
+use Rattle.st_calls.specs.declared.rule.Rule.TheVariants.{Call, FsRead}
 use Rattle.st_calls.specs.Call.{index_of_rule}
 use Rattle.st_policy.specs.Fast.{fast}
 use Rattle.st_policy.specs.Formula.{FilterValue}
@@ -16,3 +16,5 @@ fast_answers-at filters (Call GetPid) d = refl
 fast_answers-at filters (Call GetUid) d = refl
 fast_answers-at filters (Call GetEuid) d = refl
 fast_answers-at filters (Call Exit) d = refl
+fast_answers-at filters (Call Open) d = refl
+fast_answers-at filters FsRead d = refl

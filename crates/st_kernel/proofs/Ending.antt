@@ -1,190 +1,148 @@
--- A run of one thread ends, within the steps that `rest` allows.
-use Rattle.std.proofs.Common.{◌≡◌, ℕ, zero, suc, ◌+◌, ◌*◌, ◌<◌, ◌≤◌, Bool, true, false, cond, ◌||◌, ◌==◌, List, [], ◌∷◌, ◌++◌, length, reverse, drop, take, Option, Some, None, refl, sym, ap, ◌∙◌, subst, arith, option_map, sum_by, append_assoc}
+-- A run of one thread ends: each step leaves less to do.
+use native.Mathlib.Omega.{arith}
+use Rattle.std.proofs.Common.{◌≡◌, ◌<◌, ◌≤◌, ℕ, ◌+◌, ◌-◌, Bool, true, false, cond, ◌==◌, List, [], ◌∷◌, ◌++◌, length, slice_index, ◌&&◌, Option, Some, None, refl, sym, ap, subst}
+use Rattle.st_base.specs.declared.errno.Errno.{Errno}
+use Rattle.st_calls.specs.declared.argument.ArgSpec.{ArgSpec}
+use Rattle.st_calls.specs.declared.argument.Label.TheVariants.{Filename}
+use Rattle.st_calls.specs.declared.argument.PartKind.TheVariants.{Name}
 use Rattle.st_calls.specs.declared.call.SysCall.{SysCall}
-use Rattle.st_calls.specs.declared.rule.FastAnswer.{FastAnswer}
-use Rattle.st_calls.specs.declared.rule.FastAnswer.TheVariants as answer
-use Rattle.st_trace.specs.declared.entry.Choice.{Choice}
-use Rattle.st_trace.specs.declared.entry.Choice.TheVariants as choice
-use Rattle.st_trace.specs.declared.entry.Entry.{Entry}
-use Rattle.st_trace.specs.declared.entry.Entry.TheVariants.{Entered, Used, Denied, Ended}
+use Rattle.st_calls.specs.declared.call.SysCall.TheVariants.{GetPid, GetUid, GetEuid, Exit, Open}
+use Rattle.st_calls.specs.Argument.{args_of}
+use Rattle.st_calls.specs.Spelling as spelling
+use Rattle.st_calls.proofs.Spelled.{few_words, short_text}
+use Rattle.st_names.specs.Name.{Components}
+use Rattle.st_names.specs.Walk as walk
+use Rattle.st_names.specs.declared.seen.SeenText.{SeenText}
+use Rattle.st_names.specs.Tree.{Tree, root_only, add_object}
+use Rattle.st_names.proofs.Endings.{AreWithin, AreWithin-push, link_length}
+use Rattle.st_names.proofs.Looks.{AreNoLinks, AreNoLinks-push, is_link, look-no_link, few_looks}
+use Rattle.st_trace.specs.Progress.{Progress, Word, Look, Stuck, Ready, progress_from, by_spelling, by_walk}
+use Rattle.st_trace.specs.declared.entry.Entry.TheVariants.{Stored, Entered, Claimed, Copied, Looked, Faulted, Answered, Used, Denied, Ended}
 use Rattle.st_trace.specs.declared.entry.Way.{Way}
-use Rattle.st_trace.specs.declared.entry.Way.TheVariants.{Fast, Barred}
+use Rattle.st_trace.specs.declared.entry.Way.TheVariants.{Fast, Barred, Held}
 use Rattle.st_trace.specs.declared.start.Instr.{Instr}
-use Rattle.st_trace.specs.declared.start.Instr.TheVariants.{Call}
+use Rattle.st_trace.specs.declared.start.Instr.TheVariants.{Store, Call}
+use Rattle.st_trace.specs.declared.start.RowKind.{RowKind}
+use Rattle.st_trace.specs.declared.start.RowKind.TheVariants as row_kind
+use Rattle.st_trace.specs.declared.start.TreeRow.{TreeRow}
 use Rattle.st_law.specs.declared.input.Input.{Input}
-use Rattle.st_law.specs.History.{History, Process, body, body_in, row_of, Pending, pending, left, has_ended}
-use Rattle.st_law.specs.Machine.{Thread, thread_after, State, after, state, thread_entry, proceeds, goes_on, finished, denied_by, way_for, answer_for, entry_of, Move, move_or, first_from, first_enabled, rest, most_steps}
-use Rattle.st_law.proofs.Ties.{thread_at, thread-is}
-use Rattle.st_law.proofs.Steps.{Says, unless, either}
-use Rattle.st_kernel.specs.Runs.{Run, IsOneThread, IsAdvanced, state_of, entry_at, left_of}
-use Rattle.st_kernel.proofs.Stepping.{state_more}
+use Rattle.st_law.specs.History.{History, Head, Pending, head, words, seens, progress, progress_by, node_by, node_of_row, tree_from, tree_of, left, pending, has_ended, is_claimed, is_answered, fault_of}
+use Rattle.st_law.specs.Lawful.{IsLawfulBack}
 
-abbrev pub pending_count : Option Pending → ℕ
-pending_count None = 0
-pending_count (Some p) = 1
+abbrev name_spec : ArgSpec
+name_spec = record { label = Filename; index = 0; register = 0; kind = Name }
 
--- how many steps a thread has at most
-abbrev pub steps_left : Thread → ℕ
-steps_left thread = cond thread.ended 0 (1 + 2 * length thread.left + pending_count thread.pending)
+-- the words that are copied before another, and the looks before another, of the one part that a call has
+abbrev pub Bounded : ℕ → List ℕ → List SeenText → Progress → Type 0
+Bounded n words seens (Word part place) = (part ≡ 0) × (length words ≤ 128)
+Bounded n words seens (Look part name) = (part ≡ 0) × (length seens < 1024)
+Bounded n words seens (Stuck errno) = Unit {0}
+Bounded n words seens (Ready args) = Unit {0}
 
--- the entry leaves the thread fewer steps
-abbrev pub Lowers : Thread → Entry → Type 0
-Lowers thread e = steps_left (thread_after e 1 thread) < steps_left thread
+walking : (text : List ℕ) (cwd : Components) (words : List ℕ) (seens : List SeenText) → length text ≤ 1024 → AreWithin 0 seens → (w : walk.Walked) → walk.start_walk text cwd true seens ≡ w → Bounded 0 words seens (by_walk 0 name_spec w (Ready []))
+walking text cwd words seens short none (walk.Name name) e = tt
+walking text cwd words seens short none (walk.Fault errno) e = tt
+walking text cwd words seens short none (walk.Next name) e =
+    let early = few_looks cwd text true seens none (ap walk.asks e) in (refl, omega (arith, short, early))
 
-or_false : (a b : Bool) → (a || b) ≡ false → b ≡ false
-or_false true b h = cc
-or_false false b h = h
+spelled : (at : ℕ) (cwd : Components) (words : List ℕ) (seens : List SeenText) → AreWithin 0 seens → (s : spelling.Spelled) → spelling.spell_name at words ≡ s → Bounded 0 words seens (by_spelling 0 name_spec cwd seens s (Ready []))
+spelled at cwd words seens none (spelling.More place) e = (refl, few_words at place words e)
+spelled at cwd words seens none (spelling.Fault errno) e = tt
+spelled at cwd words seens none (spelling.Text text) e =
+    walking text cwd words seens (short_text at words text e) none (walk.start_walk text cwd true seens) refl
 
-fewer : (b : Bool) (m n : ℕ) → b ≡ false → m < n → cond b 0 m < cond b 0 n
-fewer true m n e h = cc
-fewer false m n e h = h
+by_call : (call : SysCall) (regs : List ℕ) (cwd : Components) (words : ℕ → List ℕ) (seens : ℕ → List SeenText) → AreWithin 0 (seens 0) → Bounded 0 (words 0) (seens 0) (progress_from 0 (args_of call) regs cwd words seens)
+by_call GetPid regs cwd words seens none = tt
+by_call GetUid regs cwd words seens none = tt
+by_call GetEuid regs cwd words seens none = tt
+by_call Exit regs cwd words seens none = tt
+by_call Open regs cwd words seens none = spelled (slice_index regs 0) cwd (words 0) (seens 0) none (spelling.spell_name (slice_index regs 0) (words 0)) refl
 
-ended_lowers : (thread : Thread) → thread.ended ≡ false → Lowers thread (Ended 1)
-ended_lowers thread live = subst (λ b. 0 < cond b 0 (1 + 2 * length thread.left + pending_count thread.pending)) (sym live) (omega arith)
+bounded : (o : Option Head) (words : ℕ → List ℕ) (seens : ℕ → List SeenText) → AreWithin 0 (seens 0) → Bounded 0 (words 0) (seens 0) (progress_by o words seens)
+bounded None words seens none = tt
+bounded (Some hd) words seens none = by_call hd.call hd.regs hd.cwd words seens none
 
-entered_lowers : (thread : Thread) (x : Instr) (later : List Instr) → thread.ended ≡ false → thread.left ≡ x ∷ later → 1 + 2 * length (drop 1 thread.left) + 1 < 1 + 2 * length thread.left + pending_count thread.pending
-entered_lowers thread x later live e =
-    let less : length (drop 1 thread.left) ≡ length later = (λ k. length (drop 1 (e k))) in
-    let more : length thread.left ≡ suc (length later) = (λ k. length (e k)) in
-    omega arith
+-- ---- a script's tree has no links
 
-finished_lowers : (thread : Thread) (p : Pending) → thread.ended ≡ false → thread.pending ≡ Some p → 1 + 2 * length thread.left + 0 < 1 + 2 * length thread.left + pending_count thread.pending
-finished_lowers thread p live e =
-    let one : pending_count thread.pending ≡ 1 = (λ k. pending_count (e k)) in omega arith
+row_kind-no_link : (kind : RowKind) (uid gid mode : ℕ) → is_link (node_by kind uid gid mode).kind ≡ false
+row_kind-no_link row_kind.Dir uid gid mode = refl
+row_kind-no_link (row_kind.File content) uid gid mode = refl
 
-module _ (i : Input) (p : Process) (thread : Thread) (live : thread.ended ≡ false) where
-  entering : (call : SysCall) (regs : List ℕ) (later : List Instr) → thread.left ≡ Call call regs ∷ later → (w : Option Way) → Says (Lowers thread) (option_map (λ way. Entered 1 call regs way) w)
-  entering call regs later e None = tt
-  entering call regs later e (Some way) = fewer thread.ended _ _ live (entered_lowers thread (Call call regs) later live e)
+tree_from-no_links : (tree : Tree) (rows : List TreeRow) → AreNoLinks tree.objects → AreNoLinks (tree_from tree rows).objects
+tree_from-no_links tree [] all = all
+tree_from-no_links tree (row ∷ rows) all =
+    tree_from-no_links (add_object tree row.name (node_of_row row.new)) rows
+    (AreNoLinks-push tree.objects (node_of_row row.new) all (row_kind-no_link row.new.kind row.new.uid row.new.gid row.new.mode))
 
-  going_on : (rest : List Instr) → thread.left ≡ rest → Says (Lowers thread) (goes_on i p 1 rest)
-  going_on [] e = ended_lowers thread live
-  going_on (Call call regs ∷ later) e = entering call regs later e (way_for i p call)
+grow_within : (b : Bool) (before : List SeenText) (seen : SeenText) → AreWithin 0 before → link_length seen ≤ 0 → AreWithin 0 (cond b (before ++ seen ∷ []) before)
+grow_within true before seen all here = AreWithin-push 0 before seen all here
+grow_within false before seen all here = all
 
-  denying : (q : Pending) → thread.pending ≡ Some q → (n : ℕ) (given : FastAnswer) → Says (Lowers thread) (denied_by 1 n given)
-  denying q e n answer.Permit = tt
-  denying q e n (answer.Refuse errno) = fewer thread.ended _ _ live (finished_lowers thread q live e)
-  denying q e n answer.Ask = tt
+seens-within : (i : Input) (h : History) (q j : ℕ) → IsLawfulBack i h → AreWithin 0 (seens h q j)
+seens-within i [] q j l = tt
+seens-within i (Stored t place word ∷ h) q j l = seens-within i h q j l.1
+seens-within i (Entered t call regs way ∷ h) q j l = seens-within i h q j l.1
+seens-within i (Claimed w p ∷ h) q j l = seens-within i h q j l.1
+seens-within i (Copied p part place word ∷ h) q j l = seens-within i h q j l.1
+seens-within i (Looked p part name seen ∷ h) q j l =
+    grow_within (p == q && part == j) (seens h q j) seen (seens-within i h q j l.1)
+    (subst (λ s. link_length s ≤ 0) (sym l.0.seen_is) (look-no_link (tree_of i) name (tree_from-no_links root_only i.start.tree (refl, tt))))
+seens-within i (Faulted p errno ∷ h) q j l = seens-within i h q j l.1
+seens-within i (Answered w s v applied ∷ h) q j l = seens-within i h q j l.1
+seens-within i (Used t seq call regs args ids result changes ∷ h) q j l = seens-within i h q j l.1
+seens-within i (Denied t seq errno cause ∷ h) q j l = seens-within i h q j l.1
+seens-within i (Ended t ∷ h) q j l = seens-within i h q j l.1
 
-  finishing : (pid : ℕ) (q : Pending) → thread.pending ≡ Some q → (call : SysCall) (regs : List ℕ) (way : Way) → Says (Lowers thread) (finished i p 1 pid call regs way)
-  finishing pid q e call regs Fast = fewer thread.ended _ _ live (finished_lowers thread q live e)
-  finishing pid q e call regs (Barred n) = denying q e n (answer_for i p call)
+pub due : (i : Input) (h : History) (q : ℕ) → IsLawfulBack i h → Bounded 0 (words h q 0) (seens h q 0) (progress i h q)
+due i h q l = bounded (head i h q) (words h q) (seens h q) (seens-within i h q 0 l)
 
-  proceeding : (pid : ℕ) (o : Option Pending) → thread.pending ≡ o → Says (Lowers thread) (proceeds i p 1 pid o thread.left)
-  proceeding pid None e = going_on thread.left refl
-  proceeding pid (Some q) e = finishing pid q e q.call q.regs q.way
+-- ---- what a run has left to do
 
--- each step leaves the thread fewer steps
-lowered : (i : Input) (p : Process) (thread : Thread) → Says (Lowers thread) (thread_entry i p 1 thread)
-lowered i p thread = unless (Lowers thread) (thread.owner == 0 || thread.ended) _ (λ alive.
-    let live : thread.ended ≡ false = or_false (thread.owner == 0) thread.ended alive in
-    either (Lowers thread) thread.dying _ _
-    (λ dying. ended_lowers thread live)
-    (λ undying. proceeding i p thread live thread.owner thread.pending refl))
+abbrev pub cost_of : Instr → ℕ
+cost_of (Store place word) = 1
+cost_of (Call call regs) = 2000
 
-lower_next : (i : Input) (st : State) (e : Entry) → entry_of i st (choice.Thread 1) ≡ Some e → steps_left (thread_after e 1 (st.threads 1)) < steps_left (st.threads 1)
-lower_next i st e is = subst (Says (Lowers (st.threads 1))) is (lowered i (st.processes (st.threads 1).owner) (st.threads 1))
+abbrev pub left_cost : List Instr → ℕ
+left_cost [] = 0
+left_cost (x ∷ xs) = cost_of x + left_cost xs
 
-shorter_when : (b : Bool) (xs : List Instr) (n : ℕ) → length xs ≤ n → length (cond b (drop 1 xs) xs) ≤ n
-shorter_when true [] n h = h
-shorter_when true (x ∷ xs) n h = omega arith
-shorter_when false xs n h = h
+abbrev pub message_cost : Bool → Option Errno → Bool → ℕ → ℕ → ℕ
+message_cost claimed (Some errno) answered w s = 0
+message_cost claimed None true w s = 0
+message_cost claimed None false w s = 1 + cond claimed 0 1 + (129 - w) + (1024 - s)
 
-left_shorter : (i : Input) (h : History) (t : ℕ) → length (left i h t) ≤ length (body i t)
-left_shorter i [] t = omega arith
-left_shorter i (Entered u call regs way ∷ h) t = shorter_when (u == t) (left i h t) (length (body i t)) (left_shorter i h t)
-left_shorter i (Used u seq call regs args ids result changes ∷ h) t = left_shorter i h t
-left_shorter i (Denied u seq errno cause ∷ h) t = left_shorter i h t
-left_shorter i (Ended u ∷ h) t = left_shorter i h t
+abbrev pub way_cost : History → Way → ℕ
+way_cost h Fast = 1
+way_cost h (Barred n) = 1
+way_cost h (Held q) = 1 + message_cost (is_claimed h q) (fault_of h q) (is_answered h q) (length (words h q 0)) (length (seens h q 0))
 
-count_small : (o : Option Pending) → pending_count o ≤ 1
-count_small None = omega arith
-count_small (Some p) = omega arith
+abbrev pub pending_cost : History → Option Pending → ℕ
+pending_cost h None = 0
+pending_cost h (Some p) = way_cost h p.way
 
-cond_small : (b : Bool) (n m : ℕ) → n ≤ m → cond b 0 n ≤ m
-cond_small true n m h = omega arith
-cond_small false n m h = h
+-- more than the steps that the run of one thread has left
+abbrev pub cost : Input → History → ℕ
+cost i h = cond (has_ended h 1) 0 (1 + left_cost (left i h 1) + pending_cost h (pending h 1))
 
--- the fuel of `rest` is enough
-steps_at_most : (i : Input) (h : History) → IsOneThread i → steps_left ((state i h).threads 1) ≤ most_steps i
-steps_at_most i h one =
-    let same : (state i h).threads 1 ≡ thread_at i h 1 = thread-is i h 1 in
-    let shorter : length (left i h 1) ≤ length (body i 1) = left_shorter i h 1 in
-    let small : pending_count (pending h 1) ≤ 1 = count_small (pending h 1) in
-    let its : length (body i 1) ≡ length one.thread.body = (λ k. length (body_in (row_of (one.threads k) 1))) in
-    let all : most_steps i ≡ 10000 * (0 + length one.thread.body + 1) = (λ k. 10000 * (sum_by (λ row. length row.body) (one.threads k) + 1)) in
-    let bound : 1 + 2 * length (left i h 1) + pending_count (pending h 1) ≤ most_steps i = omega arith in
-    subst (λ (thread : Thread). steps_left thread ≤ most_steps i) (sym same) (cond_small (has_ended h 1) _ _ bound)
+claimed_small : (claimed : Bool) → cond claimed 0 1 ≤ 1
+claimed_small true = omega arith
+claimed_small false = omega arith
 
-first_is : (i : Input) (st : State) → IsOneThread i → first_enabled i st ≡ move_or (choice.Thread 1) (entry_of i st (choice.Thread 1)) None
-first_is i st one = λ k. first_from i st 1 (length (one.threads k))
+message_small : (claimed : Bool) (o : Option Errno) (answered : Bool) (w s : ℕ) → message_cost claimed o answered w s ≤ 1155
+message_small claimed (Some errno) answered w s = omega arith
+message_small claimed None true w s = omega arith
+message_small claimed None false w s = let small = claimed_small claimed in omega (arith, small)
 
-first_none : (i : Input) (st : State) → IsOneThread i → entry_of i st (choice.Thread 1) ≡ None → first_enabled i st ≡ None
-first_none i st one is = first_is i st one ∙ (λ k. move_or (choice.Thread 1) (is k) None)
+pub way_small : (h : History) (way : Way) → way_cost h way ≤ 1156
+way_small h Fast = omega arith
+way_small h (Barred n) = omega arith
+way_small h (Held q) = let small = message_small (is_claimed h q) (fault_of h q) (is_answered h q) (length (words h q 0)) (length (seens h q 0)) in omega (arith, small)
 
-first_some : (i : Input) (st : State) (e : Entry) → IsOneThread i → entry_of i st (choice.Thread 1) ≡ Some e → first_enabled i st ≡ Some (record { choice = choice.Thread 1; entry = e })
-first_some i st e one is = first_is i st one ∙ (λ k. move_or (choice.Thread 1) (is k) None)
+pub way_some : (h : History) (way : Way) → 1 ≤ way_cost h way
+way_some h Fast = omega arith
+way_some h (Barred n) = omega arith
+way_some h (Held q) = omega arith
 
-abbrev more_by : ℕ → Input → State → Option Move → List Choice
-more_by n i st None = []
-more_by n i st (Some m) = m.choice ∷ rest n i (after st m.entry)
-
-rest_by : (n : ℕ) (i : Input) (st : State) (o : Option Move) → first_enabled i st ≡ o → rest (suc n) i st ≡ more_by n i st o
-rest_by n i st None e = ap (λ (o : Option Move). elim o [ None ↦ [] | Some m ↦ m.choice ∷ rest n i (after st m.entry) ]) e
-rest_by n i st (Some m) e = ap (λ (o : Option Move). elim o [ None ↦ [] | Some m ↦ m.choice ∷ rest n i (after st m.entry) ]) e
-
-rest_none : (n : ℕ) (i : Input) (st : State) → first_enabled i st ≡ None → rest n i st ≡ []
-rest_none zero i st e = refl
-rest_none (suc n) i st e = rest_by n i st None e
-
--- more fuel than the thread has steps changes nothing
-rest_more : (i : Input) → IsOneThread i → (n : ℕ) (st : State) → steps_left (st.threads 1) ≤ n → (o : Option Entry) → entry_of i st (choice.Thread 1) ≡ o → rest (suc n) i st ≡ rest n i st
-rest_more i one n st enough None is =
-    let none : first_enabled i st ≡ None = first_none i st one is in rest_none (suc n) i st none ∙ sym (rest_none n i st none)
-rest_more i one zero st enough (Some e) is =
-    let lower : steps_left (thread_after e 1 (st.threads 1)) < steps_left (st.threads 1) = lower_next i st e is in absurd (omega arith)
-rest_more i one (suc n) st enough (Some e) is =
-    let lower : steps_left (thread_after e 1 (st.threads 1)) < steps_left (st.threads 1) = lower_next i st e is in
-    let first : first_enabled i st ≡ Some (record { choice = choice.Thread 1; entry = e }) = first_some i st e one is in
-    rest_by (suc n) i st _ first ∙
-    ap (λ (cs : List Choice). choice.Thread 1 ∷ cs) (rest_more i one n (after st e) (omega arith) (entry_of i (after st e) (choice.Thread 1)) refl) ∙
-    sym (rest_by n i st _ first)
-
--- what is left is the first enabled choice, and what is left behind it
-rest_step : (i : Input) (n : ℕ) (st : State) (e : Entry) → IsOneThread i → steps_left (st.threads 1) ≤ n → entry_of i st (choice.Thread 1) ≡ Some e → rest n i st ≡ choice.Thread 1 ∷ rest n i (after st e)
-rest_step i n st e one enough is = sym (rest_more i one n st enough (Some e) is) ∙ rest_by n i st _ (first_some i st e one is)
-
-some_is : (x y : List Entry) → Some x ≡ Some y → x ≡ y
-some_is x y e = cc
-
--- the state of a run that was advanced
-state_next : (old new : Run) (c : Choice) (e : Entry) → IsAdvanced old c new → entry_at old c ≡ Some e → state_of new ≡ after (state_of old) e
-state_next old new c e step is =
-    let grown : Some (old.trace ++ e ∷ []) ≡ Some new.trace = sym (λ k. option_map (λ entry. old.trace ++ entry ∷ []) (is k)) ∙ step.trace in
-    let same : new.trace ≡ old.trace ++ e ∷ [] = sym (some_is _ _ grown) in
-    (λ k. state (step.input k) (reverse (same k))) ∙ state_more old.input old.trace e
-
--- a step of the first enabled choice stays on the way
-pub same_way : (old new : Run) (e : Entry) → IsOneThread old.input → IsAdvanced old (choice.Thread 1) new → entry_at old (choice.Thread 1) ≡ Some e → new.schedule ++ left_of new ≡ old.schedule ++ left_of old
-same_way old new e one step is =
-    let c : Choice = choice.Thread 1 in
-    let next : left_of new ≡ rest (most_steps old.input) old.input (after (state_of old) e) = (λ k. rest (most_steps (step.input k)) (step.input k) (state_next old new c e step is k)) in
-    let more : left_of old ≡ c ∷ rest (most_steps old.input) old.input (after (state_of old) e) = rest_step old.input (most_steps old.input) (state_of old) e one (steps_at_most old.input (reverse old.trace) one) is in
-    (λ k. step.schedule k ++ next k) ∙
-    append_assoc old.schedule (c ∷ []) (rest (most_steps old.input) old.input (after (state_of old) e)) ∙
-    sym (λ k. old.schedule ++ more k)
-
-heads : (x y : Choice) (xs ys : List Choice) → x ∷ xs ≡ y ∷ ys → x ≡ y
-heads x y xs ys e = cc
-
-tails : (x y : Choice) (xs ys : List Choice) → x ∷ xs ≡ y ∷ ys → xs ≡ ys
-tails x y xs ys e = cc
-
--- an old schedule stays a front
-pub front_more : (before schedule : List Choice) (c : Choice) → take (length before) schedule ≡ before → take (length before) (schedule ++ c ∷ []) ≡ before
-front_more [] schedule c e = refl
-front_more (x ∷ before) [] c e = cc
-front_more (x ∷ before) (y ∷ schedule) c e =
-    let head : y ≡ x = heads y x _ _ e in
-    let tail : take (length before) schedule ≡ before = tails y x _ _ e in
-    (λ k. head k ∷ front_more before schedule c tail k)
+pub pending_small : (h : History) (o : Option Pending) → pending_cost h o ≤ 1156
+pending_small h None = omega arith
+pending_small h (Some p) = way_small h p.way

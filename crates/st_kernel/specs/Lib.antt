@@ -1,4 +1,12 @@
 pub mod Answers
+pub mod Copies
+pub mod Copying
+pub mod Files
+pub mod Held
+pub mod Index
 pub mod Kept
+pub mod Opening
 pub mod Runs
-pub mod Step
+pub mod Setup
+pub mod Standing
+pub mod Walking

@@ -6,7 +6,7 @@ use Rattle.st_trace.specs.declared.start.ProcessRow.{ProcessRow}
 use Rattle.st_trace.specs.declared.start.ThreadRow.{ThreadRow}
 use Rattle.st_law.specs.declared.input.Input.{Input}
 use Rattle.st_law.specs.History.{Process, process}
-use Rattle.st_law.specs.Machine.{State, state, entry_of, rest, most_steps}
+use Rattle.st_law.specs.Machine.{State, Move, state, entry_of, first_enabled, rest, most_steps}
 
 -- what a run is of, what it did, and by which choices
 pub record Run : Type 0 where
@@ -34,6 +34,13 @@ process_of r = process r.input 1
 -- the entry that a choice would add to a run: none where it isn't enabled
 abbrev pub entry_at : Run → Choice → Option Entry
 entry_at r choice = entry_of r.input (state_of r) choice
+
+abbrev pub choice_in : Option Move → Option Choice
+choice_in move = option_map (λ m. m.choice) move
+
+-- the first choice that is enabled
+abbrev pub first_choice : Run → Option Choice
+first_choice r = choice_in (first_enabled r.input (state_of r))
 
 -- a run, one choice and its entry on
 pub record IsAdvanced (old : Run) (choice : Choice) (new : Run) : Type 0 where

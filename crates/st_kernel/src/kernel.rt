@@ -1,25 +1,29 @@
-ghost use Rattle.std.specs.Prelude.{◌≡◌, ◌↔◌, [], ◌∷◌, ◌++◌, IsTrue, IsSome, IfOk, OnOk, OnErr, None, Some, take, length};
-ghost use Rattle.st_law.specs.Lawful.{Lawful};
-ghost use Rattle.st_law.specs.Machine.{run, first_enabled, way_for, goes_on, finished, thread_entry};
+ghost use Rattle.std.specs.Prelude.{◌≡◌, ◌↔◌, ◌<◌, [], ◌++◌, is_some, IsSome, IfOk, OnOk, OnErr, None, Some, take, length, reverse};
+ghost use Rattle.st_calls.specs.Spelling.{space_words};
+ghost use Rattle.st_memory.specs.Memory.{word_of};
+ghost use Rattle.st_policy.specs.Policies.{HasFewFilters};
 ghost use Rattle.st_trace.specs.declared.entry.Choice.TheVariants as choices;
-ghost use Rattle.st_kernel.specs.Runs.{IsOneThread, IsAdvanced, process_of, state_of, entry_at, left_of};
-ghost use Rattle.st_kernel.specs.Step.{entry_in};
+ghost use Rattle.st_trace.specs.declared.entry.Way.TheVariants as ways;
+ghost use Rattle.st_law.specs.History.{byte_at, pending, posted, turn};
+ghost use Rattle.st_law.specs.Lawful.{Lawful};
+ghost use Rattle.st_law.specs.Machine.{run, first_enabled, finished};
+ghost use Rattle.st_kernel.specs.Kept.{StoresIn};
+ghost use Rattle.st_kernel.specs.Runs.{IsOneThread, IsAdvanced, first_choice, state_of, entry_at, left_of};
 
-use crate::step::Step;
-use crate::table::Table;
+use crate::copies::Need;
+use crate::held::{Held, Stage};
+use crate::setup::{PROCESS, Setup, THREAD, WORKER};
+use crate::standing::Standing;
 use crate::thread::{Pending, Thread};
-use st_base::{Ids, Pid, Tid};
-use st_calls::{FastAnswer, Rule, SysCall};
+use st_base::{Seq, Sequence};
 use st_law::Input;
-use st_trace::{Choice, Entry, Instr, Way};
+use st_memory::{SPACE_WORDS, Space, Spaces};
+use st_trace::{Cause, Choice, Entry, Way};
 use std::alloc::{AllocError, Global};
 use std::marker::Model;
 
-// The thread's number.
-const THREAD: Tid = 1;
-
-// Its process's number.
-const PROCESS: Pid = 1;
+// The number of the process's memory.
+const SPACE: Space = 1;
 
 /// Why a step was not made.
 #[derive(Clone, Copy, Debug, PartialEq, Eq)]
@@ -30,49 +34,68 @@ pub enum StepFault {
     NoMemory,
 }
 
-/// A kernel that runs one traced thread under a policy, and records what it did.
+impl From<AllocError> for StepFault {
+    ghost use Rattle.st_kernel.specs.declared.kernel.StepFault.TheVariants.{NoMemory};
+
+    ghost from_gives = { λ _ fault. fault ≡ NoMemory };
+
+    fn from(_error: AllocError) -> Self {
+        StepFault::NoMemory
+    }
+}
+
+/// A kernel that runs one traced thread under a policy, with one worker, and records what it did.
 #[derive(Debug, Drop)]
 pub struct Kernel<'a> {
-    input: &'a Input,
-    ids: Ids,
-    table: Table,
+    setup: Setup<'a>,
+    spaces: Spaces,
     thread: Thread<'a>,
+    standing: Standing,
+    held: Held,
     trace: Vec<Entry>,
     schedule: Vec<Choice>,
 }
 
 impl<'a> Model for Kernel<'a> {
     ghost use Rattle.st_kernel.specs.Runs.{Run};
-    ghost use Rattle.st_kernel.specs.Kept.{IsKept};
+    ghost use Rattle.st_kernel.specs.Kept.{IsKernel};
 
     ghost Value = { Run };
 
-    ghost view = { λ k. record { input = k.input.now; trace = k.trace.items; schedule = k.schedule.items } };
+    ghost view = { λ k. record { input = k.setup; trace = k.trace.items; schedule = k.schedule.items } };
 
-    ghost invariant = { λ k. IsKept k.input.now k.ids k.table k.thread k.trace.items k.schedule.items };
+    ghost invariant = { λ k. IsKernel k.setup k.spaces k.thread k.standing k.held k.trace.items k.schedule.items };
 }
 
-// The thread that a choice names.
-fn thread_of(choice: Choice) -> Tid
-    ensures { choice ≡ choices.Thread result }
+// What an entry makes of memory; a place past its end is none.
+fn store(spaces: &mut Spaces, entry: &Entry)
+    requires { length spaces.old ≡ 1 }
+    ensures { StoresIn spaces.old entry.now spaces.new }
 {
-    let Choice::Thread(tid) = choice;
-    tid
+    if let Entry::Stored { place, word, .. } = entry {
+        if *place < SPACE_WORDS {
+            let _ = spaces.put_word(SPACE, *place, *word);
+        }
+    }
 }
 
 impl<'a> Kernel<'a> {
     /// A kernel before its first step.
     pub fn start(alloc: Global, input: &'a Input) -> Result<Kernel<'a>, AllocError>
-        requires { IsOneThread input.now }
+        requires one { IsOneThread input.now }
+        requires few { HasFewFilters input.now.policies }
         ensures { IfOk result (λ kernel. kernel ≡ record { input = input.now; trace = []; schedule = [] }) }
     {
-        let process = &input.start.processes.as_slice()[0];
         let thread = &input.start.threads.as_slice()[0];
+        let setup = Setup::of(alloc, input)?;
+        let mut spaces = Spaces::new(alloc);
+        spaces.make(alloc)?;
         Ok(Kernel {
-            input,
-            ids: Ids::of(process.uid, process.gid),
-            table: Table::of(alloc, input.policies.get(process.binary.bytes()))?,
+            setup,
+            spaces,
             thread: Thread::new(PROCESS, thread.body.as_slice()),
+            standing: Standing::new(),
+            held: Held::new(alloc),
             trace: Vec::new(alloc),
             schedule: Vec::new(alloc),
         })
@@ -82,7 +105,7 @@ impl<'a> Kernel<'a> {
     pub fn input(&self) -> &'a Input
         ensures { result.now ≡ self.now.input }
     {
-        self.input
+        self.setup.input()
     }
 
     /// What was done so far, in order.
@@ -101,125 +124,264 @@ impl<'a> Kernel<'a> {
         self.schedule.as_slice()
     }
 
-    // How a call of the process goes on.
-    fn way(&self, call: SysCall) -> Option<Way>
-        ensures { result ≡ way_for self.now.input (process_of self.now) call }
+    // What the thread does next where this call is pending, which a message holds.
+    fn held_entry(
+        &mut self,
+        alloc: Global,
+        entered: Pending,
+        seq: Seq,
+    ) -> Result<Option<Entry>, AllocError>
+        requires { pending (reverse self.old.trace) 1 ≡ Some (record { call = entered.call; regs = entered.regs; way = ways.Held seq }) }
+        ensures value { IfOk result (λ entry. entry ≡ finished self.old.input (state_of self.old) 1 1 entered.call entered.regs (ways.Held seq)) }
+        ensures kept { self.new ≡ self.old }
     {
-        match self.table.answer(Rule::of(call)) {
-            FastAnswer::Permit => Some(Way::Fast),
-            FastAnswer::Refuse(_) => Some(Way::Barred(1)),
-            FastAnswer::Ask => None,
+        match self.held.stage() {
+            Stage::Faulted(errno) => Ok(Some(Entry::Denied {
+                tid: THREAD,
+                seq: Some(seq),
+                errno,
+                cause: Cause::Fault,
+            })),
+            Stage::Answered(verdict) => {
+                let Some(args) = self.held.parts(alloc)? else {
+                    return Ok(None);
+                };
+                let descriptors = self.standing.descriptors();
+                let entry = self
+                    .setup
+                    .decided(alloc, seq, entered, args, descriptors, verdict)?;
+                Ok(Some(entry))
+            }
+            Stage::Closed | Stage::Waiting | Stage::Claimed => Ok(None),
         }
     }
 
-    // What the thread does next where no call is pending, and these instructions are left.
-    fn going_on(&self, left: &[Instr]) -> Option<Step>
-        ensures { entry_in self.now result ≡ goes_on self.now.input (process_of self.now) THREAD left.now }
-    {
-        match left {
-            [] => Some(Step::End),
-            [Instr::Call(call, regs), ..] => match self.way(*call) {
-                Some(way) => Some(Step::Enter(Pending {
-                    call: *call,
-                    regs: *regs,
-                    way,
-                })),
-                None => None,
-            },
-        }
-    }
-
-    // What becomes of a call that was entered.
-    fn finishing(&self, entered: Pending) -> Option<Step>
-        ensures { entry_in self.now result ≡ finished self.now.input (process_of self.now) THREAD PROCESS entered.call entered.regs entered.way }
+    // What the thread does next where this call is pending.
+    fn call_entry(&mut self, alloc: Global, entered: Pending) -> Result<Option<Entry>, AllocError>
+        requires { pending (reverse self.old.trace) 1 ≡ Some entered }
+        ensures value { IfOk result (λ entry. entry ≡ finished self.old.input (state_of self.old) 1 1 entered.call entered.regs entered.way) }
+        ensures kept { self.new ≡ self.old }
     {
         match entered.way {
-            Way::Fast => Some(Step::Use(entered)),
-            Way::Barred(number) => match self.table.answer(Rule::of(entered.call)) {
-                FastAnswer::Refuse(errno) => Some(Step::Deny(errno, number)),
-                _ => None,
+            Way::Fast => {
+                let args = Sequence::new(alloc);
+                let ids = self.setup.ids();
+                let descriptors = self.standing.descriptors();
+                let entry = self
+                    .setup
+                    .used(alloc, None, entered, args, ids, descriptors)?;
+                Ok(Some(entry))
+            }
+            Way::Barred(number) => Ok(self.setup.barred(entered.call, number)),
+            Way::Held(seq) => self.held_entry(alloc, entered, seq),
+        }
+    }
+
+    // What the thread does next.
+    fn thread_entry(&mut self, alloc: Global) -> Result<Option<Entry>, AllocError>
+        ensures value { IfOk result (λ entry. entry ≡ entry_at self.old (choices.Thread THREAD)) }
+        ensures kept { self.new ≡ self.old }
+    {
+        if self.thread.has_ended() {
+            return Ok(None);
+        }
+        if self.standing.is_dying() {
+            return Ok(Some(Entry::Ended { tid: THREAD }));
+        }
+        match self.thread.pending() {
+            Some(entered) => self.call_entry(alloc, entered),
+            None => {
+                let next = self.held.posted() + 1;
+                Ok(Some(self.setup.next(self.thread.left(), next)))
+            }
+        }
+    }
+
+    // The word at a place of memory.
+    fn word(&self, place: u32) -> u64
+        requires { place < space_words }
+        ensures { result ≡ word_of (byte_at self.now.input (reverse self.now.trace) 1) place }
+    {
+        match self.spaces.word(SPACE, place) {
+            Some(word) => word,
+            None => 0,
+        }
+    }
+
+    // What the worker does next that is at the newest message.
+    fn serve(&mut self, alloc: Global) -> Result<Entry, AllocError>
+        requires { turn (reverse self.old.trace) 1 ≡ Some (posted (reverse self.old.trace)) }
+        ensures value { IfOk result (λ entry. Some entry ≡ entry_at self.old (choices.Worker WORKER)) }
+        ensures kept { self.new ≡ self.old }
+    {
+        let seq = self.held.posted();
+        match self.held.need(alloc)? {
+            Need::Word(place) => {
+                let word = self.word(place);
+                Ok(Entry::Copied {
+                    seq,
+                    part: 0,
+                    place,
+                    word,
+                })
+            }
+            Need::Look(name) => {
+                let seen = self.setup.look(alloc, &name)?;
+                Ok(Entry::Looked {
+                    seq,
+                    part: 0,
+                    name,
+                    seen,
+                })
+            }
+            Need::Fault(errno) => Ok(Entry::Faulted { seq, errno }),
+            Need::Parts(args) => {
+                let call = self.held.call();
+                let regs = self.held.regs();
+                self.setup.answered(alloc, seq, call, regs, args)
+            }
+        }
+    }
+
+    // What the worker does next.
+    fn worker_entry(&mut self, alloc: Global) -> Result<Option<Entry>, AllocError>
+        ensures value { IfOk result (λ entry. entry ≡ entry_at self.old (choices.Worker WORKER)) }
+        ensures kept { self.new ≡ self.old }
+    {
+        match self.held.stage() {
+            Stage::Waiting => Ok(Some(Entry::Claimed {
+                worker: WORKER,
+                seq: self.held.posted(),
+            })),
+            Stage::Claimed => {
+                let entry = self.serve(alloc)?;
+                Ok(Some(entry))
+            }
+            Stage::Closed | Stage::Faulted(_) | Stage::Answered(_) => Ok(None),
+        }
+    }
+
+    // The entry that a choice adds.
+    fn choose(&mut self, alloc: Global, choice: Choice) -> Result<Option<Entry>, AllocError>
+        ensures value { IfOk result (λ entry. entry ≡ entry_at self.old choice) }
+        ensures kept { self.new ≡ self.old }
+    {
+        match choice {
+            Choice::Thread(tid) => {
+                if self.setup.is_thread(tid) {
+                    self.thread_entry(alloc)
+                } else {
+                    Ok(None)
+                }
+            }
+            Choice::Worker(worker) => {
+                if worker == WORKER {
+                    self.worker_entry(alloc)
+                } else {
+                    Ok(None)
+                }
+            }
+        }
+    }
+
+    // Whether a pending call can be made or denied.
+    fn call_moves(&self, entered: Pending) -> bool
+        requires { pending (reverse self.now.trace) 1 ≡ Some entered }
+        ensures { result ≡ is_some (finished self.now.input (state_of self.now) 1 1 entered.call entered.regs entered.way) }
+    {
+        match entered.way {
+            Way::Fast => true,
+            Way::Barred(_) => self.setup.refuses(entered.call),
+            Way::Held(_) => match self.held.stage() {
+                Stage::Faulted(_) => true,
+                Stage::Answered(_) => true,
+                Stage::Closed | Stage::Waiting | Stage::Claimed => false,
             },
         }
     }
 
-    // What the thread does next, from where it is.
-    fn next(&self, thread: &Thread) -> Option<Step>
-        requires { thread.now.owner ≡ PROCESS }
-        ensures { entry_in self.now result ≡ thread_entry self.now.input (process_of self.now) THREAD thread.now }
+    // Whether the thread can make a step.
+    fn thread_moves(&self) -> bool
+        ensures { result ≡ is_some (entry_at self.now (choices.Thread THREAD)) }
     {
-        if thread.ended {
-            return None;
+        if self.thread.has_ended() {
+            return false;
         }
-        if thread.dying {
-            return Some(Step::End);
+        if self.standing.is_dying() {
+            return true;
         }
-        match thread.pending {
-            Some(entered) => self.finishing(entered),
-            None => self.going_on(thread.left),
-        }
-    }
-
-    // What a choice does next.
-    fn step(&self, choice: Choice) -> Option<Step>
-        ensures { entry_in self.now result ≡ entry_at self.now choice }
-    {
-        let thread = &self.thread;
-        let tid = thread_of(choice);
-        if tid == THREAD {
-            self.next(thread)
-        } else {
-            None
+        match self.thread.pending() {
+            Some(entered) => self.call_moves(entered),
+            None => true,
         }
     }
 
     /// Whether a choice is enabled: a step can be made by it.
     pub fn enabled(&self, choice: Choice) -> bool
-        ensures { IsTrue result ↔ IsSome (entry_at self.now choice) }
+        ensures { result ≡ is_some (entry_at self.now choice) }
     {
-        self.step(choice).is_some()
-    }
-
-    // The entry that a choice adds.
-    fn choose(&self, alloc: Global, choice: Choice) -> Result<Option<Entry>, AllocError>
-        ensures ok { IfOk result (λ entry. entry ≡ entry_at self.now choice) }
-        ensures err { OnErr result (IsSome (entry_at self.now choice)) }
-        ensures one { IsOneThread self.now.input }
-    {
-        match self.step(choice) {
-            Some(step) => Ok(Some(step.entry(alloc, THREAD, PROCESS, self.ids)?)),
-            None => Ok(None),
+        match choice {
+            Choice::Thread(tid) => self.setup.is_thread(tid) && self.thread_moves(),
+            Choice::Worker(worker) => worker == WORKER && self.held.stage().asks_worker(),
         }
     }
 
+    // The first choice that is enabled.
+    fn first_choice(&self) -> Option<Choice>
+        ensures value { result ≡ first_choice self.now }
+        ensures one { IsOneThread self.now.input }
+        ensures lawful { Lawful self.now.input self.now.trace }
+    {
+        let stage = self.held.stage();
+        if self.thread_moves() {
+            return Some(Choice::Thread(THREAD));
+        }
+        if stage.asks_worker() {
+            return Some(Choice::Worker(WORKER));
+        }
+        None
+    }
+
     // Adds the entry of a choice; without memory nothing is done.
-    fn commit(&mut self, choice: Choice, entry: Entry) -> Result<(), AllocError>
+    fn commit(&mut self, alloc: Global, choice: Choice, entry: Entry) -> Result<(), AllocError>
         requires { entry_at self.old choice ≡ Some entry }
         ensures ok { OnOk result (IsAdvanced self.old choice self.new) }
         ensures err { OnErr result (self.new ≡ self.old) }
     {
         self.trace.reserve(1)?;
         self.schedule.reserve(1)?;
+        self.held.follow(alloc, &entry)?;
+        store(&mut self.spaces, &entry);
         self.thread.follow(THREAD, &entry);
+        self.standing.follow(&entry);
         self.trace.push_reserved(entry);
         self.schedule.push_reserved(choice);
         Ok(())
     }
 
+    // Makes a choice that is enabled; without memory nothing is done.
+    fn make(&mut self, alloc: Global, choice: Choice) -> Result<(), AllocError>
+        requires { IsSome (entry_at self.old choice) }
+        ensures ok { OnOk result (IsAdvanced self.old choice self.new) }
+        ensures err { OnErr result (self.new ≡ self.old) }
+    {
+        match self.choose(alloc, choice)? {
+            Some(entry) => self.commit(alloc, choice, entry),
+            None => Ok(()),
+        }
+    }
+
     /// Makes a choice: one step, and its entry in the trace. A step that fails changes nothing.
     pub fn advance(&mut self, alloc: Global, choice: Choice) -> Result<(), StepFault>
         ensures ok { OnOk result (IsAdvanced self.old choice self.new) }
-        ensures not_enabled { result ≡ Err StepFault.NotEnabled → entry_at self.old choice ≡ None }
-        ensures only { entry_at self.old choice ≡ None → result ≡ Err StepFault.NotEnabled }
+        ensures not_enabled { (result ≡ Err StepFault.NotEnabled) ↔ (entry_at self.old choice ≡ None) }
         ensures err { OnErr result (self.new ≡ self.old) }
     {
-        match self.choose(alloc, choice) {
-            Ok(Some(entry)) => match self.commit(choice, entry) {
-                Ok(()) => Ok(()),
-                Err(_) => Err(StepFault::NoMemory),
-            },
-            Ok(None) => Err(StepFault::NotEnabled),
-            Err(_) => Err(StepFault::NoMemory),
+        if !self.enabled(choice) {
+            return Err(StepFault::NotEnabled);
         }
+        self.make(alloc, choice)?;
+        Ok(())
     }
 
     /// Makes the first enabled choice again and again, until none is enabled. Without memory the steps before stand.
@@ -230,9 +392,8 @@ impl<'a> Kernel<'a> {
         ensures begun { take (length self.old.schedule) self.new.schedule ≡ self.old.schedule }
         ensures on_the_way { self.new.schedule ++ left_of self.new ≡ self.old.schedule ++ left_of self.old }
     {
-        let choice = Choice::Thread(THREAD);
-        while let Some(entry) = self.choose(alloc, choice)? {
-            self.commit(choice, entry)?;
+        while let Some(choice) = self.first_choice() {
+            self.make(alloc, choice)?;
         }
         Ok(())
     }

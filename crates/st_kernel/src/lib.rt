@@ -1,11 +1,20 @@
 //! The modelled kernel: it runs the system calls of one traced thread under a policy, each step as the machine says.
 #![tactic(auto)]
 
+mod copies;
+mod copying;
+mod effects;
+mod files;
+mod held;
+mod index;
 mod kernel;
-mod step;
+mod opening;
+mod setup;
+mod standing;
 mod table;
 #[cfg(test)]
 mod tests;
 mod thread;
+mod walking;
 
 pub use kernel::{Kernel, StepFault};

@@ -4,7 +4,7 @@ ghost use Rattle.st_policy.specs.Fast.{fast};
 ghost use Rattle.st_policy.specs.Policies.{filters_of};
 ghost use Rattle.st_kernel.specs.Answers.{fast_answers};
 
-use st_calls::{FastAnswer, Rule, SysCall};
+use st_calls::{FastAnswer, Rule};
 use st_policy::{Policy, fast};
 use std::alloc::{AllocError, Global};
 use std::marker::Model;
@@ -33,9 +33,9 @@ impl Table {
     pub fn of(alloc: Global, policy: &Policy) -> Result<Self, AllocError>
         ensures { IfOk result (λ table. table ≡ fast_answers policy.now) }
     {
-        let answers = SysCall::ALL
+        let answers = Rule::ALL
             .iter()
-            .map(|&call| fast(policy, Rule::of(call)))
+            .map(|&rule| fast(policy, rule))
             .collect(alloc)?;
         Ok(Table { answers })
     }

@@ -1,10 +1,9 @@
-ghost use Rattle.std.specs.Prelude.{◌≡◌, drop, false, None};
-ghost use Rattle.st_law.specs.History.{ends_process};
+ghost use Rattle.std.specs.Prelude.{◌≡◌, cond, drop, false, None};
 ghost use Rattle.st_law.specs.Machine.{thread_after};
 
 use st_base::{Pid, Tid};
 use st_calls::SysCall;
-use st_trace::{Change, Entry, Instr, Way};
+use st_trace::{Entry, Instr, Way};
 use std::marker::Model;
 
 /// A call that the thread has entered, and that is neither made nor denied yet.
@@ -28,11 +27,10 @@ impl Model for Pending {
 /// Where a thread is.
 #[derive(Debug, Drop)]
 pub struct Thread<'a> {
-    pub owner: Pid,
-    pub left: &'a [Instr],
-    pub pending: Option<Pending>,
-    pub dying: bool,
-    pub ended: bool,
+    owner: Pid,
+    left: &'a [Instr],
+    pending: Option<Pending>,
+    ended: bool,
 }
 
 impl<'a> Model for Thread<'a> {
@@ -40,7 +38,7 @@ impl<'a> Model for Thread<'a> {
 
     ghost Value = { machine.Thread };
 
-    ghost view = { λ t. record { owner = t.owner; left = t.left.now; pending = t.pending; dying = t.dying; ended = t.ended } };
+    ghost view = { λ t. record { owner = t.owner; left = t.left.now; pending = t.pending; ended = t.ended } };
 }
 
 // What follows the first instruction.
@@ -53,30 +51,55 @@ fn rest_of<'a>(body: &'a [Instr]) -> &'a [Instr]
     }
 }
 
-// Whether changes end a process.
-fn ends_process(changes: &[Change], pid: Pid) -> bool
-    ensures { result ≡ ends_process changes.now pid }
-{
-    for &change in changes {
-        let Change::Dying(ended) = change;
-        if ended == pid {
-            return true;
-        }
-    }
-    false
-}
-
 impl<'a> Thread<'a> {
     /// A thread before its first step.
     pub fn new(owner: Pid, body: &'a [Instr]) -> Self
-        ensures { result ≡ record { owner = owner; left = body.now; pending = None; dying = false; ended = false } }
+        ensures { result ≡ record { owner = owner; left = body.now; pending = None; ended = false } }
     {
         Thread {
             owner,
             left: body,
             pending: None,
-            dying: false,
             ended: false,
+        }
+    }
+
+    /// The instructions that are left.
+    pub fn left(&self) -> &'a [Instr]
+        ensures { result.now ≡ self.now.left }
+    {
+        self.left
+    }
+
+    /// The call that the thread has entered.
+    pub fn pending(&self) -> Option<Pending>
+        ensures { result ≡ self.now.pending }
+    {
+        self.pending
+    }
+
+    /// Whether the thread has ended.
+    pub fn has_ended(&self) -> bool
+        ensures { result ≡ self.now.ended }
+    {
+        self.ended
+    }
+
+    // The thread's step to its next instruction.
+    fn go_on(&mut self, is_own: bool)
+        ensures { self.new ≡ record { owner = self.old.owner; left = cond is_own (drop 1 self.old.left) self.old.left; pending = self.old.pending; ended = self.old.ended } }
+    {
+        if is_own {
+            self.left = rest_of(self.left);
+        }
+    }
+
+    // The end of the thread's pending call.
+    fn close(&mut self, is_own: bool)
+        ensures { self.new ≡ record { owner = self.old.owner; left = self.old.left; pending = cond is_own None self.old.pending; ended = self.old.ended } }
+    {
+        if is_own {
+            self.pending = None;
         }
     }
 
@@ -85,6 +108,7 @@ impl<'a> Thread<'a> {
         ensures { self.new ≡ thread_after entry.now tid self.old }
     {
         match entry {
+            Entry::Stored { tid: mover, .. } => self.go_on(*mover == tid),
             Entry::Entered {
                 tid: mover,
                 call,
@@ -100,24 +124,17 @@ impl<'a> Thread<'a> {
                     self.left = rest_of(self.left);
                 }
             }
-            Entry::Used {
-                tid: mover,
-                changes,
-                ..
-            } => {
-                if *mover == tid {
-                    self.pending = None;
-                }
-                self.dying = ends_process(changes.as_slice(), self.owner) || self.dying;
-            }
-            Entry::Denied { tid: mover, .. } => {
-                if *mover == tid {
-                    self.pending = None;
-                }
+            Entry::Used { tid: mover, .. } | Entry::Denied { tid: mover, .. } => {
+                self.close(*mover == tid);
             }
             Entry::Ended { tid: mover } => {
                 self.ended = *mover == tid || self.ended;
             }
+            Entry::Claimed { .. }
+            | Entry::Copied { .. }
+            | Entry::Looked { .. }
+            | Entry::Faulted { .. }
+            | Entry::Answered { .. } => {}
         }
     }
 }

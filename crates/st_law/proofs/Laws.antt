@@ -1,28 +1,28 @@
 -- The law of every run.
-use Rattle.std.proofs.Common.{◌≡◌, ℕ, List, [], ◌∷◌, reverse, Option, Some, None, sym, ◌∙◌, subst}
+use Rattle.std.proofs.Common.{List, [], ◌∷◌, reverse, Option, Some, None, sym, subst}
 use Rattle.std.proofs.lemmas.List.{reverse-reverse}
 use Rattle.st_trace.specs.declared.entry.Entry.{Entry}
 use Rattle.st_trace.specs.declared.entry.Choice.{Choice}
 use Rattle.st_trace.specs.declared.entry.Choice.TheVariants as choice
 use Rattle.st_law.specs.declared.input.Input.{Input}
-use Rattle.st_law.specs.History.{History, process, owner}
-use Rattle.st_law.specs.Machine.{state, entry_of, thread_entry, one_more, history, run}
+use Rattle.st_law.specs.History.{History}
+use Rattle.st_law.specs.Machine.{state, entry_of, one_more, history, run}
 use Rattle.st_law.specs.Lawful.{IsLawful, IsLawfulBack, Lawful}
-use Rattle.st_law.proofs.Ties.{thread_at, thread-is, process-is}
-use Rattle.st_law.proofs.Steps.{Says, lawful_step}
+use Rattle.st_law.proofs.Ties.{seen, state-is}
+use Rattle.st_law.proofs.Held.{invariant}
+use Rattle.st_law.proofs.Steps.{Says, thread_step}
+use Rattle.st_law.proofs.Works.{worker_step}
 
--- what a choice adds behind a history is the step of its thread as looking back sees it
-pub entry-is : (i : Input) (h : History) (t : ℕ) → entry_of i (state i h) (choice.Thread t) ≡ thread_entry i (process i (owner i t)) t (thread_at i h t)
-entry-is i h t =
-    (λ k. thread_entry i ((state i h).processes (thread-is i h t k).owner) t (thread-is i h t k)) ∙
-    (λ k. thread_entry i (process-is i h (owner i t) k) t (thread_at i h t))
+lawful_seen : (i : Input) (h : History) (c : Choice) → IsLawfulBack i h → Says (IsLawful i h) (entry_of i (seen i h) c)
+lawful_seen i h (choice.Thread t) lawful = thread_step i h t (invariant i h lawful)
+lawful_seen i h (choice.Worker w) lawful = worker_step i h w
+
+pub lawful_choice : (i : Input) (h : History) (c : Choice) → IsLawfulBack i h → Says (IsLawful i h) (entry_of i (state i h) c)
+lawful_choice i h c lawful = subst (λ st. Says (IsLawful i h) (entry_of i st c)) (sym (state-is i h)) (lawful_seen i h c lawful)
 
 lawful_more : (i : Input) (h : History) (o : Option Entry) → IsLawfulBack i h → Says (IsLawful i h) o → IsLawfulBack i (one_more h o)
 lawful_more i h None lawful says = lawful
 lawful_more i h (Some e) lawful says = (says, lawful)
-
-lawful_choice : (i : Input) (h : History) (c : Choice) → IsLawfulBack i h → Says (IsLawful i h) (entry_of i (state i h) c)
-lawful_choice i h (choice.Thread t) lawful = subst (Says (IsLawful i h)) (sym (entry-is i h t)) (lawful_step i h t lawful)
 
 pub lawful_history : (i : Input) (choices : List Choice) → IsLawfulBack i (history i choices)
 lawful_history i [] = tt

@@ -1,3 +1,6 @@
 pub mod Ties
+pub mod Held
 pub mod Steps
+pub mod Works
 pub mod Laws
+pub mod Rows

@@ -1,20 +1,26 @@
 -- Each step of the machine is lawful behind a lawful history.
-use Rattle.std.proofs.Common.{◌≡◌, ◌≢◌, ◌⊎◌, ℕ, Bool, true, false, cond, ◌||◌, ◌==◌, List, [], ◌∷◌, Option, Some, None, refl, subst, option_map, inl, inr}
-use Rattle.std.proofs.lemmas.Bool.{eqb-true, eq-eqb}
+use Rattle.std.proofs.Common.{◌≡◌, ◌≢◌, ◌⊎◌, ℕ, suc, Bool, true, false, cond, not, ◌||◌, ◌==◌, List, [], ◌∷◌, Option, Some, None, refl, sym, subst, ◌∙◌, option_map, inl, inr}
+use Rattle.std.proofs.lemmas.Bool.{eq-eqb}
+use Rattle.st_base.specs.declared.errno.Errno.{Errno}
+use Rattle.st_calls.specs.declared.argument.ArgText.{ArgText}
 use Rattle.st_calls.specs.declared.call.SysCall.{SysCall}
+use Rattle.st_calls.specs.declared.judged.Verdict.{Verdict}
+use Rattle.st_calls.specs.declared.judged.Verdict.TheVariants.{Permit, Refuse, Unmatched}
 use Rattle.st_calls.specs.declared.rule.FastAnswer.{FastAnswer}
 use Rattle.st_calls.specs.declared.rule.FastAnswer.TheVariants as answer
+use Rattle.st_trace.specs.Progress.{Progress, Word, Look, Stuck, Ready}
 use Rattle.st_trace.specs.declared.entry.Entry.{Entry}
-use Rattle.st_trace.specs.declared.entry.Entry.TheVariants.{Entered, Used, Denied, Ended}
+use Rattle.st_trace.specs.declared.entry.Entry.TheVariants.{Entered}
 use Rattle.st_trace.specs.declared.entry.Way.{Way}
-use Rattle.st_trace.specs.declared.entry.Way.TheVariants.{Fast, Barred}
+use Rattle.st_trace.specs.declared.entry.Way.TheVariants.{Fast, Barred, Held}
 use Rattle.st_trace.specs.declared.start.Instr.{Instr}
-use Rattle.st_trace.specs.declared.start.Instr.TheVariants.{Call}
+use Rattle.st_trace.specs.declared.start.Instr.TheVariants.{Store, Call}
 use Rattle.st_law.specs.declared.input.Input.{Input}
-use Rattle.st_law.specs.History.{History, Pending, process, owner, left, pending, has_ended, is_dying}
-use Rattle.st_law.specs.Machine.{thread_entry, proceeds, goes_on, finished, denied_by, way_by}
-use Rattle.st_law.specs.Lawful.{IsRunning, IsWay, IsEnded, IsLawful, IsLawfulBack, answer_at}
-use Rattle.st_law.proofs.Ties.{thread_at}
+use Rattle.st_law.specs.History.{History, Pending, process, owner, left, pending, has_ended, is_dying, head, head_of, posted, is_answered, fault_of, message_at, progress, snapshot_of, snapshot_by, judged, setting_at, lives}
+use Rattle.st_law.specs.Machine.{thread_entry, proceeds, goes_on, finished, released, decides, decided, denied_by, way_by}
+use Rattle.st_law.specs.Lawful.{IsRunning, IsEnded, IsHeld, IsDecided, IsLawful, answer_at}
+use Rattle.st_law.proofs.Ties.{seen}
+use Rattle.st_law.proofs.Held.{IsOpen, IsFine, IfPending, Fine, Invariant}
 
 -- the fact holds of the entry, where there is one
 abbrev pub Says : (Entry → Type 0) → Option Entry → Type 0
@@ -25,32 +31,13 @@ pub unless : (P : Entry → Type 0) (b : Bool) (o : Option Entry) → (b ≡ fal
 unless P true o f = tt
 unless P false o f = f refl
 
+pub when : (P : Entry → Type 0) (b : Bool) (o : Option Entry) → (b ≡ true → Says P o) → Says P (cond b o None)
+when P true o f = f refl
+when P false o f = tt
+
 pub either : (P : Entry → Type 0) (b : Bool) (o p : Option Entry) → (b ≡ true → Says P o) → (b ≡ false → Says P p) → Says P (cond b o p)
 either P true o p f g = f refl
 either P false o p f g = g refl
-
--- the way of a pending call, of a lawful history, is the one that the policy says
-abbrev pub GoesItsWay : Input → ℕ → Pending → Type 0
-GoesItsWay i t p = IsWay p.way (answer_at i t p.call)
-
-abbrev pub IfPending : (Pending → Type 0) → Option Pending → Type 0
-IfPending P None = Unit {0}
-IfPending P (Some p) = P p
-
-entering : (i : Input) (u t : ℕ) (call : SysCall) (regs : List ℕ) (way : Way) (before : Option Pending) (b : Bool) → (b ≡ true → u ≡ t) → IsWay way (answer_at i u call) → IfPending (GoesItsWay i t) before → IfPending (GoesItsWay i t) (cond b (Some (record { call = call; regs = regs; way = way })) before)
-entering i u t call regs way before true same w rest = subst (λ v. IsWay way (answer_at i v call)) (same refl) w
-entering i u t call regs way before false same w rest = rest
-
-leaving : (P : Pending → Type 0) (before : Option Pending) (b : Bool) → IfPending P before → IfPending P (cond b None before)
-leaving P before true h = tt
-leaving P before false h = h
-
-pub pending_way : (i : Input) (h : History) (t : ℕ) → IsLawfulBack i h → IfPending (GoesItsWay i t) (pending h t)
-pending_way i [] t lawful = tt
-pending_way i (Entered u call regs way ∷ h) t lawful = entering i u t call regs way (pending h t) (u == t) (eqb-true u t) lawful.0.way_is (pending_way i h t lawful.1)
-pending_way i (Used u seq call regs args ids result changes ∷ h) t lawful = leaving (GoesItsWay i t) (pending h t) (u == t) (pending_way i h t lawful.1)
-pending_way i (Denied u seq errno cause ∷ h) t lawful = leaving (GoesItsWay i t) (pending h t) (u == t) (pending_way i h t lawful.1)
-pending_way i (Ended u ∷ h) t lawful = pending_way i h t lawful.1
 
 or_false : (a b : Bool) → (a || b) ≡ false → (a ≡ false) × (b ≡ false)
 or_false true b h = cc
@@ -64,38 +51,78 @@ module _ (i : Input) (h : History) (t : ℕ) where
   ended_by running over = record { started = running.started; unended = running.unended; over = over }
 
   -- a call that is entered goes the way that its policy says
-  entered_by : IsRunning i h t → pending h t ≡ None → (call : SysCall) (regs : List ℕ) (later : List Instr) → left i h t ≡ Call call regs ∷ later → (process i (owner i t)).traced ≡ true → (given : FastAnswer) → answer_at i t call ≡ given → Says (IsLawful i h) (option_map (λ way. Entered t call regs way) (way_by given))
+  entered_by : IsRunning i h t → pending h t ≡ None → (call : SysCall) (regs : List ℕ) (later : List Instr) → left i h t ≡ Call call regs ∷ later → (process i (owner i t)).traced ≡ true → (given : FastAnswer) → answer_at i t call ≡ given → IsLawful i h (Entered t call regs (way_by (suc (posted h)) given))
   entered_by running idle call regs later next traced answer.Permit e = record { running = running; idle = idle; later = later; next = next; traced = traced; way_is = e }
   entered_by running idle call regs later next traced (answer.Refuse errno) e = record { running = running; idle = idle; later = later; next = next; traced = traced; way_is = (refl, errno, e) }
-  entered_by running idle call regs later next traced answer.Ask e = tt
+  entered_by running idle call regs later next traced answer.Ask e = record { running = running; idle = idle; later = later; next = next; traced = traced; way_is = (refl, e) }
 
-  traced_by : IsRunning i h t → pending h t ≡ None → (call : SysCall) (regs : List ℕ) (later : List Instr) → left i h t ≡ Call call regs ∷ later → (b : Bool) → (process i (owner i t)).traced ≡ b → Says (IsLawful i h) (option_map (λ way. Entered t call regs way) (cond b (way_by (answer_at i t call)) None))
+  traced_by : IsRunning i h t → pending h t ≡ None → (call : SysCall) (regs : List ℕ) (later : List Instr) → left i h t ≡ Call call regs ∷ later → (b : Bool) → (process i (owner i t)).traced ≡ b → Says (IsLawful i h) (option_map (λ way. Entered t call regs way) (cond b (Some (way_by (suc (posted h)) (answer_at i t call))) None))
   traced_by running idle call regs later next true e = entered_by running idle call regs later next e (answer_at i t call) refl
   traced_by running idle call regs later next false e = tt
 
-  going_on : IsRunning i h t → pending h t ≡ None → (rest : List Instr) → left i h t ≡ rest → Says (IsLawful i h) (goes_on i (process i (owner i t)) t rest)
+  going_on : IsRunning i h t → pending h t ≡ None → (rest : List Instr) → left i h t ≡ rest → Says (IsLawful i h) (goes_on i (process i (owner i t)) (suc (posted h)) t rest)
   going_on running idle [] e = ended_by running (inr (e, idle))
+  going_on running idle (Store place word ∷ later) e = record { running = running; idle = idle; later = later; next = e }
   going_on running idle (Call call regs ∷ later) e = traced_by running idle call regs later e (process i (owner i t)).traced refl
 
   denying : IsRunning i h t → (call : SysCall) (regs : List ℕ) (n : ℕ) → pending h t ≡ Some (record { call = call; regs = regs; way = Barred n }) → n ≡ 1 → (given : FastAnswer) → answer_at i t call ≡ given → Says (IsLawful i h) (denied_by t n given)
   denying running call regs n entered first answer.Permit e = tt
   denying running call regs n entered first (answer.Refuse errno) e =
-      record { running = running; call = call; regs = regs; number = n; entered = entered; refused = e; unheld = refl; first = first; cause_is = refl }
+      record { running = running; call = call; regs = regs; number = n; entered = entered; refused = e; first = first; cause_is = refl }
   denying running call regs n entered first answer.Ask e = tt
 
-  finishing : IsRunning i h t → (call : SysCall) (regs : List ℕ) (way : Way) → pending h t ≡ Some (record { call = call; regs = regs; way = way }) → IsWay way (answer_at i t call) → Says (IsLawful i h) (finished i (process i (owner i t)) t (owner i t) call regs way)
-  finishing running call regs Fast entered w =
-      record { running = running; entered = entered; permitted = w; unheld = refl; plain = refl; identity = refl; result_is = refl; changes_are = refl }
-  finishing running call regs (Barred n) entered w = denying running call regs n entered w.0 (answer_at i t call) refl
+  -- a held call that was answered is made or denied as its filters say of its copies
+  deciding : IsRunning i h t → (q : ℕ) (call : SysCall) (regs : List ℕ) → IsHeld i h t q call regs → (args : List ArgText) → IsDecided i h q (snapshot_of q (head_of i t call regs) args) → (v : Verdict) → judged i (snapshot_of q (head_of i t call regs) args) ≡ v → IsLawful i h (decided t q (snapshot_of q (head_of i t call regs) args) (setting_at i h (owner i t)) v)
+  deciding running q call regs held args copied (Permit n ids) e = record {
+    running = running;
+    held = held;
+    copies = snapshot_of q (head_of i t call regs) args;
+    decided = copied;
+    call_is = refl;
+    regs_are = refl;
+    args_are = refl;
+    number = n;
+    permitted = e;
+    identity = refl;
+    result_is = refl;
+    changes_are = refl;
+  }
+  deciding running q call regs held args copied (Refuse n errno) e =
+      record { running = running; call = call; regs = regs; held = held; cause_is = (snapshot_of q (head_of i t call regs) args, copied, e) }
+  deciding running q call regs held args copied Unmatched e =
+      record { running = running; call = call; regs = regs; held = held; cause_is = (snapshot_of q (head_of i t call regs) args, copied, e, refl) }
 
-  proceeding : IsRunning i h t → IsLawfulBack i h → (o : Option Pending) → pending h t ≡ o → Says (IsLawful i h) (proceeds i (process i (owner i t)) t (owner i t) o (left i h t))
-  proceeding running lawful None e = going_on running e (left i h t) refl
-  proceeding running lawful (Some p) e = finishing running p.call p.regs p.way e (subst (IfPending (GoesItsWay i t)) e (pending_way i h t lawful))
+  by_progress : IsRunning i h t → (q : ℕ) (call : SysCall) (regs : List ℕ) → IsHeld i h t q call regs → head i h q ≡ Some (head_of i t call regs) → is_answered h q ≡ true → fault_of h q ≡ None → (pr : Progress) → progress i h q ≡ pr → Says (IsLawful i h) (decides i t q (setting_at i h (owner i t)) (snapshot_by q (Some (head_of i t call regs)) pr))
+  by_progress running q call regs held posted answered unfaulted (Word part place) e = tt
+  by_progress running q call regs held posted answered unfaulted (Look part name) e = tt
+  by_progress running q call regs held posted answered unfaulted (Stuck errno) e = tt
+  by_progress running q call regs held posted answered unfaulted (Ready args) e =
+      deciding running q call regs held args (record { answered = answered; unfaulted = unfaulted; snapshot_is = λ k. snapshot_by q (posted k) (e k) }) (judged i (snapshot_of q (head_of i t call regs) args)) refl
+
+  releasing : IsRunning i h t → (q : ℕ) (call : SysCall) (regs : List ℕ) → IsHeld i h t q call regs → head i h q ≡ Some (head_of i t call regs) → (f : Option Errno) → fault_of h q ≡ f → Says (IsLawful i h) (released i t q (setting_at i h (owner i t)) (message_at i h q) (progress i h q) f)
+  releasing running q call regs held posted (Some errno) e = record { running = running; call = call; regs = regs; held = held; cause_is = e }
+  releasing running q call regs held posted None e = when (IsLawful i h) (is_answered h q) _ (λ answered.
+      subst (λ o. Says (IsLawful i h) (decides i t q (setting_at i h (owner i t)) (snapshot_by q o (progress i h q)))) (sym posted)
+      (by_progress running q call regs held posted answered e (progress i h q) refl))
+
+  held_by : IsRunning i h t → (q : ℕ) (call : SysCall) (regs : List ℕ) → pending h t ≡ Some (record { call = call; regs = regs; way = Held q }) → IsOpen i h t call regs q → IsHeld i h t q call regs
+  held_by running q call regs entered x =
+      record { entered = entered; live = (λ k. lives (x.0 k) (x.1 k) (is_dying h)) ∙ (λ k. not (running.undying k)) }
+
+  finishing : IsRunning i h t → (call : SysCall) (regs : List ℕ) (way : Way) → pending h t ≡ Some (record { call = call; regs = regs; way = way }) → IsFine i h t call regs way → Says (IsLawful i h) (finished i (seen i h) t (owner i t) call regs way)
+  finishing running call regs Fast entered w =
+      record { running = running; entered = entered; permitted = w; plain = refl; identity = refl; result_is = refl; changes_are = refl }
+  finishing running call regs (Barred n) entered w = denying running call regs n entered w.0 (answer_at i t call) refl
+  finishing running call regs (Held q) entered w = releasing running q call regs (held_by running q call regs entered w) w.0 (fault_of h q) refl
+
+  proceeding : IsRunning i h t → Invariant i h → (o : Option Pending) → pending h t ≡ o → Says (IsLawful i h) (proceeds i (seen i h) t (owner i t) o (left i h t))
+  proceeding running inv None e = going_on running e (left i h t) refl
+  proceeding running inv (Some p) e = finishing running p.call p.regs p.way e (subst (IfPending (Fine i h t)) e (inv.fine t))
 
   -- the step of a thread is lawful
-  pub lawful_step : IsLawfulBack i h → Says (IsLawful i h) (thread_entry i (process i (owner i t)) t (thread_at i h t))
-  lawful_step lawful = unless (IsLawful i h) (owner i t == 0 || has_ended h t) _ (λ alive.
+  pub thread_step : Invariant i h → Says (IsLawful i h) (thread_entry i (seen i h) t ((seen i h).threads t))
+  thread_step inv = unless (IsLawful i h) (owner i t == 0 || has_ended h t) _ (λ alive.
       let live : ((owner i t == 0) ≡ false) × (has_ended h t ≡ false) = or_false (owner i t == 0) (has_ended h t) alive in
       either (IsLawful i h) (is_dying h (owner i t)) _ _
       (λ dying. record { started = nonzero (owner i t) live.0; unended = live.1; over = inl dying })
-      (λ undying. proceeding (record { started = nonzero (owner i t) live.0; unended = live.1; undying = undying }) lawful (pending h t) refl))
+      (λ undying. proceeding (record { started = nonzero (owner i t) live.0; unended = live.1; undying = undying }) inv (pending h t) refl))

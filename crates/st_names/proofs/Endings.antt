@@ -41,18 +41,18 @@ length-onward (part ∷ rest) = onward_if (is_up part) part rest (length-onward 
 
 -- ---- links that are seen
 
-abbrev link_length : SeenText → ℕ
+abbrev pub link_length : SeenText → ℕ
 link_length (Link text) = length text
 link_length Missing = 0
 link_length NotDir = 0
 link_length Dir = 0
 link_length File = 0
 
-abbrev AreWithin : ℕ → List SeenText → Type 0
+abbrev pub AreWithin : ℕ → List SeenText → Type 0
 AreWithin most [] = Unit {0}
 AreWithin most (seen ∷ seens) = (link_length seen ≤ most) × AreWithin most seens
 
-AreWithin-push : (most : ℕ) (seens : List SeenText) (seen : SeenText) → AreWithin most seens → link_length seen ≤ most → AreWithin most (seens ++ seen ∷ [])
+pub AreWithin-push : (most : ℕ) (seens : List SeenText) (seen : SeenText) → AreWithin most seens → link_length seen ≤ most → AreWithin most (seens ++ seen ∷ [])
 AreWithin-push most [] seen all here = (here, tt)
 AreWithin-push most (first ∷ seens) seen all here = (all.0, AreWithin-push most seens seen all.1 here)
 
@@ -135,7 +135,7 @@ asks_early done (part ∷ rest) n (Link text ∷ seens) follow most (suc left) e
 
 -- ---- resolutions
 
-start_early : (tree : Tree) (cwd : Components) (text : List ℕ) (follow : Bool) (seens : List SeenText) → AreWithin (longest_content tree) seens → asks (start_walk text cwd follow seens) ≡ true → length seens < most_looks tree text
+pub start_early : (tree : Tree) (cwd : Components) (text : List ℕ) (follow : Bool) (seens : List SeenText) → AreWithin (longest_content tree) seens → asks (start_walk text cwd follow seens) ≡ true → length seens < most_looks tree text
 start_early tree cwd text follow seens all h =
     let a = asks_if (nat_eq (length text) 0) _ _ refl h in
     let b = asks_if (has_long_part text) _ _ refl a.1 in

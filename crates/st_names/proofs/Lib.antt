@@ -3,3 +3,4 @@ mod Examples
 pub mod Objects
 pub mod Prefixes
 pub mod Walks
+pub mod Looks

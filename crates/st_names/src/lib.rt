@@ -8,7 +8,7 @@ pub mod tree;
 pub mod walk;
 
 pub use name::AbsName;
-pub use parts::{NameFault, components};
+pub use parts::{NameFault, components, has_long_part, is_component};
 pub use seen::{Seen, SeenText};
 pub use tree::a_tree_is_a_map;
 pub use walk::{a_resolution_ends, a_walk_asks_in_order};

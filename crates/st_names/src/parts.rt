@@ -24,14 +24,15 @@ impl From<AllocError> for NameFault {
     }
 }
 
-fn is_component(part: &[u8]) -> bool
+/// Whether a part between slashes leads on: it is neither empty nor `.`.
+pub fn is_component(part: &[u8]) -> bool
     ensures { result ≡ is_component part.now }
 {
     !part.is_empty() && part != b".".as_slice()
 }
 
-// Whether a part between slashes is longer than a component may be.
-fn has_long_part(text: &[u8]) -> bool
+/// Whether a part between slashes is longer than a component may be.
+pub fn has_long_part(text: &[u8]) -> bool
     ensures { result ≡ has_long_part text.now }
 {
     text.split(|byte| *byte == b'/')

@@ -41,3 +41,18 @@ impl<'a> Seen<'a> {
         })
     }
 }
+
+impl SeenText {
+    /// An equal one with a text of its own.
+    pub fn copy(&self, alloc: Global) -> Result<Self, AllocError>
+        ensures { IfOk result (λ copied. copied ≡ self.now) }
+    {
+        Ok(match self {
+            SeenText::Missing => SeenText::Missing,
+            SeenText::NotDir => SeenText::NotDir,
+            SeenText::Dir => SeenText::Dir,
+            SeenText::File => SeenText::File,
+            SeenText::Link(target) => SeenText::Link(target.copy(alloc)?),
+        })
+    }
+}

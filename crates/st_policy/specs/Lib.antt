@@ -2,3 +2,4 @@ pub mod Formula
 pub mod Fast
 pub mod Policies
 pub mod Form
+pub mod Judging

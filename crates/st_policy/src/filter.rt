@@ -1,9 +1,10 @@
-ghost use Rattle.std.specs.Prelude.{◌≡◌};
+ghost use Rattle.std.specs.Prelude.{◌≡◌, IfOk};
 ghost use Rattle.st_policy.specs.Fast.{fast};
-ghost use Rattle.st_policy.specs.Policies.{filters_of, has_filter};
+ghost use Rattle.st_policy.specs.Policies.{filters_of};
 
-use st_base::{Errno, Sequence};
-use st_calls::{FastAnswer, Rule};
+use st_base::{Errno, Sequence, Text};
+use st_calls::{FastAnswer, Label, Rule};
+use std::alloc::{AllocError, Global};
 use std::marker::Model;
 
 /// The filters of one binary, in order.
@@ -16,11 +17,25 @@ pub enum FilterName {
     Rule(Rule),
 }
 
-/// A filter's test of a call's arguments.
+/// How a test compares an argument with its text.
 #[derive(Clone, Copy, Debug, PartialEq, Eq)]
+pub enum Op {
+    /// All bytes are the same.
+    Eq,
+}
+
+/// A filter's test of a call's arguments.
+#[derive(Debug, Drop)]
 pub enum Expr {
     /// Every call.
     True,
+    /// The argument of this label and index compares so with the text.
+    Test {
+        label: Text,
+        index: u32,
+        op: Op,
+        text: Text,
+    },
 }
 
 /// What a filter does with a call that it holds of.
@@ -81,7 +96,7 @@ impl Model for Filter {
 }
 
 impl Filter {
-    ghost use Rattle.st_policy.specs.Formula.{plain_filter};
+    ghost use Rattle.st_policy.specs.Formula.{plain_filter, read_of, formula};
     ghost use Rattle.st_policy.specs.Fast.{fast_answer};
     ghost use Rattle.st_policy.specs.Policies.{is_for};
 
@@ -99,11 +114,46 @@ impl Filter {
         }
     }
 
+    /// A permit for what reads the file of this name: `fsread: filename eq "NAME" then permit`.
+    pub fn read_of(alloc: Global, name: &[u8]) -> Result<Self, AllocError>
+        ensures { IfOk result (λ filter. filter ≡ read_of name.now) }
+    {
+        let label = Text::of(alloc, Label::Filename.word())?;
+        let text = Text::of(alloc, name)?;
+        Ok(Filter {
+            name: FilterName::Rule(Rule::FsRead),
+            expr: Expr::Test {
+                label,
+                index: 0,
+                op: Op::Eq,
+                text,
+            },
+            action: Action::Permit,
+            grant: None,
+            log: false,
+            predicate: None,
+        })
+    }
+
     /// What it is for.
     pub fn name(&self) -> FilterName
         ensures { result ≡ self.now.name }
     {
         self.name
+    }
+
+    /// Which calls it holds of.
+    pub fn expr(&self) -> &Expr
+        ensures { formula result.now ≡ self.now.formula }
+    {
+        &self.expr
+    }
+
+    /// What it does with a call that it holds of.
+    pub fn action(&self) -> Action
+        ensures { result ≡ self.now.action }
+    {
+        self.action
     }
 
     /// Whether it is for this rule.
@@ -121,9 +171,12 @@ impl Filter {
         if self.log || self.predicate.is_some() {
             return FastAnswer::Ask;
         }
-        match (self.expr, self.action, self.grant) {
-            (Expr::True, Action::Permit, None) => FastAnswer::Permit,
-            (Expr::True, Action::Deny(errno), _) => FastAnswer::Refuse(errno),
+        if !matches!(&self.expr, Expr::True) {
+            return FastAnswer::Ask;
+        }
+        match (self.action, self.grant) {
+            (Action::Permit, None) => FastAnswer::Permit,
+            (Action::Deny(errno), _) => FastAnswer::Refuse(errno),
             _ => FastAnswer::Ask,
         }
     }
@@ -139,11 +192,4 @@ pub fn fast(policy: &Policy, rule: Rule) -> FastAnswer
         }
     }
     FastAnswer::Ask
-}
-
-/// Whether a policy has a filter of the rule.
-pub fn has_filter(policy: &Policy, rule: Rule) -> bool
-    ensures { result ≡ has_filter rule policy.now }
-{
-    policy.as_slice().iter().any(|filter| filter.is_for(rule))
 }

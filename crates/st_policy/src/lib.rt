@@ -2,12 +2,12 @@
 #![tactic(auto)]
 
 pub mod filter;
+pub mod judging;
 pub mod reader;
 pub mod set;
 
-pub use filter::{
-    Action, Cmp, Expr, Filter, FilterName, Grant, Policy, Predicate, Who, fast, has_filter,
-};
+pub use filter::{Action, Cmp, Expr, Filter, FilterName, Grant, Op, Policy, Predicate, Who, fast};
+pub use judging::decide;
 pub use reader::{FILTER_LIMIT, PolicyFault, filter_row, header_row, read_policies};
 pub use set::{BinaryPolicy, PolicySet};
 

@@ -1,11 +1,12 @@
 ghost use Rattle.std.specs.Prelude.{◌≡◌, ◌^◌, ◌<◌, length, IfOk, option_copied};
 ghost use Rattle.st_lex.specs.Rows.{rows};
-ghost use Rattle.st_policy.specs.Form.{native_call, action_named, filter_row, is_labelled, absolute_word, is_native, header_row, filter_rows, policy_rows, policies_in};
+ghost use Rattle.st_policy.specs.Policies.{HasFewFilters};
+ghost use Rattle.st_policy.specs.Form.{native_call, action_named, plain_row, fixed_text, is_permitted, tested_text, read_row, filter_row, is_labelled, absolute_word, is_native, header_row, filter_rows, policy_rows, policies_in};
 
 use crate::filter::{Action, Filter, FilterName, Policy};
 use crate::set::{BinaryPolicy, PolicySet};
 use st_base::{Errno, Text};
-use st_calls::{Rule, SysCall};
+use st_calls::{Label, Rule, SysCall};
 use st_lex::{Token, next_row, plain_tokens};
 use std::alloc::{AllocError, Global};
 
@@ -30,14 +31,16 @@ impl From<AllocError> for PolicyFault {
     }
 }
 
-// The call that a filter's name names.
+// The call that a filter's name names, if its rule has its own name.
 fn native_call(word: &[u8]) -> Option<SysCall>
     ensures { result ≡ native_call word.now }
 {
-    if word.starts_with(b"native-") {
-        SysCall::of_word(&word[7..])
-    } else {
-        None
+    if !word.starts_with(b"native-") {
+        return None;
+    }
+    match SysCall::of_word(&word[7..]) {
+        None | Some(SysCall::Open) => None,
+        call => call,
     }
 }
 
@@ -53,9 +56,9 @@ fn action_named(word: &[u8]) -> Option<Action>
     }
 }
 
-/// The filter of a row: `native-CALL: permit`, or `deny`.
-pub fn filter_row(text: &[u8], row: &[Token]) -> Option<Filter>
-    ensures { result ≡ filter_row text.now row.now }
+// The filter of a row `native-CALL: permit`, or `deny`.
+fn plain_row(text: &[u8], row: &[Token]) -> Option<Filter>
+    ensures { result ≡ plain_row text.now row.now }
 {
     let [named, colon, action] = row else {
         return None;
@@ -73,6 +76,73 @@ fn is_labelled(text: &[u8], word: &[u8], token: &Token, colon: &Token) -> bool
     ensures { result ≡ is_labelled text.now word.now token.now colon.now }
 {
     token.is_keyword(text, word) && colon.kind.is_colon()
+}
+
+// What a quoted text holds that has neither a backslash nor a `$`.
+fn fixed_text<'a>(text: &'a [u8], token: &Token) -> Option<&'a [u8]>
+    ensures { option_copied result ≡ fixed_text text.now token.now }
+{
+    let name = token.plain_quoted(text)?;
+    if name.contains(&b'$') {
+        None
+    } else {
+        Some(name)
+    }
+}
+
+// Whether the tokens are `then permit`.
+fn is_permitted(text: &[u8], tokens: &[Token]) -> bool
+    ensures { result ≡ is_permitted text.now tokens.now }
+{
+    match tokens {
+        [behind, permit] => behind.is_keyword(text, b"then") && permit.is_keyword(text, b"permit"),
+        _ => false,
+    }
+}
+
+// The text of a test `filename eq "TEXT" then permit`.
+fn tested_text<'a>(text: &'a [u8], test: &[Token]) -> Option<&'a [u8]>
+    ensures { option_copied result ≡ tested_text text.now test.now }
+{
+    match test {
+        [label, op, quoted, action @ ..] => {
+            if label.is_keyword(text, Label::Filename.word())
+                && op.is_keyword(text, b"eq")
+                && is_permitted(text, action)
+            {
+                fixed_text(text, quoted)
+            } else {
+                None
+            }
+        }
+        _ => None,
+    }
+}
+
+// The filter of a row `native-fsread: filename eq "TEXT" then permit`.
+fn read_row(alloc: Global, text: &[u8], row: &[Token]) -> Result<Option<Filter>, AllocError>
+    ensures { IfOk result (λ found. found ≡ read_row text.now row.now) }
+{
+    let [named, colon, test @ ..] = row else {
+        return Ok(None);
+    };
+    if !is_labelled(text, b"native-fsread", named, colon) {
+        return Ok(None);
+    }
+    let Some(name) = tested_text(text, test) else {
+        return Ok(None);
+    };
+    Ok(Some(Filter::read_of(alloc, name)?))
+}
+
+/// The filter of a row: `native-CALL: permit`, or `deny`; or `native-fsread: filename eq "TEXT" then permit`.
+pub fn filter_row(alloc: Global, text: &[u8], row: &[Token]) -> Result<Option<Filter>, AllocError>
+    ensures { IfOk result (λ found. found ≡ filter_row text.now row.now) }
+{
+    if let Some(filter) = plain_row(text, row) {
+        return Ok(Some(filter));
+    }
+    read_row(alloc, text, row)
 }
 
 fn absolute_word<'a>(text: &'a [u8], token: &Token) -> Option<&'a [u8]>
@@ -122,7 +192,7 @@ fn filter_rows(alloc: Global, text: &[u8], tokens: &[Token]) -> Result<Option<Po
     let mut filters = Policy::new(alloc);
     let mut rest = tokens;
     while let Some((row, behind)) = next_row(rest) {
-        let Some(filter) = filter_row(text, row) else {
+        let Some(filter) = filter_row(alloc, text, row)? else {
             return Ok(None);
         };
         filters.push(filter)?;
@@ -135,6 +205,7 @@ fn filter_rows(alloc: Global, text: &[u8], tokens: &[Token]) -> Result<Option<Po
 fn policy_rows(alloc: Global, text: &[u8], tokens: &[Token]) -> Result<PolicySet, PolicyFault>
     ensures ok { IfOk result (λ set. policy_rows text.now (rows tokens.now) ≡ Some set) }
     ensures not_built { result ≡ Err PolicyFault.NotBuilt → policy_rows text.now (rows tokens.now) ≡ None }
+    ensures few { IfOk result HasFewFilters }
 {
     let Some((header, rest)) = next_row(tokens) else {
         return Err(PolicyFault::NotBuilt);
@@ -155,11 +226,12 @@ fn policy_rows(alloc: Global, text: &[u8], tokens: &[Token]) -> Result<PolicySet
 }
 
 /// The policies of a file, as in systrace(1): today one header with a Word as its binary, then filters
-/// `native-CALL: permit` and `native-CALL: deny`.
+/// `native-CALL: permit`, `native-CALL: deny` and `native-fsread: filename eq "TEXT" then permit`.
 pub fn read_policies(alloc: Global, text: &[u8]) -> Result<PolicySet, PolicyFault>
     requires { length text.now < 2 ^ 32 }
     ensures ok { IfOk result (λ set. policies_in text.now ≡ Some set) }
     ensures not_built { result ≡ Err PolicyFault.NotBuilt → policies_in text.now ≡ None }
+    ensures few { IfOk result HasFewFilters }
 {
     match plain_tokens(alloc, text)? {
         Some(tokens) => policy_rows(alloc, text, tokens.as_slice()),

@@ -1,6 +1,4 @@
-use crate::{
-    Action, Filter, FilterName, Policy, PolicyFault, PolicySet, fast, has_filter, read_policies,
-};
+use crate::{Action, Filter, FilterName, Policy, PolicyFault, PolicySet, fast, read_policies};
 use st_base::Errno;
 use st_calls::{FastAnswer, Rule, SysCall};
 use std::test::Fail;
@@ -31,9 +29,18 @@ fn the_first_filter_of_a_rule_answers(rt: HostRuntime) -> Result<(), Fail> {
         FastAnswer::Refuse(Errno::EPERM)
     );
     assert_eq!(rt; fast(policy, Rule::Call(SysCall::Exit)), FastAnswer::Ask);
-    assert!(rt; has_filter(policy, Rule::Call(SysCall::GetUid)));
-    assert!(rt; !has_filter(policy, Rule::Call(SysCall::Exit)));
     assert!(rt; set.get(b"/bin/b").is_empty());
+    Ok(())
+}
+
+#[test]
+fn a_test_of_a_name_is_not_answered_at_once(rt: HostRuntime) -> Result<(), Fail> {
+    let set = policies(
+        &rt,
+        b"Policy: /bin/a, Emulation: native\nnative-fsread: filename eq \"/etc/motd\" then permit",
+    )?;
+    let policy = set.get(b"/bin/a");
+    assert_eq!(rt; fast(policy, Rule::FsRead), FastAnswer::Ask);
     Ok(())
 }
 
@@ -47,6 +54,10 @@ fn what_is_not_in_the_form_is_not_built(rt: HostRuntime) {
         b"Policy: /bin/a, Emulation: linux",
         b"Policy: /bin/a, Emulation: native native-getpid: permit",
         b"Policy: /bin/a, Emulation: native\nnative-open: permit",
+        b"Policy: /bin/a, Emulation: native\nnative-fsread: permit",
+        b"Policy: /bin/a, Emulation: native\nnative-fsread: filename eq \"$HOME\" then permit",
+        b"Policy: /bin/a, Emulation: native\nnative-fsread: filename eq \"a\\b\" then permit",
+        b"Policy: /bin/a, Emulation: native\nnative-fsread: filename eq \"a\" then deny",
         b"Policy: /bin/a, Emulation: native\nnative-getpid: permit log",
         b"Policy: /bin/a, Emulation: native\nnative-getpid: permit # why",
         b"Policy: /bin/a, Emulation: native\nPolicy: /bin/b, Emulation: native",

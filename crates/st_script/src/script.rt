@@ -1,13 +1,14 @@
-ghost use Rattle.std.specs.Prelude.{◌≡◌, ◌≢◌, ◌^◌, ◌<◌, length, true, IfOk, IfSome, option_copied};
+ghost use Rattle.std.specs.Prelude.{◌≡◌, ◌≢◌, ◌^◌, ◌<◌, length, true, IfOk, IfSome};
 ghost use Rattle.st_lex.specs.Rows.{rows};
-ghost use Rattle.st_script.specs.Script.{number_at, id_at, name_at, is_root, traced_process, process_row, is_thread_row, register_at, registers, call_row, is_end, body_rows, one_thread, thread_rows, script_rows, script_in, StartsOneThread};
+ghost use Rattle.st_script.specs.Tree.{root_alone};
+ghost use Rattle.st_script.specs.Script.{is_root, traced_process, process_row, is_thread_row, one_thread, thread_rows, process_rows, script_rows, script_in, StartsOneThread};
 
-use crate::path::is_absolute;
-use st_base::number::number_of;
+use crate::body::body_rows;
+use crate::tree::{grown, is_tree_row, root_alone};
+use crate::values::{id_at, name_at};
 use st_base::{Sequence, Text};
-use st_calls::SysCall;
 use st_lex::{Token, next_row, plain_tokens};
-use st_trace::{Instr, ProcessRow, Start, ThreadRow};
+use st_trace::{Instr, ProcessRow, Start, ThreadRow, TreeRow};
 use std::alloc::{AllocError, Global};
 
 /// How many instructions a script may have.
@@ -36,34 +37,6 @@ impl From<AllocError> for ScriptFault {
 pub struct NamedProcess {
     pub name: Text,
     pub row: ProcessRow,
-}
-
-fn number_at(text: &[u8], token: &Token) -> Option<u64>
-    ensures { result ≡ number_at text.now token.now }
-{
-    if token.kind.is_word() {
-        number_of(token.text(text))
-    } else {
-        None
-    }
-}
-
-fn id_at(text: &[u8], token: &Token) -> Option<u32>
-    ensures { result ≡ id_at text.now token.now }
-{
-    let number = number_at(text, token)?;
-    if number < 1 << 32 {
-        Some(number as u32)
-    } else {
-        None
-    }
-}
-
-fn name_at<'a>(text: &'a [u8], token: &Token) -> Option<&'a [u8]>
-    ensures { option_copied result ≡ name_at text.now token.now }
-{
-    let name = token.plain_quoted(text)?;
-    if is_absolute(name) { Some(name) } else { None }
 }
 
 fn is_root(text: &[u8], token: &Token) -> bool
@@ -137,89 +110,15 @@ pub fn is_thread_row(text: &[u8], owner: &[u8], row: &[Token]) -> bool
     }
 }
 
-fn register_at(text: &[u8], numbers: &[Token], place: usize) -> Option<u64>
-    ensures { result ≡ register_at text.now numbers.now place }
-{
-    match numbers.get(place) {
-        Some(token) => number_at(text, token),
-        None => Some(0),
-    }
-}
-
-fn registers(text: &[u8], numbers: &[Token]) -> Option<[u64; 6]>
-    ensures { result ≡ registers text.now numbers.now }
-{
-    if numbers.len() > 6 {
-        return None;
-    }
-    let a = register_at(text, numbers, 0)?;
-    let b = register_at(text, numbers, 1)?;
-    let c = register_at(text, numbers, 2)?;
-    let d = register_at(text, numbers, 3)?;
-    let e = register_at(text, numbers, 4)?;
-    let f = register_at(text, numbers, 5)?;
-    Some([a, b, c, d, e, f])
-}
-
-/// The instruction of a row: `call NAME` and up to six numbers.
-pub fn call_row(text: &[u8], row: &[Token]) -> Option<Instr>
-    ensures { result ≡ call_row text.now row.now }
-{
-    let [keyword, name, numbers @ ..] = row else {
-        return None;
-    };
-    if !(keyword.is_keyword(text, b"call") && name.kind.is_word()) {
-        return None;
-    }
-    let call = SysCall::of_word(name.text(text))?;
-    let regs = registers(text, numbers)?;
-    Some(Instr::Call(call, regs))
-}
-
-/// Whether a row is `end`.
-pub fn is_end(text: &[u8], row: &[Token]) -> bool
-    ensures { result ≡ is_end text.now row.now }
-{
-    match row {
-        [keyword] => keyword.is_keyword(text, b"end"),
-        _ => false,
-    }
-}
-
-fn body_rows(
-    alloc: Global,
-    text: &[u8],
-    tokens: &[Token],
-) -> Result<Option<Sequence<Instr>>, AllocError>
-    ensures { IfOk result (λ found. found ≡ body_rows text.now (rows tokens.now)) }
-{
-    let mut body = Sequence::new(alloc);
-    let mut rest = tokens;
-    while let Some((row, behind)) = next_row(rest) {
-        if is_end(text, row) {
-            return Ok(if next_row(behind).is_none() {
-                Some(body)
-            } else {
-                None
-            });
-        }
-        let Some(instr) = call_row(text, row) else {
-            return Ok(None);
-        };
-        body.push(instr)?;
-        rest = behind;
-    }
-    Ok(None)
-}
-
 fn thread_rows(
     alloc: Global,
     text: &[u8],
+    tree: Sequence<TreeRow>,
     process: NamedProcess,
     tokens: &[Token],
 ) -> Result<Start, ScriptFault>
-    ensures ok { IfOk result (λ start. thread_rows text.now process (rows tokens.now) ≡ Some start) }
-    ensures not_built { result ≡ Err ScriptFault.NotBuilt → thread_rows text.now process (rows tokens.now) ≡ None }
+    ensures ok { IfOk result (λ start. thread_rows text.now tree process (rows tokens.now) ≡ Some start) }
+    ensures not_built { result ≡ Err ScriptFault.NotBuilt → thread_rows text.now tree process (rows tokens.now) ≡ None }
     ensures shape { process.row.traced ≡ true → IfOk result StartsOneThread }
 {
     let NamedProcess { name, row } = process;
@@ -235,16 +134,17 @@ fn thread_rows(
     if body.len() > INSTRUCTION_LIMIT {
         return Err(ScriptFault::NotBuilt);
     }
-    one_thread(alloc, row, body)
+    one_thread(alloc, tree, row, body)
 }
 
-// The start of one process and one thread of it.
+// The start of one process and one thread of it, over a tree.
 fn one_thread(
     alloc: Global,
+    tree: Sequence<TreeRow>,
     process: ProcessRow,
     body: Sequence<Instr>,
 ) -> Result<Start, ScriptFault>
-    ensures ok { IfOk result (λ start. start ≡ one_thread process body) }
+    ensures ok { IfOk result (λ start. start ≡ one_thread tree process body) }
     ensures shape { process.traced ≡ true → IfOk result StartsOneThread }
     ensures err { result ≢ Err ScriptFault.NotBuilt }
 {
@@ -255,24 +155,52 @@ fn one_thread(
         process: Some(1),
         body,
     })?;
-    Ok(Start { processes, threads })
+    Ok(Start {
+        tree,
+        processes,
+        threads,
+    })
 }
 
-fn script_rows(alloc: Global, text: &[u8], tokens: &[Token]) -> Result<Start, ScriptFault>
-    ensures ok { IfOk result (λ start. script_rows text.now (rows tokens.now) ≡ Some start) }
-    ensures not_built { result ≡ Err ScriptFault.NotBuilt → script_rows text.now (rows tokens.now) ≡ None }
+// A process in this row, and a thread behind it.
+fn process_rows(
+    alloc: Global,
+    text: &[u8],
+    tree: Sequence<TreeRow>,
+    process: &[Token],
+    tokens: &[Token],
+) -> Result<Start, ScriptFault>
+    ensures ok { IfOk result (λ start. process_rows text.now tree process.now (rows tokens.now) ≡ Some start) }
+    ensures not_built { result ≡ Err ScriptFault.NotBuilt → process_rows text.now tree process.now (rows tokens.now) ≡ None }
     ensures shape { IfOk result StartsOneThread }
 {
-    let Some((process, rest)) = next_row(tokens) else {
-        return Err(ScriptFault::NotBuilt);
-    };
     let Some(process) = process_row(alloc, text, process)? else {
         return Err(ScriptFault::NotBuilt);
     };
-    thread_rows(alloc, text, process, rest)
+    thread_rows(alloc, text, tree, process, tokens)
 }
 
-/// Where a script's run starts: today one traced process and one thread of it, whose body are calls.
+fn script_rows(alloc: Global, text: &[u8], tokens: &[Token]) -> Result<Start, ScriptFault>
+    ensures ok { IfOk result (λ start. script_rows text.now root_alone (rows tokens.now) ≡ Some start) }
+    ensures not_built { result ≡ Err ScriptFault.NotBuilt → script_rows text.now root_alone (rows tokens.now) ≡ None }
+    ensures shape { IfOk result StartsOneThread }
+{
+    let mut tree = root_alone(alloc);
+    let mut rest = tokens;
+    while let Some((row, behind)) = next_row(rest) {
+        if !is_tree_row(text, row) {
+            return process_rows(alloc, text, tree.into_rows(), row, behind);
+        }
+        let Some(more) = grown(alloc, text, tree, row)? else {
+            return Err(ScriptFault::NotBuilt);
+        };
+        tree = more;
+        rest = behind;
+    }
+    Err(ScriptFault::NotBuilt)
+}
+
+/// Where a script's run starts: a file tree, one traced process, and one thread of it.
 pub fn read_script(alloc: Global, text: &[u8]) -> Result<Start, ScriptFault>
     requires { length text.now < 2 ^ 32 }
     ensures ok { IfOk result (λ start. script_in text.now ≡ Some start) }

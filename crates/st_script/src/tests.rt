@@ -2,7 +2,7 @@ use crate::path::is_absolute;
 use crate::{ScriptFault, read_schedule, read_script};
 use st_calls::SysCall;
 use st_law::Schedule;
-use st_trace::{Instr, Start};
+use st_trace::{Instr, RowKind, Start};
 use std::test::Fail;
 
 fn script(rt: &HostRuntime, text: &[u8]) -> Result<Start, ScriptFault> {
@@ -38,6 +38,32 @@ fn one_process_and_one_thread_of_it(rt: HostRuntime) -> Result<(), Fail> {
 }
 
 #[test]
+fn a_tree_and_texts_in_memory(rt: HostRuntime) -> Result<(), Fail> {
+    let start = script(
+        &rt,
+        b"dir \"/etc\" 0 0 755\nfile \"/etc/motd\" 1 2 644 \"hi\"\nprocess p traced \"/bin/a\" 0 0 \"/\"\nthread a in p\nput 16 \"/etc/mot\"\nstore 3 100\ncall open 16\nend",
+    )?;
+    let tree = start.tree.as_slice();
+    assert_eq!(rt; tree.len(), 2);
+    assert!(rt; matches!(tree[0].new.kind, RowKind::Dir));
+    assert_eq!(rt;
+        (tree[1].new.uid, tree[1].new.gid, tree[1].new.mode),
+        (1, 2, 420)
+    );
+    assert_eq!(rt; tree[1].name.len(), 2);
+    let body = [
+        Instr::Store(2, 0x746f6d2f6374652f),
+        Instr::Store(3, 0),
+        Instr::Store(3, 100),
+        Instr::Call(SysCall::Open, [16, 0, 0, 0, 0, 0]),
+    ];
+    let threads = start.threads.as_slice();
+    assert_eq!(rt; threads.len(), 1);
+    assert_eq!(rt; threads[0].body.as_slice(), body.as_slice());
+    Ok(())
+}
+
+#[test]
 fn what_is_not_in_the_form_is_not_built(rt: HostRuntime) {
     let texts = [
         b"".as_slice(),
@@ -49,7 +75,15 @@ fn what_is_not_in_the_form_is_not_built(rt: HostRuntime) {
         b"process p traced \"/bin\\a\" 0 0 \"/\"\nthread a in p\nend",
         b"process p traced \"/bin/a\" 4294967296 0 \"/\"\nthread a in p\nend",
         b"process p traced \"/bin/a\" 0 0 \"/tmp\"\nthread a in p\nend",
-        b"process p traced \"/bin/a\" 0 0 \"/\"\nthread a in p\ncall open 0 0\nend",
+        b"process p traced \"/bin/a\" 0 0 \"/\"\nthread a in p\ncall open 0 1\nend",
+        b"process p traced \"/bin/a\" 0 0 \"/\"\nthread a in p\nstore 8192 0\nend",
+        b"process p traced \"/bin/a\" 0 0 \"/\"\nthread a in p\nput 4 \"a\"\nend",
+        b"process p traced \"/bin/a\" 0 0 \"/\"\nthread a in p\nput 65528 \"12345678\"\nend",
+        b"dir \"/a/b\" 0 0 755\nprocess p traced \"/bin/a\" 0 0 \"/\"\nthread a in p\nend",
+        b"dir \"/\" 0 0 755\nprocess p traced \"/bin/a\" 0 0 \"/\"\nthread a in p\nend",
+        b"dir \"/a\" 0 0 755\ndir \"/a\" 0 0 755\nprocess p traced \"/bin/a\" 0 0 \"/\"\nthread a in p\nend",
+        b"file \"/a\" 0 0 755 \"\"\ndir \"/a/b\" 0 0 755\nprocess p traced \"/bin/a\" 0 0 \"/\"\nthread a in p\nend",
+        b"dir \"/a\" 0 0 1000\nprocess p traced \"/bin/a\" 0 0 \"/\"\nthread a in p\nend",
         b"process p traced \"/bin/a\" 0 0 \"/\"\nthread a in p\ncall exit 1 2 3 4 5 6 7\nend",
         b"process p traced \"/bin/a\" 0 0 \"/\" # root\nthread a in p\nend",
     ];

@@ -1,5 +1,5 @@
 -- How the parts of a call of the program come to what its words and files mean.
-use Rattle.std.proofs.Common.{◌≡◌, ℕ, ◌≤◌, ◌⊎◌, inl, inr, true, false, List, length, Option, Some, Result, Ok, Err, refl, sym, ap, subst}
+use Rattle.std.proofs.Common.{◌≡◌, ℕ, ◌≤◌, ◌⊎◌, inl, inr, false, List, length, Option, Some, Result, Ok, Err, refl, sym, ap, subst}
 use Rattle.std.specs.Result.{IsErr, IsErrAnd}
 use Rattle.st_outside.specs.Count.{Rises}
 use Rattle.st_outside.specs.Files.{Held, CanHold}
@@ -19,8 +19,7 @@ use Rattle.st_top.specs.declared.status.Status.{Status}
 use Rattle.st_top.specs.declared.status.Which.{Which}
 use Rattle.st_top.specs.declared.status.Status.TheVariants.{Done, Missing, Usage, ReadFault, WriteFault, NoMemory, TooLong, NotBuilt}
 use Rattle.st_top.specs.Command.{Command}
-use Rattle.st_top.specs.Cover.{suits}
-use Rattle.st_top.specs.Meaning.{Outcome, Stops, Refuses, Writes, is_stop, Fetches, MeansSchedule, MeansInput, MeansSuited, MeansPolicies, MeansStart, MeansCommand, input_of}
+use Rattle.st_top.specs.Meaning.{Outcome, Stops, Refuses, Writes, is_stop, Fetches, MeansSchedule, MeansInput, MeansPolicies, MeansStart, MeansCommand, input_of}
 use Rattle.st_top.specs.Ends.{IsMeant, FetchRefused, Refused, Prepares, Ends}
 use Rattle.st_top.proofs.Meanings.{IsOne}
 
@@ -62,10 +61,10 @@ module _ (command : Command) (held : List ℕ → Held) where
     lawful = run_lawful i (played i schedule);
   }
 
-  -- a policy file that suits the start leads to the input
-  pub leads_from_start : (start : Start) (policies : List BinaryPolicy) (text : List ℕ) → CanHold (held command.policy) text → length text ≤ FILE_LIMIT → policies_in text ≡ Some policies → suits policies start ≡ true → (o : Outcome) → MeansInput command held (input_of policies start) o → MeansStart command held (Some start) o
-  leads_from_start start policies text content within read suited o m =
-      inr (inr (inr (text, content, within, subst (λ p. MeansPolicies command held start p o) (sym read) (subst (λ b. MeansSuited command held start policies b o) (sym suited) m))))
+  -- a policy file that is read leads to the input
+  pub leads_from_start : (start : Start) (policies : List BinaryPolicy) (text : List ℕ) → CanHold (held command.policy) text → length text ≤ FILE_LIMIT → policies_in text ≡ Some policies → (o : Outcome) → MeansInput command held (input_of policies start) o → MeansStart command held (Some start) o
+  leads_from_start start policies text content within read o m =
+      inr (inr (inr (text, content, within, subst (λ p. MeansPolicies command held start p o) (sym read) m)))
 
   -- a script that is read leads to its start
   pub leads_from_command : (start : Start) (text : List ℕ) → CanHold (held command.script) text → length text ≤ FILE_LIMIT → script_in text ≡ Some start → (o : Outcome) → MeansStart command held (Some start) o → MeansCommand held (Some command) o

@@ -1,5 +1,5 @@
 -- Words over files that are told mean one thing.
-use Rattle.std.proofs.Common.{◌≡◌, ℕ, ◌≤◌, ◌<◌, inl, inr, Bool, true, false, List, length, Option, Some, None, sym, ap, ◌∙◌, subst, arith}
+use Rattle.std.proofs.Common.{◌≡◌, ℕ, ◌≤◌, ◌<◌, inl, inr, true, false, List, length, Option, Some, None, sym, ap, ◌∙◌, subst, arith}
 use Rattle.st_outside.specs.Files.{Held, Untold, Absent, Holds}
 use Rattle.st_outside.specs.declared.files.TheConstants.{FILE_LIMIT}
 use Rattle.st_policy.specs.declared.set.BinaryPolicy.{BinaryPolicy}
@@ -12,8 +12,7 @@ use Rattle.st_law.specs.declared.input.Schedule.{Schedule}
 use Rattle.st_top.specs.declared.status.Which.{Which}
 use Rattle.st_top.specs.declared.status.Which.TheVariants as which
 use Rattle.st_top.specs.Command.{Command, command_in}
-use Rattle.st_top.specs.Cover.{suits}
-use Rattle.st_top.specs.Meaning.{Outcome, Stops, is_stop, Reads, Fetches, MeansSchedule, MeansInput, MeansSuited, MeansPolicies, MeansStart, MeansCommand, Means, input_of}
+use Rattle.st_top.specs.Meaning.{Outcome, Stops, is_stop, Reads, Fetches, MeansSchedule, MeansInput, MeansPolicies, MeansStart, MeansCommand, Means, input_of}
 use Rattle.st_top.specs.Ends.{IsTold}
 
 -- a relation that holds of one outcome at the most, beside stops
@@ -55,13 +54,9 @@ module _ (held : List ℕ → Held) (told : (name : List ℕ) → IsTold (held n
   input_one : (i : Input) → IsOne (MeansInput command held i)
   input_one i = fetches_one (held command.schedule) which.Schedule (λ text. MeansSchedule i (schedule_in text)) (told command.schedule) (λ text. schedule_one i (schedule_in text))
 
-  suited_one : (start : Start) (policies : List BinaryPolicy) (b : Bool) → IsOne (MeansSuited command held start policies b)
-  suited_one start policies true a b u v p q = input_one (input_of policies start) a b u v p q
-  suited_one start policies false a b u v p q = p ∙ sym q
-
   policies_one : (start : Start) (o : Option (List BinaryPolicy)) → IsOne (MeansPolicies command held start o)
   policies_one start None a b u v p q = p ∙ sym q
-  policies_one start (Some policies) a b u v p q = suited_one start policies (suits policies start) a b u v p q
+  policies_one start (Some policies) a b u v p q = input_one (input_of policies start) a b u v p q
 
   start_one : (o : Option Start) → IsOne (MeansStart command held o)
   start_one None a b u v p q = p ∙ sym q

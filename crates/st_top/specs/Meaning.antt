@@ -19,7 +19,6 @@ use Rattle.st_top.specs.declared.status.Status.TheVariants.{Missing, Usage, TooL
 use Rattle.st_top.specs.declared.status.Which.{Which}
 use Rattle.st_top.specs.declared.status.Which.TheVariants as which
 use Rattle.st_top.specs.Command.{Command, command_in}
-use Rattle.st_top.specs.Cover.{suits}
 
 -- what a call of the program comes to: it refuses, it writes a text, that of a run by these choices, or it stops at a file
 -- that can't be read
@@ -64,13 +63,9 @@ abbrev pub MeansInput : Command → (List ℕ → Held) → Input → Outcome �
 MeansInput command held i outcome =
     Fetches (held command.schedule) which.Schedule (λ text. MeansSchedule i (schedule_in text) outcome) outcome
 
-abbrev pub MeansSuited : Command → (List ℕ → Held) → Start → List BinaryPolicy → Bool → Outcome → Type 0
-MeansSuited command held start policies true outcome = MeansInput command held (input_of policies start) outcome
-MeansSuited command held start policies false outcome = outcome ≡ Refuses (NotBuilt (which.Policy 1))
-
 abbrev pub MeansPolicies : Command → (List ℕ → Held) → Start → Option (List BinaryPolicy) → Outcome → Type 0
 MeansPolicies command held start None outcome = outcome ≡ Refuses (NotBuilt (which.Policy 1))
-MeansPolicies command held start (Some policies) outcome = MeansSuited command held start policies (suits policies start) outcome
+MeansPolicies command held start (Some policies) outcome = MeansInput command held (input_of policies start) outcome
 
 abbrev pub MeansStart : Command → (List ℕ → Held) → Option Start → Outcome → Type 0
 MeansStart command held None outcome = outcome ≡ Refuses (NotBuilt which.Script)

@@ -2,7 +2,6 @@
 #![tactic(auto)]
 
 pub mod command;
-pub mod cover;
 pub mod law;
 pub mod plain;
 pub mod status;

@@ -2,6 +2,7 @@ ghost use Rattle.std.specs.Prelude.{◌≡◌, ◌≢◌, ◌≤◌, ◌⊎◌, 
 ghost use Rattle.st_outside.specs.Count.{Rises};
 ghost use Rattle.st_outside.specs.Files.{CanHold};
 ghost use Rattle.st_outside.specs.declared.files.TheConstants.{FILE_LIMIT};
+ghost use Rattle.st_policy.specs.Policies.{HasFewFilters};
 ghost use Rattle.st_kernel.specs.Runs.{IsOneThread};
 ghost use Rattle.st_script.specs.Script.{StartsOneThread};
 ghost use Rattle.st_law.specs.Machine.{run, played};
@@ -12,7 +13,6 @@ ghost use Rattle.st_top.specs.Meaning.{Outcome, Refuses, Means, MeansCommand, Me
 ghost use Rattle.st_top.specs.Ends.{FetchRefused, IsStopped, Prepares, WritesWhole, WritesFront, IsTold, Ends};
 
 use crate::command::{Command, command_of};
-use crate::cover::suits;
 use crate::status::{Status, Which};
 use st_audit::audit_text;
 use st_base::Text;
@@ -43,7 +43,8 @@ fn fetch<F: Files>(alloc: Global, files: &mut F, name: &Text, which: Which) -> R
 
 // The audit of the run that a schedule makes.
 fn audit_of(alloc: Global, input: &Input, schedule: Schedule) -> Result<Text, AllocError>
-    requires { IsOneThread input.now }
+    requires one { IsOneThread input.now }
+    requires few { HasFewFilters input.now.policies }
     ensures { IfOk result (λ text. text ≡ audit input.now (run input.now (played input.now schedule))) }
 {
     let Schedule::Rest = schedule;
@@ -59,7 +60,8 @@ fn run_input<F: Files>(
     files: &mut F,
     input: &Input,
 ) -> Result<Text, Status>
-    requires { IsOneThread input.now }
+    requires one { IsOneThread input.now }
+    requires few { HasFewFilters input.now.policies }
     ensures held { F.held files.new ≡ F.held files.old }
     ensures prepares { Prepares (MeansInput command.now (F.held files.old) input.now) (F.faults files.old) (F.faults files.new) result }
     ensures quiet { result ≢ Err Status.ReadFault → F.faults files.new ≡ F.faults files.old }
@@ -92,9 +94,6 @@ fn run_start<F: Files>(
         Err(PolicyFault::NotBuilt) => return Err(Status::NotBuilt(which)),
         Err(PolicyFault::NoMemory) => return Err(Status::NoMemory),
     };
-    if !suits(&policies, &start) {
-        return Err(Status::NotBuilt(which));
-    }
     let options = Options {
         mode: Mode::Enforce,
     };

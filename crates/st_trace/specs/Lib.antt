@@ -1,1 +1,3 @@
 pub mod Effect
+pub mod Permission
+pub mod Progress

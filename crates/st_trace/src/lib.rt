@@ -5,4 +5,4 @@ pub mod entry;
 pub mod start;
 
 pub use entry::{CallResult, Cause, Change, Choice, Entry, Way};
-pub use start::{Instr, ProcessRow, Start, ThreadRow};
+pub use start::{Instr, NewRow, ProcessRow, RowKind, Start, ThreadRow, TreeRow};

@@ -1,11 +1,37 @@
 use st_base::{Pid, Sequence, Text};
 use st_calls::SysCall;
+use st_names::AbsName;
 
 /// Where a run starts: the rows of a script, in order.
 #[derive(Debug, Drop)]
 pub struct Start {
+    /// What the file tree has beside the root; an object's number is the row's place, from 2.
+    pub tree: Sequence<TreeRow>,
     pub processes: Sequence<ProcessRow>,
     pub threads: Sequence<ThreadRow>,
+}
+
+/// A directory or a file that is there from the start.
+#[derive(Debug, Drop)]
+pub struct TreeRow {
+    pub name: AbsName,
+    pub new: NewRow,
+}
+
+/// What a tree row makes.
+#[derive(Debug, Drop)]
+pub struct NewRow {
+    pub kind: RowKind,
+    pub uid: u32,
+    pub gid: u32,
+    pub mode: u32,
+}
+
+/// What kind of object a tree row makes.
+#[derive(Debug, Drop)]
+pub enum RowKind {
+    Dir,
+    File(Text),
 }
 
 /// A process that is there from the start; its number is the row's place, from 1.
@@ -30,6 +56,8 @@ pub struct ThreadRow {
 /// One instruction of a thread's body.
 #[derive(Clone, Copy, Debug, PartialEq, Eq)]
 pub enum Instr {
+    /// A store of a word at a place of the process's memory.
+    Store(u32, u64),
     /// A system call with its six registers.
     Call(SysCall, [u64; 6]),
 }

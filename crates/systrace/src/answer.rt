@@ -10,8 +10,9 @@ usage: systrace step -f POLICY SCRIPT SCHEDULE
        systrace --help
        systrace --version
 
-POLICY    the policy of the script's binary: which of its system calls are permitted, and which are denied
-SCRIPT    the process that runs, its thread, and the system calls that the thread makes
+POLICY    the policy of a binary: which of its system calls are permitted, and which are denied
+SCRIPT    the files that are there, the process that runs, its thread, and what the thread does: the words that it stores
+          in memory, and the system calls that it makes
 SCHEDULE  the order in which the threads run: the one line 'rest' runs them to their end
 ";
 

@@ -31,9 +31,7 @@ const SHOWN: usize = 60;
 // What is not built of a file whose rows are all in the form.
 fn not_built(which: Which) -> &'static str {
     match which {
-        Which::Policy(_) => {
-            "not a policy of this script: expected that of its process's binary, with a filter for each of its calls, and at most 4096 filters"
-        }
+        Which::Policy(_) => "not a policy that is built: expected at most 4096 filters",
         Which::Script => "not a script that is built: expected at most 4096 instructions",
         Which::Schedule => "not a schedule that is built: expected the one line 'rest'",
     }
@@ -169,7 +167,7 @@ mod tests {
             (
                 Status::NotBuilt(Which::Policy(1)),
                 11,
-                b"systrace: p: not a policy of this script: expected that of its process's binary, with a filter for each of its calls, and at most 4096 filters",
+                b"systrace: p: not a policy that is built: expected at most 4096 filters",
             ),
             (
                 Status::NotBuilt(Which::Script),
@@ -202,54 +200,103 @@ mod tests {
     }
 
     #[test]
-    fn tells_where_a_file_leaves_its_form(rt: HostRuntime) -> Result<(), Fail> {
-        let policy = Which::Policy(1);
-        let script = Which::Script;
-        for (which, text, want) in [
+    fn tells_where_a_policy_leaves_its_form(rt: HostRuntime) -> Result<(), Fail> {
+        for (text, want) in [
             (
-                policy,
                 b"".as_slice(),
                 b"systrace: f:1:1: found the end of the file, expected 'Policy: /BINARY, Emulation: native'".as_slice(),
             ),
             (
-                policy,
                 b"Policy: /a, Emulation: native\n\n native-open: permit\n",
-                b"systrace: f:3:2: found 'native-open: permit', expected 'native-CALL: permit' or 'native-CALL: deny', CALL being getpid, getuid, geteuid or exit",
+                b"systrace: f:3:2: found 'native-open: permit', expected 'native-CALL: permit' or 'native-CALL: deny', CALL being getpid, getuid, geteuid or exit, or 'native-fsread: filename eq \"TEXT\" then permit'",
             ),
             (
-                policy,
+                b"Policy: /a, Emulation: native\nnative-fsread: filename eq \"$HOME\" then permit",
+                b"systrace: f:2:1: found 'native-fsread: filename eq \"$HOME\" then permit', expected 'native-fsread: filename eq \"TEXT\" then permit', TEXT without a backslash and '$'",
+            ),
+            (
                 b"Policy: /a, Emulation: native # a",
                 b"systrace: f:1:31: found '# a', expected no '#', which is not built",
             ),
             (
-                policy,
                 b"Policy: /a; Emulation: native",
                 b"systrace: f:1:11: found '; Emulation: native', expected a token",
             ),
-            (policy, b"Policy: /a, Emulation: native", b""),
             (
-                script,
-                b"process p traced \"/a\" 0 0 \"/\"\nthread a in q\nend",
-                b"systrace: f:2:1: found 'thread a in q', expected 'thread NAME in PROCESS', PROCESS being the process above",
+                b"Policy: /a, Emulation: native\nnative-fsread: filename eq \"/f\" then permit",
+                b"",
+            ),
+        ] {
+            assert_eq!(rt; told(rt.alloc(), Which::Policy(1), text)?.bytes(), want);
+        }
+        Ok(())
+    }
+
+    #[test]
+    fn tells_where_the_rows_of_a_script_leave_their_form(rt: HostRuntime) -> Result<(), Fail> {
+        for (text, want) in [
+            (
+                b"process p traced \"/a\" 0 0 \"/\"\nthread a in q\nend".as_slice(),
+                b"systrace: f:2:1: found 'thread a in q', expected 'thread NAME in PROCESS', PROCESS being the process above".as_slice(),
             ),
             (
-                script,
-                b"process p traced \"/a\" 0 0 \"/\"\nthread a in p\ncall open",
-                b"systrace: f:3:1: found 'call open', expected 'call CALL' with up to six numbers, CALL being getpid, getuid, geteuid or exit, or 'end'",
+                b"dir \"/d\" 0 0 755\nfile \"/d/f\" 0 0 644 \"f\"\nprocess p traced \"/a\" 0 0 \"/\"\nthread a in p\nput 0 \"/d/f\"\nstore 9 1\ncall open\nend",
+                b"",
             ),
             (
-                script,
+                b"",
+                b"systrace: f:1:1: found the end of the file, expected 'process NAME traced \"/BINARY\" UID GID \"/\"', behind rows 'dir' and 'file'",
+            ),
+            (
+                b"dir \"/d\" 0 0 755\ndir \"/d\" 0 0 755",
+                b"systrace: f:2:1: found 'dir \"/d\" 0 0 755', expected 'dir \"/PATH\" UID GID MODE', /PATH being new, in the root or a directory of a row above, at most 4095 rows in all",
+            ),
+            (
+                b"file \"/d/f\" 0 0 644 \"f\"",
+                b"systrace: f:1:1: found 'file \"/d/f\" 0 0 644 \"f\"', expected 'file \"/PATH\" UID GID MODE \"CONTENT\"', /PATH being new, in the root or a directory of a row above, at most 4095 rows in all",
+            ),
+        ] {
+            assert_eq!(rt; told(rt.alloc(), Which::Script, text)?.bytes(), want);
+        }
+        Ok(())
+    }
+
+    #[test]
+    fn tells_where_the_body_of_a_thread_leaves_its_form(rt: HostRuntime) -> Result<(), Fail> {
+        for (text, want) in [
+            (
+                b"process p traced \"/a\" 0 0 \"/\"\nthread a in p\ncall open 0 1".as_slice(),
+                b"systrace: f:3:1: found 'call open 0 1', expected 'call CALL' with up to six numbers, CALL being getpid, getuid, geteuid, exit, or open with 0 as its second number".as_slice(),
+            ),
+            (
+                b"process p traced \"/a\" 0 0 \"/\"\nthread a in p\nstore 8192 1",
+                b"systrace: f:3:1: found 'store 8192 1', expected 'store PLACE WORD', PLACE below 8192",
+            ),
+            (
+                b"process p traced \"/a\" 0 0 \"/\"\nthread a in p\nput 4 \"/f\"",
+                b"systrace: f:3:1: found 'put 4 \"/f\"', expected 'put AT \"TEXT\"', AT a multiple of 8, and the text and a zero byte within 65536 bytes",
+            ),
+            (
+                b"process p traced \"/a\" 0 0 \"/\"\nthread a in p\nfork b",
+                b"systrace: f:3:1: found 'fork b', expected 'call', 'store', 'put' or 'end'",
+            ),
+            (
                 b"process p traced \"/a\" 0 0 \"/\"\nthread a in p\nend\nend",
                 b"systrace: f:4:1: found 'end', expected the end of the file",
             ),
-            (
-                Which::Schedule,
-                b"rest\nthread 1",
-                b"systrace: f:2:1: found 'thread 1', expected the end of the file",
-            ),
         ] {
-            assert_eq!(rt; told(rt.alloc(), which, text)?.bytes(), want);
+            assert_eq!(rt; told(rt.alloc(), Which::Script, text)?.bytes(), want);
         }
+        Ok(())
+    }
+
+    #[test]
+    fn tells_where_a_schedule_leaves_its_form(rt: HostRuntime) -> Result<(), Fail> {
+        let told = told(rt.alloc(), Which::Schedule, b"rest\nthread 1")?;
+        assert_eq!(rt;
+            told.bytes(),
+            b"systrace: f:2:1: found 'thread 1', expected the end of the file".as_slice()
+        );
         Ok(())
     }
 }

@@ -4,7 +4,9 @@ ghost use Rattle.st_outside.specs.declared.files.TheConstants.{FILE_LIMIT};
 use st_base::Text;
 use st_lex::{LexFault, Lexed, Token, next_row, tokens};
 use st_policy::{filter_row, header_row};
-use st_script::{call_row, is_end, is_thread_row, process_row, schedule_row};
+use st_script::{
+    body_row, grown, is_end, is_thread_row, is_tree_row, process_row, root_alone, schedule_row,
+};
 use st_top::Which;
 use std::alloc::{AllocError, Global};
 
@@ -25,6 +27,7 @@ pub struct Misfit<'a> {
 enum Awaited {
     Header,
     Filter,
+    /// The process, behind the rows of the tree.
     Process,
     Thread(Text),
     Instruction,
@@ -36,6 +39,83 @@ const NO_COMMENT: &str = "no '#', which is not built";
 
 const TOKEN: &str = "a token";
 
+// Whether a row begins with this Word.
+fn begins(text: &[u8], row: &[Token], word: &[u8]) -> bool {
+    match row {
+        [keyword, ..] => keyword.is_keyword(text, word),
+        _ => false,
+    }
+}
+
+fn filter_form(text: &[u8], row: &[Token]) -> &'static str {
+    if begins(text, row, b"native-fsread") {
+        "'native-fsread: filename eq \"TEXT\" then permit', TEXT without a backslash and '$'"
+    } else {
+        "'native-CALL: permit' or 'native-CALL: deny', CALL being getpid, getuid, geteuid or exit, or 'native-fsread: filename eq \"TEXT\" then permit'"
+    }
+}
+
+fn tree_form(text: &[u8], row: &[Token]) -> &'static str {
+    if begins(text, row, b"dir") {
+        "'dir \"/PATH\" UID GID MODE', /PATH being new, in the root or a directory of a row above, at most 4095 rows in all"
+    } else if begins(text, row, b"file") {
+        "'file \"/PATH\" UID GID MODE \"CONTENT\"', /PATH being new, in the root or a directory of a row above, at most 4095 rows in all"
+    } else {
+        "'process NAME traced \"/BINARY\" UID GID \"/\"', behind rows 'dir' and 'file'"
+    }
+}
+
+fn body_form(text: &[u8], row: &[Token]) -> &'static str {
+    if begins(text, row, b"call") {
+        "'call CALL' with up to six numbers, CALL being getpid, getuid, geteuid, exit, or open with 0 as its second number"
+    } else if begins(text, row, b"store") {
+        "'store PLACE WORD', PLACE below 8192"
+    } else if begins(text, row, b"put") {
+        "'put AT \"TEXT\"', AT a multiple of 8, and the text and a zero byte within 65536 bytes"
+    } else {
+        "'call', 'store', 'put' or 'end'"
+    }
+}
+
+// What is behind the rows of the tree that fit.
+fn behind_tree<'t>(
+    alloc: Global,
+    text: &[u8],
+    tokens: &'t [Token],
+) -> Result<&'t [Token], AllocError> {
+    let mut tree = root_alone(alloc);
+    let mut rest = tokens;
+    while let Some((row, behind)) = next_row(rest) {
+        if !is_tree_row(text, row) {
+            return Ok(rest);
+        }
+        let Some(more) = grown(alloc, text, tree, row)? else {
+            return Ok(rest);
+        };
+        tree = more;
+        rest = behind;
+    }
+    Ok(rest)
+}
+
+// What is awaited behind the process.
+fn behind_process(
+    alloc: Global,
+    text: &[u8],
+    row: &[Token],
+) -> Result<Option<Awaited>, AllocError> {
+    let process = process_row(alloc, text, row)?;
+    Ok(process.map(|process| Awaited::Thread(process.name)))
+}
+
+// What is awaited behind a row of a body.
+fn behind_body(alloc: Global, text: &[u8], row: &[Token]) -> Result<Option<Awaited>, AllocError> {
+    if is_end(text, row) {
+        return Ok(Some(Awaited::Nothing));
+    }
+    Ok(body_row(alloc, text, row)?.map(|_| Awaited::Instruction))
+}
+
 impl Awaited {
     fn first(which: Which) -> Self {
         match which {
@@ -45,18 +125,14 @@ impl Awaited {
         }
     }
 
-    // What a person reads of it.
-    fn description(&self) -> &'static str {
+    // What a person reads of it where this row stands, or no row at the end of the file.
+    fn description(&self, text: &[u8], row: &[Token]) -> &'static str {
         match self {
             Awaited::Header => "'Policy: /BINARY, Emulation: native'",
-            Awaited::Filter => {
-                "'native-CALL: permit' or 'native-CALL: deny', CALL being getpid, getuid, geteuid or exit"
-            }
-            Awaited::Process => "'process NAME traced \"/BINARY\" UID GID \"/\"'",
+            Awaited::Filter => filter_form(text, row),
+            Awaited::Process => tree_form(text, row),
             Awaited::Thread(_) => "'thread NAME in PROCESS', PROCESS being the process above",
-            Awaited::Instruction => {
-                "'call CALL' with up to six numbers, CALL being getpid, getuid, geteuid or exit, or 'end'"
-            }
+            Awaited::Instruction => body_form(text, row),
             Awaited::Rest => "'rest'",
             Awaited::Nothing => "the end of the file",
         }
@@ -69,33 +145,24 @@ impl Awaited {
 
     // What is awaited behind a row that fits; none where the row doesn't.
     fn behind(
-        &self,
+        self,
         alloc: Global,
         text: &[u8],
         row: &[Token],
     ) -> Result<Option<Awaited>, AllocError> {
-        let fits = match self {
-            Awaited::Header => header_row(text, row).is_some(),
-            Awaited::Filter => filter_row(text, row).is_some(),
-            Awaited::Process => {
-                return Ok(process_row(alloc, text, row)?.map(|process| Awaited::Thread(
-                    process.name,
-                )));
-            }
-            Awaited::Thread(owner) => is_thread_row(text, owner.bytes(), row),
-            Awaited::Instruction => is_end(text, row) || call_row(text, row).is_some(),
-            Awaited::Rest => schedule_row(text, row).is_some(),
-            Awaited::Nothing => false,
-        };
-        if !fits {
-            return Ok(None);
+        match self {
+            Awaited::Header => Ok(header_row(text, row).map(|_| Awaited::Filter)),
+            Awaited::Filter => Ok(filter_row(alloc, text, row)?.map(|_| Awaited::Filter)),
+            Awaited::Process => behind_process(alloc, text, row),
+            Awaited::Thread(owner) => Ok(if is_thread_row(text, owner.bytes(), row) {
+                Some(Awaited::Instruction)
+            } else {
+                None
+            }),
+            Awaited::Instruction => behind_body(alloc, text, row),
+            Awaited::Rest => Ok(schedule_row(text, row).map(|_| Awaited::Nothing)),
+            Awaited::Nothing => Ok(None),
         }
-        Ok(Some(match self {
-            Awaited::Header | Awaited::Filter => Awaited::Filter,
-            Awaited::Instruction if !is_end(text, row) => Awaited::Instruction,
-            Awaited::Thread(_) => Awaited::Instruction,
-            _ => Awaited::Nothing,
-        }))
     }
 }
 
@@ -136,21 +203,23 @@ fn first_misfit<'a>(
     tokens: &[Token],
 ) -> Result<Option<Misfit<'a>>, AllocError> {
     let mut awaited = Awaited::first(which);
-    let mut rest = tokens;
+    let mut rest = match which {
+        Which::Script => behind_tree(alloc, text, tokens)?,
+        Which::Policy(_) | Which::Schedule => tokens,
+    };
     while let Some((row, behind)) = next_row(rest) {
-        match awaited.behind(alloc, text, row)? {
-            Some(next) => awaited = next,
-            None => {
-                let at = row.first().map_or(text.len(), |token| token.at as usize);
-                return Ok(Some(misfit_at(text, at, awaited.description())));
-            }
-        }
+        let expected = awaited.description(text, row);
+        let Some(next) = awaited.behind(alloc, text, row)? else {
+            let at = row.first().map_or(text.len(), |token| token.at as usize);
+            return Ok(Some(misfit_at(text, at, expected)));
+        };
+        awaited = next;
         rest = behind;
     }
     if awaited.may_end() {
         return Ok(None);
     }
-    Ok(Some(misfit_at(text, text.len(), awaited.description())))
+    Ok(Some(misfit_at(text, text.len(), awaited.description(text, &[]))))
 }
 
 /// Where a file of this kind leaves the form that is read; none where each row is in it.

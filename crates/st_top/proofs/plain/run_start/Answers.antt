@@ -17,7 +17,6 @@ returns-clause-prepares g c =
     (subst (λ name. CanHold (g.F.Files.held c.args.files.now name) c.in_ok-text.text) (ap (λ (command : Command). command.policy) c.command.view_is) c.in_ok-text.ensures.content)
     c.in_ok-text.ensures.within
     (ap policies_in (sym c.bytes.ensures) ∙ c.in-Ok.ensures.ok)
-    (sym c.suits.ensures ∙ c.if-not-suits.false)
     o (subst (λ held. MeansInput c.args.command.now held (input_of c.in-Ok.policies c.args.start) o) c.fetch.ensures.held m))
     c.run_input.ensures.prepares
 

@@ -3,4 +3,4 @@ use Rattle.st_kernel.proofs.kernel.Kernel.trace.Goals as goal
 
 pub returns-clause-lawful : goal.returns-clause-lawful
 returns-clause-lawful c =
-    rw (← c.self.view_is, c.as_slice.ensures.value, c.self.invariant.run_is) (run_lawful c.self.inside.input.now c.self.inside.schedule.items)
+    rw (← c.self.view_is, c.as_slice.ensures.value, c.self.invariant.run_is) (run_lawful c.self.inside.setup c.self.inside.schedule.items)

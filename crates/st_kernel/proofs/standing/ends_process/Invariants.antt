@@ -1,0 +1,7 @@
+use Rattle.std.proofs.Common.{◌≡◌, drop}
+use Rattle.st_law.specs.History.{ends_process}
+use Rattle.st_kernel.proofs.standing.ends_process.Given as goal
+
+-- what is left says whether it ends
+abbrev pub invariant-loop-change : goal.invariant-loop-change
+invariant-loop-change l = ends_process (drop l.change-index l.changes) l.pid ≡ ends_process l.changes l.pid

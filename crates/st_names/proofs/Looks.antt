@@ -1,0 +1,67 @@
+-- A tree without links: no look sees a link, and a walk takes no more looks than its text has bytes.
+use native.Mathlib.Omega.{arith}
+use Rattle.std.proofs.Common.{◌≡◌, ◌<◌, ◌≤◌, ℕ, zero, suc, ◌+◌, Bool, true, false, cond, List, [], ◌∷◌, ◌++◌, length, Option, Some, None, slice_get, refl}
+use Rattle.st_names.specs.Name.{Components}
+use Rattle.st_names.specs.Tree.{Tree, Node, Kind, Directory, Regular, Symlink, is_directory, root_only, seen_of, seen_of_kind, seen_behind, look, look_behind, node_of, node_at, node_numbered, object_of}
+use Rattle.st_names.specs.Walk.{asks, start_walk}
+use Rattle.st_names.specs.declared.seen.SeenText.{SeenText}
+use Rattle.st_names.specs.declared.seen.SeenText.TheVariants.{NotDir}
+use Rattle.st_names.proofs.Endings.{link_length, AreWithin, start_early}
+
+abbrev pub is_link : Kind → Bool
+is_link Directory = false
+is_link Regular = false
+is_link Symlink = true
+
+abbrev pub AreNoLinks : List Node → Type 0
+AreNoLinks [] = Unit {0}
+AreNoLinks (node ∷ nodes) = (is_link node.kind ≡ false) × AreNoLinks nodes
+
+pub AreNoLinks-push : (nodes : List Node) (node : Node) → AreNoLinks nodes → is_link node.kind ≡ false → AreNoLinks (nodes ++ node ∷ [])
+AreNoLinks-push [] node all here = (here, tt)
+AreNoLinks-push (first ∷ nodes) node all here = (all.0, AreNoLinks-push nodes node all.1 here)
+
+abbrev IsNoLink : Option Node → Type 0
+IsNoLink None = Unit {0}
+IsNoLink (Some node) = is_link node.kind ≡ false
+
+get-no_link : (nodes : List Node) (n : ℕ) → AreNoLinks nodes → IsNoLink (slice_get nodes n)
+get-no_link [] n all = tt
+get-no_link (node ∷ nodes) zero all = all.0
+get-no_link (node ∷ nodes) (suc n) all = get-no_link nodes n all.1
+
+numbered-no_link : (tree : Tree) (n : ℕ) → AreNoLinks tree.objects → IsNoLink (node_numbered tree n)
+numbered-no_link tree zero all = tt
+numbered-no_link tree (suc n) all = get-no_link tree.objects n all
+
+at-no_link : (tree : Tree) (o : Option ℕ) → AreNoLinks tree.objects → IsNoLink (node_at tree o)
+at-no_link tree None all = tt
+at-no_link tree (Some n) all = numbered-no_link tree n all
+
+kind-no_link : (kind : Kind) (content : List ℕ) → is_link kind ≡ false → link_length (seen_of_kind kind content) ≤ 0
+kind-no_link Directory content h = omega arith
+kind-no_link Regular content h = omega arith
+kind-no_link Symlink content h = cc
+
+seen-no_link : (o : Option Node) → IsNoLink o → link_length (seen_of o) ≤ 0
+seen-no_link None h = omega arith
+seen-no_link (Some node) h = kind-no_link node.kind node.content h
+
+behind-no_link : (o : Option Node) (rest : SeenText) → link_length rest ≤ 0 → link_length (seen_behind o rest) ≤ 0
+behind-no_link None rest h = omega arith
+behind-no_link (Some node) rest h = by_kind (is_directory node.kind) rest h where
+  by_kind : (b : Bool) (rest : SeenText) → link_length rest ≤ 0 → link_length (cond b rest NotDir) ≤ 0
+  by_kind true rest h = h
+  by_kind false rest h = omega arith
+
+look_behind-no_link : (tree : Tree) (done rest : Components) → AreNoLinks tree.objects → link_length (look_behind tree done rest) ≤ 0
+look_behind-no_link tree done [] all = seen-no_link (node_of tree done) (at-no_link tree (object_of tree done) all)
+look_behind-no_link tree done (part ∷ rest) all = behind-no_link (node_of tree done) (look_behind tree (done ++ part ∷ []) rest) (look_behind-no_link tree (done ++ part ∷ []) rest all)
+
+-- no look sees a link
+pub look-no_link : (tree : Tree) (name : Components) → AreNoLinks tree.objects → link_length (look tree name) ≤ 0
+look-no_link tree name all = look_behind-no_link tree [] name all
+
+-- where no link was seen, a walk that asks has taken fewer looks than its text has bytes
+pub few_looks : (cwd : Components) (text : List ℕ) (follow : Bool) (seens : List SeenText) → AreWithin 0 seens → asks (start_walk text cwd follow seens) ≡ true → length seens < length text
+few_looks cwd text follow seens all h = let early = start_early root_only cwd text follow seens all h in omega (arith, early)

@@ -1,0 +1,28 @@
+-- What single tokens spell.
+use Rattle.std.specs.Prelude.{ℕ, ◌^◌, if◌then◌else◌, nat_lt, List, Option, Some, None, option_and_then}
+use Rattle.st_base.specs.Number.{number_in, mode_in}
+use Rattle.st_lex.specs.declared.token.Token.{Token}
+use Rattle.st_lex.specs.Text.{text_of_token, is_word, plain_quoted}
+use Rattle.st_script.specs.Path.{is_absolute}
+
+-- the number that a token spells
+abbrev pub number_at : List ℕ → Token → Option ℕ
+number_at text token = if is_word token.kind then number_in (text_of_token text token) else None
+
+abbrev pub below : ℕ → ℕ → Option ℕ
+below bound n = if nat_lt n bound then Some n else None
+
+-- a user's or a group's id
+abbrev pub id_at : List ℕ → Token → Option ℕ
+id_at text token = option_and_then (below (2 ^ 32)) (number_at text token)
+
+abbrev pub absolute_of : List ℕ → Option (List ℕ)
+absolute_of name = if is_absolute name then Some name else None
+
+-- an absolute name in quotes
+abbrev pub name_at : List ℕ → Token → Option (List ℕ)
+name_at text token = option_and_then absolute_of (plain_quoted text token)
+
+-- the mode that a token spells
+abbrev pub mode_at : List ℕ → Token → Option ℕ
+mode_at text token = if is_word token.kind then mode_in (text_of_token text token) else None

@@ -1,0 +1,295 @@
+ghost use Rattle.std.specs.Prelude.{◌≡◌, drop, false, length, IfOk, option_copied};
+ghost use Rattle.st_script.specs.Path.{parts};
+ghost use Rattle.st_script.specs.Places.{is_taken, is_directory};
+ghost use Rattle.st_script.specs.Tree.{path_at, last_slash, directory_of, is_placed, owner_at, owned_by, dir_row, content_at, file_of, file_row, new_row, is_tree_row, is_dir, with_row, grown, root_alone};
+
+use crate::values::{id_at, mode_at, name_at};
+use st_base::{Sequence, Text};
+use st_lex::Token;
+use st_names::AbsName;
+use st_trace::{NewRow, RowKind, TreeRow};
+use std::alloc::{AllocError, Global};
+use std::collections::BTreeMap;
+use std::marker::Model;
+
+/// How many rows a tree may have.
+pub const TREE_LIMIT: usize = 4095;
+
+/// A path that a row gave, and whether a directory is there.
+#[derive(Debug, Drop)]
+pub struct Place {
+    pub path: Text,
+    pub is_dir: bool,
+}
+
+/// The tree so far, with a map of its paths, so that no row searches all earlier ones.
+#[derive(Debug, Drop)]
+pub struct TreeSoFar<'a> {
+    // The paths in order, as contracts speak of them.
+    places: Sequence<Place>,
+    // The same as a map: whether a directory is there.
+    kinds: BTreeMap<&'a [u8], bool>,
+    rows: Sequence<TreeRow>,
+}
+
+impl<'a> Model for TreeSoFar<'a> {
+    ghost use Rattle.st_script.specs.Places.{Tree, HasKinds};
+
+    ghost Value = { Tree };
+
+    ghost view = { λ t. record { places = t.places; rows = t.rows } };
+
+    ghost invariant = { λ t. HasKinds t.kinds t.places };
+}
+
+impl<'a> TreeSoFar<'a> {
+    /// The rows, in order.
+    pub fn into_rows(self) -> Sequence<TreeRow>
+        ensures { result ≡ self.entry.rows }
+    {
+        self.rows
+    }
+
+    fn is_taken(&self, path: &[u8]) -> bool
+        ensures { result ≡ is_taken self.now.places path.now }
+    {
+        self.kinds.contains_key(path)
+    }
+
+    #[tactic(auto, using(crate::proofs::Placing::is_directory_by))]
+    fn is_directory(&self, path: &[u8]) -> bool
+        ensures { result ≡ is_directory self.now.places path.now }
+    {
+        self.kinds.get(path).copied().unwrap_or(false)
+    }
+
+    // Whether a path is new, and stands in the root or in a directory that is there.
+    fn is_placed(&self, path: &[u8]) -> bool
+        ensures { result ≡ is_placed self.now.places path.now }
+    {
+        let directory = directory_of(path);
+        !self.is_taken(path) && (directory.is_empty() || self.is_directory(directory))
+    }
+}
+
+/// Whose an object is, and its mode.
+#[derive(Clone, Copy, Debug, PartialEq, Eq)]
+pub struct Owner {
+    pub uid: u32,
+    pub gid: u32,
+    pub mode: u32,
+}
+
+// An absolute name in quotes that isn't the root's.
+fn path_at<'a>(text: &'a [u8], token: &Token) -> Option<&'a [u8]>
+    ensures { option_copied result ≡ path_at text.now token.now }
+{
+    let path = name_at(text, token)?;
+    if path.len() > 1 { Some(path) } else { None }
+}
+
+fn last_slash(path: &[u8]) -> usize
+    ensures { result ≡ last_slash path.now (length path.now) }
+{
+    let mut last = 0;
+    for i in 0..path.len() {
+        if path[i] == b'/' {
+            last = i;
+        }
+    }
+    last
+}
+
+// The path of the directory, and nothing where that is the root.
+fn directory_of(path: &[u8]) -> &[u8]
+    ensures { result.now ≡ directory_of path.now }
+{
+    &path[..path.len().min(last_slash(path))]
+}
+
+// UID GID MODE.
+fn owner_at(text: &[u8], uid: &Token, gid: &Token, mode: &Token) -> Option<Owner>
+    ensures { result ≡ owner_at text.now uid.now gid.now mode.now }
+{
+    let uid = id_at(text, uid)?;
+    let gid = id_at(text, gid)?;
+    let mode = mode_at(text, mode)?;
+    Some(Owner { uid, gid, mode })
+}
+
+fn owned_by(kind: RowKind, owner: Owner) -> NewRow
+    ensures { result ≡ owned_by kind owner }
+{
+    NewRow {
+        kind,
+        uid: owner.uid,
+        gid: owner.gid,
+        mode: owner.mode,
+    }
+}
+
+// UID GID MODE of a directory.
+fn dir_row(text: &[u8], new: &[Token]) -> Option<NewRow>
+    ensures { result ≡ dir_row text.now new.now }
+{
+    let [uid, gid, mode] = new else {
+        return None;
+    };
+    let owner = owner_at(text, uid, gid, mode)?;
+    Some(owned_by(RowKind::Dir, owner))
+}
+
+// A file's content, at most 65,536 bytes.
+fn content_at<'a>(text: &'a [u8], token: &Token) -> Option<&'a [u8]>
+    ensures { option_copied result ≡ content_at text.now token.now }
+{
+    let content = token.plain_quoted(text)?;
+    if content.len() <= 65_536 {
+        Some(content)
+    } else {
+        None
+    }
+}
+
+// "CONTENT" of a file, with its owner.
+fn file_of(
+    alloc: Global,
+    text: &[u8],
+    content: &[Token],
+    owner: Owner,
+) -> Result<Option<NewRow>, AllocError>
+    ensures { IfOk result (λ found. found ≡ file_of text.now content.now owner) }
+{
+    let [content] = content else {
+        return Ok(None);
+    };
+    let Some(content) = content_at(text, content) else {
+        return Ok(None);
+    };
+    let content = Text::of(alloc, content)?;
+    Ok(Some(owned_by(RowKind::File(content), owner)))
+}
+
+// UID GID MODE "CONTENT" of a file.
+fn file_row(alloc: Global, text: &[u8], new: &[Token]) -> Result<Option<NewRow>, AllocError>
+    ensures { IfOk result (λ found. found ≡ file_row text.now new.now) }
+{
+    let [uid, gid, mode, content @ ..] = new else {
+        return Ok(None);
+    };
+    match owner_at(text, uid, gid, mode) {
+        Some(owner) => file_of(alloc, text, content, owner),
+        None => Ok(None),
+    }
+}
+
+fn new_row(
+    alloc: Global,
+    text: &[u8],
+    keyword: &Token,
+    new: &[Token],
+) -> Result<Option<NewRow>, AllocError>
+    ensures { IfOk result (λ found. found ≡ new_row text.now keyword.now new.now) }
+{
+    if keyword.is_keyword(text, b"dir") {
+        Ok(dir_row(text, new))
+    } else {
+        file_row(alloc, text, new)
+    }
+}
+
+/// Whether a row is one of the tree: `dir ..` or `file ..`.
+pub fn is_tree_row(text: &[u8], row: &[Token]) -> bool
+    ensures { result ≡ is_tree_row text.now row.now }
+{
+    match row {
+        [keyword, ..] => keyword.is_keyword(text, b"dir") || keyword.is_keyword(text, b"file"),
+        _ => false,
+    }
+}
+
+fn is_dir(kind: &RowKind) -> bool
+    ensures { result ≡ is_dir kind.now }
+{
+    matches!(kind, RowKind::Dir)
+}
+
+// The name whose components stand between these slashes.
+fn name_of(alloc: Global, names: &[u8]) -> Result<AbsName, AllocError>
+    ensures { IfOk result (λ name. name ≡ parts names.now) }
+{
+    let mut name = AbsName::root(alloc);
+    for part in names.split(|byte| *byte == b'/') {
+        name.push(Text::of(alloc, part)?)?;
+    }
+    Ok(name)
+}
+
+// The components of an absolute name's text.
+fn components_of(alloc: Global, path: &[u8]) -> Result<AbsName, AllocError>
+    ensures { IfOk result (λ name. name ≡ parts (drop 1 path.now)) }
+{
+    name_of(alloc, &path[path.len().min(1)..])
+}
+
+fn with_row<'a>(
+    alloc: Global,
+    tree: TreeSoFar<'a>,
+    path: &'a [u8],
+    new: NewRow,
+) -> Result<TreeSoFar<'a>, AllocError>
+    requires { is_taken tree.places path.now ≡ false }
+    ensures { IfOk result (λ more. more ≡ with_row tree.entry path.now new) }
+{
+    let TreeSoFar {
+        mut places,
+        mut kinds,
+        mut rows,
+    } = tree;
+    let is_dir = is_dir(&new.kind);
+    let name = components_of(alloc, path)?;
+    kinds.insert(path, is_dir)?;
+    let path = Text::of(alloc, path)?;
+    places.push(Place { path, is_dir })?;
+    rows.push(TreeRow { name, new })?;
+    Ok(TreeSoFar {
+        places,
+        kinds,
+        rows,
+    })
+}
+
+/// The tree with the directory or file of a row: `dir "PATH" UID GID MODE`, or `file "PATH" UID GID MODE "CONTENT"`.
+pub fn grown<'a>(
+    alloc: Global,
+    text: &'a [u8],
+    tree: TreeSoFar<'a>,
+    row: &[Token],
+) -> Result<Option<TreeSoFar<'a>>, AllocError>
+    ensures { IfOk result (λ found. found ≡ grown text.now tree.entry row.now) }
+{
+    let [keyword, path, new @ ..] = row else {
+        return Ok(None);
+    };
+    let Some(path) = path_at(text, path) else {
+        return Ok(None);
+    };
+    if !(tree.is_placed(path) && tree.rows.len() < TREE_LIMIT) {
+        return Ok(None);
+    }
+    let Some(new) = new_row(alloc, text, keyword, new)? else {
+        return Ok(None);
+    };
+    Ok(Some(with_row(alloc, tree, path, new)?))
+}
+
+/// The tree of the root alone, which takes no memory.
+pub fn root_alone<'a>(alloc: Global) -> TreeSoFar<'a>
+    ensures { result ≡ root_alone }
+{
+    TreeSoFar {
+        places: Sequence::new(alloc),
+        kinds: BTreeMap::new(alloc),
+        rows: Sequence::new(alloc),
+    }
+}
