@@ -1,0 +1,5 @@
+pub mod Classes
+pub mod Fronts
+pub mod Runs
+pub mod Steps
+mod Rows

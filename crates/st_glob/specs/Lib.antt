@@ -1,0 +1,4 @@
+pub mod Fills
+pub mod Glob
+pub mod Items
+pub mod Taken

@@ -1,0 +1,57 @@
+ghost use Rattle.std.specs.Prelude.{◌≡◌, ◌≤◌, ◌∷◌, true, length, IfSome, if◌then◌else◌};
+ghost use Rattle.st_glob.specs.Items.{to_bracket, first_item, bracket_item, is_negated, Within, Without};
+ghost use Rattle.st_glob.specs.Glob.{takes};
+ghost use Rattle.st_glob.specs.Taken.{taken};
+
+use crate::class::{class_len, is_listed};
+
+// Whether a class begins with the sign that negates it.
+fn is_negated(behind: &[u8]) -> bool
+    ensures { result ≡ is_negated behind.now }
+{
+    !behind.is_empty() && (behind[0] == b'!' || behind[0] == b'^')
+}
+
+// Whether a class that may be negated takes a byte.
+fn class_takes(class: &[u8], negated: bool, byte: u8) -> bool
+    ensures { result ≡ (if negated then takes (Without class.now) byte else takes (Within class.now) byte) }
+{
+    byte != b'/' && is_listed(class, byte) != negated
+}
+
+// Where the class behind an opening bracket takes the byte, how many bytes it has; an unclosed bracket is a byte.
+fn taken_by_bracket(behind: &[u8], byte: u8) -> Option<usize>
+    ensures is { result ≡ taken (bracket_item behind.now) byte }
+    ensures within { IfSome result (λ len. len ≤ length behind.now) }
+{
+    let negated = is_negated(behind);
+    let from = if negated { 1 } else { 0 };
+    let class = &behind[from..];
+    match class_len(class) {
+        None => (byte == b'[').then_some(0),
+        Some(len) => {
+            let takes = class_takes(&class[..len], negated, byte);
+            takes.then_some(from + len + 1)
+        }
+    }
+}
+
+/// Where the first item of a pattern takes the byte, how many bytes of the pattern it has behind its first. Where no closing bracket
+/// follows, which a caller may know already, no class is looked for.
+pub fn taken(first: u8, behind: &[u8], byte: u8, unclosed: bool) -> Option<usize>
+    requires { unclosed ≡ true → to_bracket (first ∷ behind.now) ≡ None }
+    ensures is { result ≡ taken (first_item first behind.now) byte }
+    ensures within { IfSome result (λ len. len ≤ length behind.now) }
+{
+    match first {
+        b'*' => None,
+        b'?' => (byte != b'/').then_some(0),
+        b'[' if unclosed => (byte == b'[').then_some(0),
+        b'[' => taken_by_bracket(behind, byte),
+        b'\\' => match behind {
+            [] => (byte == b'\\').then_some(0),
+            [second, ..] => (byte == *second).then_some(1),
+        },
+        _ => (byte == first).then_some(0),
+    }
+}
