@@ -4,8 +4,9 @@ use Rattle.st_base.specs.declared.errno.Errno.{Errno}
 use Rattle.st_base.specs.Errno.{name_of_error}
 use Rattle.st_calls.specs.declared.argument.ArgText.{ArgText}
 use Rattle.st_calls.specs.declared.call.SysCall.{SysCall}
-use Rattle.st_calls.specs.Call.{rule_of, name_of_rule}
+use Rattle.st_calls.specs.Call.{name_of_rule}
 use Rattle.st_lex.specs.Quote.{quoted}
+use Rattle.st_trace.specs.Served.{machine_rule}
 use Rattle.st_trace.specs.declared.entry.Entry.{Entry}
 use Rattle.st_trace.specs.declared.entry.Entry.TheVariants.{Used, Denied}
 use Rattle.st_trace.specs.declared.entry.CallResult.{CallResult}
@@ -25,7 +26,7 @@ result_text (Failed errno) = name_of_error errno
 -- PID.TID "POLICY" native-RULE
 abbrev pub caller_text : ℕ → ℕ → List ℕ → SysCall → List ℕ
 caller_text pid tid policy call =
-    decimal pid ++ codes "." ++ decimal tid ++ codes " " ++ quoted policy ++ codes " native-" ++ name_of_rule (rule_of call)
+    decimal pid ++ codes "." ++ decimal tid ++ codes " " ++ quoted policy ++ codes " native-" ++ name_of_rule (machine_rule call)
 
 -- PID.TID "POLICY" native-RULE{ ARG} HOW = RESULT, and a newline
 abbrev pub line_text : ℕ → ℕ → List ℕ → SysCall → List ArgText → How → CallResult → List ℕ

@@ -37,7 +37,7 @@ fn append_caller(text: &mut Text, caller: &Caller<'_>, call: SysCall) -> Result<
     text.push(b' ')?;
     quote(caller.policy, text)?;
     text.append(b" native-")?;
-    text.append(Rule::of(call).word())
+    text.append(Rule::of(call, &[0; 6], true).word())
 }
 
 fn append_result(text: &mut Text, outcome: CallResult) -> Result<(), AllocError>

@@ -15,8 +15,8 @@ fn with_digit(radix: u32, value: u64, byte: u8) -> Option<u64>
         .checked_add(u64::from(digit))
 }
 
-// The number that digits of the radix write, where it is at most this.
-fn numeral_up_to(most: u64, radix: u32, digits: &[u8]) -> Option<u64>
+/// The number that digits of the radix write, where it is at most this.
+pub fn numeral_up_to(most: u64, radix: u32, digits: &[u8]) -> Option<u64>
     requires low { 2 ≤ radix }
     requires high { radix ≤ 36 }
     ensures { result ≡ numeral_up_to most radix digits.now }

@@ -44,6 +44,13 @@ impl Text {
         self.bytes.as_slice()
     }
 
+    /// The bytes alone.
+    pub fn into_bytes(self) -> Vec<u8>
+        ensures { result.items ≡ self }
+    {
+        self.bytes
+    }
+
     /// How many bytes there are.
     pub fn len(&self) -> usize
         ensures { result ≡ length self.now }

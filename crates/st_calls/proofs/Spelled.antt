@@ -1,12 +1,12 @@
 -- How many words spelling a name asks for.
 use native.Mathlib.Omega.{arith}
 use borrow.Author.Tests.{ltb-false}
-use Rattle.std.proofs.Common.{◌≡◌, ◌≤◌, ◌<◌, ℕ, suc, ◌+◌, ◌-◌, ◌*◌, ◌==◌, ap, ◌/◌, ◌%◌, Bool, true, false, cond, nat_lt, nat_le, List, [], ◌∷◌, length, drop, flat_map, position, Option, Some, None, refl, ◌++◌, length-append, min, ◌∙◌, take}
+use Rattle.std.proofs.Common.{◌≡◌, ◌≤◌, ℕ, suc, ◌+◌, ◌-◌, ◌*◌, ◌==◌, ◌/◌, ◌%◌, Bool, true, false, cond, nat_lt, nat_le, List, [], ◌∷◌, length, flat_map, position, Option, Some, None, refl, ◌++◌, length-append, min, ◌∙◌, take}
 use Rattle.std.proofs.lemmas.List.{length-drop, length-take}
 use Rattle.std.proofs.lemmas.List.Quantifiers.{position-Some}
 use Rattle.std.specs.Int.{w64, to_le_bytes}
 use Rattle.st_base.specs.declared.errno.Errno.TheVariants.{EFAULT, ENAMETOOLONG}
-use Rattle.st_calls.specs.Spelling.{Spelled, Text, Fault, More, spell_name, bytes_of_words, ended_at, unfinished, longest_name, space_words}
+use Rattle.st_calls.specs.Spelling.{Text, Fault, More, spell_name, bytes_of_words, ended_at, longest_name, space_words}
 
 eights : (words : List ℕ) → length (flat_map (to_le_bytes w64) words) ≡ 8 * length words
 eights [] = refl

@@ -1,15 +1,61 @@
-use Rattle.std.specs.Prelude.{ℕ, List, [], ◌∷◌, codes}
+use Rattle.std.specs.Prelude.{ℕ, Bool, ◌&&◌, ◌==◌, List, [], ◌∷◌, codes, find, Option}
+use Rattle.std.specs.List.{list_any}
+use Rattle.std.specs.Str.{bytes_eq}
 use Rattle.st_calls.specs.declared.call.SysCall.{SysCall}
-use Rattle.st_calls.specs.declared.call.SysCall.TheVariants.{Open}
+use Rattle.st_calls.specs.declared.call.SysCall.TheVariants as call
 use Rattle.st_calls.specs.declared.argument.ArgSpec.{ArgSpec}
 use Rattle.st_calls.specs.declared.argument.Label.{Label}
 use Rattle.st_calls.specs.declared.argument.Label.TheVariants.{Filename, String, Mode, Uid, Gid, Argv, Pid, Signum, SockDom, SockType, SockAddr}
-use Rattle.st_calls.specs.declared.argument.PartKind.TheVariants.{Name}
+use Rattle.st_calls.specs.declared.argument.PartKind.{PartKind}
+use Rattle.st_calls.specs.declared.argument.PartKind.TheVariants as kind
+use Rattle.st_calls.specs.declared.rule.Rule.{Rule}
+use Rattle.st_calls.specs.declared.rule.Rule.TheVariants.{Call, FsRead, FsWrite}
 
--- the arguments of a call that policies judge, in order
-abbrev pub args_of : SysCall → List ArgSpec
-args_of Open = record { label = Filename; index = 0; register = 0; kind = Name } ∷ []
-args_of _ = []
+-- the argument with this label that the register has
+abbrev pub argument : Label → ℕ → PartKind → ArgSpec
+argument label register kind = record { label = label; index = 0; register = register; kind = kind }
+
+-- the name that register 0 has
+abbrev pub filename : ArgSpec
+filename = argument Filename 0 kind.Name
+
+-- the second of two names
+abbrev pub second_filename : ArgSpec
+second_filename = record { label = Filename; index = 1; register = 1; kind = kind.Name }
+
+-- the arguments of a call that policies judge under its own name, in order
+abbrev pub args_of_call : SysCall → List ArgSpec
+args_of_call call.Open = filename ∷ []
+args_of_call call.Stat = filename ∷ []
+args_of_call call.Lstat = filename ∷ []
+args_of_call call.Access = filename ∷ []
+args_of_call call.Readlink = filename ∷ []
+args_of_call call.Unlink = filename ∷ []
+args_of_call call.Link = filename ∷ second_filename ∷ []
+args_of_call call.Symlink = argument String 0 kind.Plain ∷ argument Filename 1 kind.Name ∷ []
+args_of_call call.Rename = filename ∷ second_filename ∷ []
+args_of_call call.Mkdir = filename ∷ []
+args_of_call call.Rmdir = filename ∷ []
+args_of_call call.Chdir = filename ∷ []
+args_of_call call.Chmod = filename ∷ argument Mode 1 kind.Octal ∷ []
+args_of_call call.Chown = filename ∷ argument Uid 1 kind.Decimal ∷ argument Gid 2 kind.Decimal ∷ []
+args_of_call call.Truncate = filename ∷ []
+args_of_call call.Execve = filename ∷ argument Argv 1 kind.Argv ∷ []
+args_of_call call.Kill = argument Pid 0 kind.Decimal ∷ argument Signum 1 kind.Decimal ∷ []
+args_of_call call.SetUid = argument Uid 0 kind.Decimal ∷ []
+args_of_call call.SetEuid = argument Uid 0 kind.Decimal ∷ []
+args_of_call call.SetGid = argument Gid 0 kind.Decimal ∷ []
+args_of_call call.SetEgid = argument Gid 0 kind.Decimal ∷ []
+args_of_call call.Socket = argument SockDom 0 kind.Domain ∷ argument SockType 1 kind.SockType ∷ []
+args_of_call call.Bind = argument SockAddr 1 kind.Addr ∷ []
+args_of_call call.Connect = argument SockAddr 1 kind.Addr ∷ []
+args_of_call _ = []
+
+-- the arguments that policies judge under a rule, in order
+abbrev pub args_of : Rule → List ArgSpec
+args_of (Call call) = args_of_call call
+args_of FsRead = filename ∷ []
+args_of FsWrite = filename ∷ []
 
 -- how a policy writes a label
 abbrev pub name_of_label : Label → List ℕ
@@ -24,3 +70,19 @@ name_of_label Signum = codes "signum"
 name_of_label SockDom = codes "sockdom"
 name_of_label SockType = codes "socktype"
 name_of_label SockAddr = codes "sockaddr"
+
+-- every label
+abbrev pub every_label : List Label
+every_label = Filename ∷ String ∷ Mode ∷ Uid ∷ Gid ∷ Argv ∷ Pid ∷ Signum ∷ SockDom ∷ SockType ∷ SockAddr ∷ []
+
+-- the label that a policy writes so
+abbrev pub label_named : List ℕ → Option Label
+label_named word = find (λ label. bytes_eq (name_of_label label) word) every_label
+
+-- a rule has an argument with a label of this name
+abbrev pub has_label : Rule → List ℕ → Bool
+has_label rule word = list_any (λ spec. bytes_eq (name_of_label spec.label) word) (args_of rule)
+
+-- a rule has an argument with a label of this name and this index
+abbrev pub has_argument : Rule → List ℕ → ℕ → Bool
+has_argument rule word index = list_any (λ spec. bytes_eq (name_of_label spec.label) word && spec.index == index) (args_of rule)

@@ -1,7 +1,9 @@
-ghost use Rattle.std.specs.Prelude.{◌≡◌};
-ghost use Rattle.st_calls.specs.Argument.{args_of, name_of_label};
+ghost use Rattle.std.specs.Prelude.{◌≡◌, find};
+ghost use Rattle.std.specs.Str.{bytes_eq};
+ghost use Rattle.st_calls.specs.Argument.{args_of_call, args_of, name_of_label, label_named};
 
 use crate::call::SysCall;
+use crate::rule::Rule;
 use st_base::Text;
 
 /// What a policy calls an argument of a call.
@@ -21,6 +23,21 @@ pub enum Label {
 }
 
 impl Label {
+    /// Every label.
+    pub const ALL: [Label; 11] = [
+        Label::Filename,
+        Label::String,
+        Label::Mode,
+        Label::Uid,
+        Label::Gid,
+        Label::Argv,
+        Label::Pid,
+        Label::Signum,
+        Label::SockDom,
+        Label::SockType,
+        Label::SockAddr,
+    ];
+
     /// The label's name, as a policy writes it.
     pub fn word(self) -> &'static [u8]
         ensures { result.now ≡ name_of_label self }
@@ -39,6 +56,20 @@ impl Label {
             Label::SockAddr => b"sockaddr",
         }
     }
+
+    /// The label that a word names.
+    pub fn of_word(word: &[u8]) -> Option<Label>
+        ensures { result ≡ label_named word.now }
+    {
+        first_named(&Label::ALL, word)
+    }
+}
+
+// The first of some labels with this name.
+fn first_named(labels: &[Label], word: &[u8]) -> Option<Label>
+    ensures { result ≡ find (λ label. bytes_eq (name_of_label label) word.now) labels.now }
+{
+    labels.iter().copied().find(|label| label.word() == word)
 }
 
 /// An argument of a call in the text that policies judge.
@@ -50,11 +81,25 @@ pub struct ArgText {
     pub text: Text,
 }
 
-/// How an argument lies in registers and memory.
+/// How an argument lies in registers and memory, and which text it has.
 #[derive(Clone, Copy, Debug, PartialEq, Eq)]
 pub enum PartKind {
-    /// The place of a name in memory, which ends with a zero byte.
+    /// The place of a name in memory, which ends with a zero byte. Its text is the absolute name, without dots or links.
     Name,
+    /// The place of a text in memory, which ends with a zero byte. Its text is these bytes as they are.
+    Plain,
+    /// The place of an address in memory, of one word: length, family, port and four bytes. Its text is `inet-[a.b.c.d]:port`.
+    Addr,
+    /// The place of words in memory, each the place of a text, up to a zero word. Its text is these texts with blanks between.
+    Argv,
+    /// A number in the register. Its text is decimal.
+    Decimal,
+    /// A mode in the register. Its text is octal, of the low nine bits.
+    Octal,
+    /// A family of addresses in the register. Its text is `AF_UNIX` for 1, `AF_INET` for 2, and decimal for others.
+    Domain,
+    /// A type of sockets in the register. Its text is `SOCK_STREAM` for 1, `SOCK_DGRAM` for 2, and decimal for others.
+    SockType,
 }
 
 /// One argument of a call that policies judge.
@@ -68,18 +113,89 @@ pub struct ArgSpec {
     pub kind: PartKind,
 }
 
-/// The arguments of a call that policies judge, in order.
-pub fn args_of(call: SysCall) -> &'static [ArgSpec]
-    ensures { result.now ≡ args_of call }
+// The argument with this label and index that the register has.
+macro_rules! argument {
+    ($label:ident, $index:literal, $register:literal, $kind:ident) => {
+        ArgSpec {
+            label: Label::$label,
+            index: $index,
+            register: $register,
+            kind: PartKind::$kind,
+        }
+    };
+}
+
+const NAME: [ArgSpec; 1] = [argument!(Filename, 0, 0, Name)];
+
+const TWO_NAMES: [ArgSpec; 2] = [
+    argument!(Filename, 0, 0, Name),
+    argument!(Filename, 1, 1, Name),
+];
+
+const TEXT_AND_NAME: [ArgSpec; 2] = [
+    argument!(String, 0, 0, Plain),
+    argument!(Filename, 0, 1, Name),
+];
+
+const NAME_AND_MODE: [ArgSpec; 2] = [
+    argument!(Filename, 0, 0, Name),
+    argument!(Mode, 0, 1, Octal),
+];
+
+const NAME_AND_IDS: [ArgSpec; 3] = [
+    argument!(Filename, 0, 0, Name),
+    argument!(Uid, 0, 1, Decimal),
+    argument!(Gid, 0, 2, Decimal),
+];
+
+const NAME_AND_ARGV: [ArgSpec; 2] = [argument!(Filename, 0, 0, Name), argument!(Argv, 0, 1, Argv)];
+
+const PID_AND_SIGNAL: [ArgSpec; 2] = [
+    argument!(Pid, 0, 0, Decimal),
+    argument!(Signum, 0, 1, Decimal),
+];
+
+const UID: [ArgSpec; 1] = [argument!(Uid, 0, 0, Decimal)];
+
+const GID: [ArgSpec; 1] = [argument!(Gid, 0, 0, Decimal)];
+
+const DOMAIN_AND_TYPE: [ArgSpec; 2] = [
+    argument!(SockDom, 0, 0, Domain),
+    argument!(SockType, 0, 1, SockType),
+];
+
+const ADDRESS: [ArgSpec; 1] = [argument!(SockAddr, 0, 1, Addr)];
+
+/// The arguments that policies judge under a rule, in order.
+pub fn args_of(rule: Rule) -> &'static [ArgSpec]
+    ensures { result.now ≡ args_of rule }
 {
-    const NAME: [ArgSpec; 1] = [ArgSpec {
-        label: Label::Filename,
-        index: 0,
-        register: 0,
-        kind: PartKind::Name,
-    }];
+    match rule {
+        Rule::Call(call) => args_of_call(call),
+        Rule::FsRead => &NAME,
+        Rule::FsWrite => &NAME,
+    }
+}
+
+// The arguments of a call that policies judge under its own name.
+fn args_of_call(call: SysCall) -> &'static [ArgSpec]
+    ensures { result.now ≡ args_of_call call }
+{
     match call {
-        SysCall::Open => &NAME,
+        SysCall::Open | SysCall::Stat | SysCall::Lstat | SysCall::Access | SysCall::Readlink =>
+            &NAME,
+        SysCall::Unlink | SysCall::Mkdir | SysCall::Rmdir | SysCall::Chdir | SysCall::Truncate =>
+            &NAME,
+        SysCall::Link | SysCall::Rename => &TWO_NAMES,
+        SysCall::Symlink => &TEXT_AND_NAME,
+        SysCall::Chmod => &NAME_AND_MODE,
+        SysCall::Chown => &NAME_AND_IDS,
+        SysCall::Execve => &NAME_AND_ARGV,
+        SysCall::Kill => &PID_AND_SIGNAL,
+        SysCall::SetUid | SysCall::SetEuid => &UID,
+        SysCall::SetGid | SysCall::SetEgid => &GID,
+        SysCall::Socket => &DOMAIN_AND_TYPE,
+        SysCall::Bind | SysCall::Connect => &ADDRESS,
         _ => &[],
     }
 }

@@ -3,11 +3,15 @@
 
 pub mod argument;
 pub mod call;
+pub mod flags;
 pub mod judged;
 pub mod rule;
 
 pub use argument::{ArgSpec, ArgText, Label, PartKind, args_of};
-pub use call::SysCall;
+pub use call::{SysCall, follows};
+pub use flags::{
+    O_ACCMODE, O_APPEND, O_CREAT, O_EXCL, O_RDONLY, O_RDWR, O_TRUNC, O_WRONLY, has_flag,
+};
 pub use judged::{Snapshot, Verdict};
 pub use rule::{FastAnswer, RULES, Rule};
 

@@ -1,39 +1,76 @@
-ghost use Rattle.std.specs.Prelude.{◌≡◌, ◌<◌};
-ghost use Rattle.st_calls.specs.Call.{rule_of, name_of_rule, index_of_rule};
+ghost use Rattle.std.specs.Prelude.{◌≡◌, ◌<◌, find};
+ghost use Rattle.std.specs.Str.{bytes_eq};
+ghost use Rattle.st_calls.specs.Argument.{has_argument, has_label};
+ghost use Rattle.st_calls.specs.Call.{reads_alone, alias_of, rule_of, name_of_rule, rule_named, index_of_rule};
 
+use crate::argument::args_of;
 use crate::call::SysCall;
+use crate::flags::{O_ACCMODE, O_CREAT, O_TRUNC, has_flag};
 use st_base::Errno;
 
 /// How many rules there are.
-pub const RULES: usize = 6;
+pub const RULES: usize = 36;
 
 /// The name under which a policy judges a call.
 #[derive(Clone, Copy, Debug, PartialEq, Eq)]
 pub enum Rule {
     /// The call's own name.
     Call(SysCall),
-    /// What only reads names and files, by the alias of systrace(1).
+    /// By the alias of systrace(1): an open for reading alone, stat, lstat, access and readlink.
     FsRead,
+    /// By the alias of systrace(1): every other open, unlink, mkdir and rmdir.
+    FsWrite,
 }
 
 impl Rule {
     /// Every rule, each at its place.
     pub const ALL: [Rule; RULES] = [
+        Rule::Call(SysCall::Open),
+        Rule::Call(SysCall::Close),
+        Rule::Call(SysCall::Read),
+        Rule::Call(SysCall::Write),
+        Rule::Call(SysCall::Lseek),
+        Rule::Call(SysCall::Dup),
+        Rule::Call(SysCall::Stat),
+        Rule::Call(SysCall::Lstat),
+        Rule::Call(SysCall::Access),
+        Rule::Call(SysCall::Readlink),
+        Rule::Call(SysCall::Unlink),
+        Rule::Call(SysCall::Link),
+        Rule::Call(SysCall::Symlink),
+        Rule::Call(SysCall::Rename),
+        Rule::Call(SysCall::Mkdir),
+        Rule::Call(SysCall::Rmdir),
+        Rule::Call(SysCall::Chdir),
+        Rule::Call(SysCall::Chmod),
+        Rule::Call(SysCall::Chown),
+        Rule::Call(SysCall::Truncate),
+        Rule::Call(SysCall::Fork),
+        Rule::Call(SysCall::Execve),
+        Rule::Call(SysCall::Exit),
+        Rule::Call(SysCall::Kill),
         Rule::Call(SysCall::GetPid),
         Rule::Call(SysCall::GetUid),
         Rule::Call(SysCall::GetEuid),
-        Rule::Call(SysCall::Exit),
-        Rule::Call(SysCall::Open),
+        Rule::Call(SysCall::SetUid),
+        Rule::Call(SysCall::SetEuid),
+        Rule::Call(SysCall::SetGid),
+        Rule::Call(SysCall::SetEgid),
+        Rule::Call(SysCall::Socket),
+        Rule::Call(SysCall::Bind),
+        Rule::Call(SysCall::Connect),
         Rule::FsRead,
+        Rule::FsWrite,
     ];
 
-    /// The rule of a call.
-    pub fn of(call: SysCall) -> Self
-        ensures { result ≡ rule_of call }
+    /// The rule of a call with these registers; without aliasing it is the call's own name.
+    pub fn of(call: SysCall, regs: &[u64; 6], aliasing: bool) -> Self
+        ensures { result ≡ rule_of call regs.now aliasing }
     {
-        match call {
-            SysCall::Open => Rule::FsRead,
-            _ => Rule::Call(call),
+        if aliasing {
+            alias_of(call, regs)
+        } else {
+            Rule::Call(call)
         }
     }
 
@@ -44,7 +81,15 @@ impl Rule {
         match self {
             Rule::Call(call) => call.word(),
             Rule::FsRead => b"fsread",
+            Rule::FsWrite => b"fswrite",
         }
+    }
+
+    /// The rule that a word names: `fsread`, `fswrite`, or a call's name.
+    pub fn of_word(word: &[u8]) -> Option<Rule>
+        ensures { result ≡ rule_named word.now }
+    {
+        first_named(&Rule::ALL, word)
     }
 
     /// The rule's place among all, from 0 and below `RULES`, for tables by rule.
@@ -53,14 +98,59 @@ impl Rule {
         ensures within { result < RULES }
     {
         match self {
-            Rule::Call(SysCall::GetPid) => 0,
-            Rule::Call(SysCall::GetUid) => 1,
-            Rule::Call(SysCall::GetEuid) => 2,
-            Rule::Call(SysCall::Exit) => 3,
-            Rule::Call(SysCall::Open) => 4,
-            Rule::FsRead => 5,
+            Rule::Call(call) => call.index(),
+            Rule::FsRead => 34,
+            Rule::FsWrite => 35,
         }
     }
+
+    /// Whether policies judge an argument with this label and index under the rule.
+    pub fn has_argument(self, label: &[u8], index: u32) -> bool
+        ensures { result ≡ has_argument self label.now index }
+    {
+        args_of(self)
+            .iter()
+            .any(|spec| spec.label.word() == label && spec.index == index)
+    }
+
+    /// Whether policies judge an argument with this label, of any index, under the rule.
+    pub fn has_label(self, label: &[u8]) -> bool
+        ensures { result ≡ has_label self label.now }
+    {
+        args_of(self).iter().any(|spec| spec.label.word() == label)
+    }
+}
+
+// An open with these flags asks for reading alone, and neither makes a file nor cuts one.
+fn reads_alone(flags: u64) -> bool
+    ensures { result ≡ reads_alone flags }
+{
+    !has_flag(flags, O_ACCMODE) && !has_flag(flags, O_CREAT) && !has_flag(flags, O_TRUNC)
+}
+
+// The rule of a call by the aliases.
+fn alias_of(call: SysCall, regs: &[u64; 6]) -> Rule
+    ensures { result ≡ alias_of call regs.now }
+{
+    match call {
+        SysCall::Open => {
+            if reads_alone(regs[1]) {
+                Rule::FsRead
+            } else {
+                Rule::FsWrite
+            }
+        }
+        SysCall::Stat | SysCall::Lstat | SysCall::Access | SysCall::Readlink => Rule::FsRead,
+        SysCall::Unlink | SysCall::Mkdir | SysCall::Rmdir => Rule::FsWrite,
+        _ => Rule::Call(call),
+    }
+}
+
+// The first of some rules with this name.
+fn first_named(rules: &[Rule], word: &[u8]) -> Option<Rule>
+    ensures { result ≡ find (λ rule. bytes_eq (name_of_rule rule) word.now) rules.now }
+{
+    rules.iter().copied().find(|rule| rule.word() == word)
 }
 
 /// What the kernel answers by itself for a rule: permit, refuse or ask, as in systrace(4).

@@ -1,9 +1,9 @@
 -- The table of the kernel's own answers, at a rule.
 use Rattle.std.proofs.Common.{◌≡◌, List, refl, get_or}
-use Rattle.st_calls.specs.declared.call.SysCall.TheVariants.{GetPid, GetUid, GetEuid, Exit, Open}
+use Rattle.st_calls.specs.declared.call.SysCall.TheVariants.{Open}
 use Rattle.st_calls.specs.declared.rule.FastAnswer.{FastAnswer}
 use Rattle.st_calls.specs.declared.rule.Rule.{Rule}
-use Rattle.st_calls.specs.declared.rule.Rule.TheVariants.{Call, FsRead}
+use Rattle.st_calls.specs.declared.rule.Rule.TheVariants.{Call, FsRead, FsWrite}
 use Rattle.st_calls.specs.Call.{index_of_rule}
 use Rattle.st_policy.specs.Fast.{fast}
 use Rattle.st_policy.specs.Formula.{FilterValue}
@@ -12,9 +12,7 @@ use Rattle.st_kernel.specs.Answers.{fast_answers}
 
 -- the table has each rule's answer at the rule's place
 pub fast_answers-at : (filters : List FilterValue) (rule : Rule) (d : FastAnswer) → get_or (fast_answers filters) (index_of_rule rule) d ≡ fast (filters_of rule filters)
-fast_answers-at filters (Call GetPid) d = refl
-fast_answers-at filters (Call GetUid) d = refl
-fast_answers-at filters (Call GetEuid) d = refl
-fast_answers-at filters (Call Exit) d = refl
 fast_answers-at filters (Call Open) d = refl
+fast_answers-at filters (Call call) d = refl
 fast_answers-at filters FsRead d = refl
+fast_answers-at filters FsWrite d = refl

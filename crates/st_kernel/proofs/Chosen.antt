@@ -4,9 +4,9 @@ use Rattle.std.proofs.Common.{◌≡◌, ◌≢◌, ◌≤◌, ◌<◌, ℕ, zer
 use Rattle.st_base.specs.declared.errno.Errno.{Errno}
 use Rattle.st_calls.specs.declared.argument.ArgText.{ArgText}
 use Rattle.st_calls.specs.declared.call.SysCall.{SysCall}
-use Rattle.st_calls.specs.declared.call.SysCall.TheVariants.{GetPid, GetUid, GetEuid, Exit, Open}
 use Rattle.st_calls.specs.declared.judged.Snapshot.{Snapshot}
 use Rattle.st_calls.specs.declared.judged.Verdict.{Verdict}
+use Rattle.st_calls.specs.declared.rule.Rule.TheVariants.{FsRead}
 use Rattle.st_calls.specs.Argument.{args_of}
 use Rattle.st_names.specs.Name.{Components}
 use Rattle.st_names.specs.Tree.{look}
@@ -14,6 +14,7 @@ use Rattle.st_names.specs.declared.seen.SeenText.{SeenText}
 use Rattle.st_memory.specs.Memory.{word_of}
 use Rattle.st_trace.specs.Effect.{Setting}
 use Rattle.st_trace.specs.Progress.{Progress, Word, Look, Stuck, Ready, progress_from}
+use Rattle.st_trace.specs.Served.{is_open}
 use Rattle.st_trace.specs.declared.entry.Choice.TheVariants as choices
 use Rattle.st_trace.specs.declared.entry.Cause.TheVariants as cause
 use Rattle.st_trace.specs.declared.entry.Entry.{Entry}
@@ -45,16 +46,13 @@ owner_one i one = (λ k. owner_in (row_of (one.threads k) 1)) ∙ (λ k. unwrap_
 
 -- ---- progress by the copies
 
-first_part : (call : SysCall) (regs : List ℕ) (ws : ℕ → List ℕ) (ss : ℕ → List SeenText) → progress_from 0 (args_of call) regs [] ws ss ≡ progress_from 0 (args_of call) regs [] (λ j. ws 0) (λ j. ss 0)
-first_part GetPid regs ws ss = refl
-first_part GetUid regs ws ss = refl
-first_part GetEuid regs ws ss = refl
-first_part Exit regs ws ss = refl
-first_part Open regs ws ss = refl
+first_by : (opening : Bool) (regs : List ℕ) (ws : ℕ → List ℕ) (ss : ℕ → List SeenText) → progress_from 0 (cond opening (args_of FsRead) []) regs [] ws ss ≡ progress_from 0 (cond opening (args_of FsRead) []) regs [] (λ j. ws 0) (λ j. ss 0)
+first_by true regs ws ss = refl
+first_by false regs ws ss = refl
 
 pub progress-is : (i : Input) (h : History) (q : ℕ) (call : SysCall) (regs : List ℕ) (copies : Copies) → head i h q ≡ Some (head_of i 1 call regs) → copies ≡ record { call = call; regs = regs; words = words h q 0; seens = seens h q 0 } → progress i h q ≡ progress_of copies
 progress-is i h q call regs copies own are =
-    (λ k. progress_by (own k) (words h q) (seens h q)) ∙ first_part call regs (words h q) (seens h q) ∙ (λ k. progress_of (sym are k))
+    (λ k. progress_by (own k) (words h q) (seens h q)) ∙ first_by (is_open call) regs (words h q) (seens h q) ∙ (λ k. progress_of (sym are k))
 
 -- ---- waiting messages
 

@@ -5,8 +5,7 @@ use Rattle.st_base.specs.declared.errno.Errno.{Errno}
 use Rattle.st_calls.specs.declared.argument.ArgSpec.{ArgSpec}
 use Rattle.st_calls.specs.declared.argument.Label.TheVariants.{Filename}
 use Rattle.st_calls.specs.declared.argument.PartKind.TheVariants.{Name}
-use Rattle.st_calls.specs.declared.call.SysCall.{SysCall}
-use Rattle.st_calls.specs.declared.call.SysCall.TheVariants.{GetPid, GetUid, GetEuid, Exit, Open}
+use Rattle.st_calls.specs.declared.rule.Rule.TheVariants.{FsRead}
 use Rattle.st_calls.specs.Argument.{args_of}
 use Rattle.st_calls.specs.Spelling as spelling
 use Rattle.st_calls.proofs.Spelled.{few_words, short_text}
@@ -17,6 +16,7 @@ use Rattle.st_names.specs.Tree.{Tree, root_only, add_object}
 use Rattle.st_names.proofs.Endings.{AreWithin, AreWithin-push, link_length}
 use Rattle.st_names.proofs.Looks.{AreNoLinks, AreNoLinks-push, is_link, look-no_link, few_looks}
 use Rattle.st_trace.specs.Progress.{Progress, Word, Look, Stuck, Ready, progress_from, by_spelling, by_walk}
+use Rattle.st_trace.specs.Served.{is_open}
 use Rattle.st_trace.specs.declared.entry.Entry.TheVariants.{Stored, Entered, Claimed, Copied, Looked, Faulted, Answered, Used, Denied, Ended}
 use Rattle.st_trace.specs.declared.entry.Way.{Way}
 use Rattle.st_trace.specs.declared.entry.Way.TheVariants.{Fast, Barred, Held}
@@ -51,16 +51,13 @@ spelled at cwd words seens none (spelling.Fault errno) e = tt
 spelled at cwd words seens none (spelling.Text text) e =
     walking text cwd words seens (short_text at words text e) none (walk.start_walk text cwd true seens) refl
 
-by_call : (call : SysCall) (regs : List ℕ) (cwd : Components) (words : ℕ → List ℕ) (seens : ℕ → List SeenText) → AreWithin 0 (seens 0) → Bounded 0 (words 0) (seens 0) (progress_from 0 (args_of call) regs cwd words seens)
-by_call GetPid regs cwd words seens none = tt
-by_call GetUid regs cwd words seens none = tt
-by_call GetEuid regs cwd words seens none = tt
-by_call Exit regs cwd words seens none = tt
-by_call Open regs cwd words seens none = spelled (slice_index regs 0) cwd (words 0) (seens 0) none (spelling.spell_name (slice_index regs 0) (words 0)) refl
+by_args : (opening : Bool) (regs : List ℕ) (cwd : Components) (words : ℕ → List ℕ) (seens : ℕ → List SeenText) → AreWithin 0 (seens 0) → Bounded 0 (words 0) (seens 0) (progress_from 0 (cond opening (args_of FsRead) []) regs cwd words seens)
+by_args false regs cwd words seens none = tt
+by_args true regs cwd words seens none = spelled (slice_index regs 0) cwd (words 0) (seens 0) none (spelling.spell_name (slice_index regs 0) (words 0)) refl
 
 bounded : (o : Option Head) (words : ℕ → List ℕ) (seens : ℕ → List SeenText) → AreWithin 0 (seens 0) → Bounded 0 (words 0) (seens 0) (progress_by o words seens)
 bounded None words seens none = tt
-bounded (Some hd) words seens none = by_call hd.call hd.regs hd.cwd words seens none
+bounded (Some hd) words seens none = by_args (is_open hd.call) hd.regs hd.cwd words seens none
 
 -- ---- a script's tree has no links
 

@@ -5,7 +5,7 @@ use Rattle.std.proofs.lemmas.Bool.{eqb-true}
 use Rattle.st_calls.specs.declared.call.SysCall.{SysCall}
 use Rattle.st_trace.specs.declared.entry.CallResult.{CallResult}
 use Rattle.st_trace.specs.declared.entry.CallResult.TheVariants.{Value, Failed}
-use Rattle.st_calls.specs.declared.call.SysCall.TheVariants.{GetPid, GetUid, GetEuid, Exit, Open}
+use Rattle.st_calls.specs.declared.call.SysCall.TheVariants.{Open}
 use Rattle.st_trace.specs.declared.entry.Entry.{Entry}
 use Rattle.st_trace.specs.declared.entry.Entry.TheVariants.{Stored, Entered, Claimed, Copied, Looked, Faulted, Answered, Used, Denied, Ended}
 use Rattle.st_trace.specs.declared.entry.Way.{Way}
@@ -133,12 +133,9 @@ posted_small (Denied t seq errno cause ∷ h) = let less = posted_small h in ome
 posted_small (Ended t ∷ h) = let less = posted_small h in omega (arith, less)
 
 one_opened : (call : SysCall) (result : CallResult) → opens_one call result ≤ 1
-one_opened GetPid result = omega arith
-one_opened GetUid result = omega arith
-one_opened GetEuid result = omega arith
-one_opened Exit result = omega arith
 one_opened Open (Value n) = omega arith
 one_opened Open (Failed errno) = omega arith
+one_opened call result = omega arith
 
 if_opened : (b : Bool) (before n : ℕ) → n ≤ 1 → cond b (before + n) before ≤ before + 1
 if_opened true before n small = omega (arith, small)

@@ -1,13 +1,14 @@
 -- What the run of one thread is over, and what its calls give.
-use Rattle.std.specs.Prelude.{◌≡◌, ℕ, List, [], ◌∷◌}
+use Rattle.std.specs.Prelude.{◌≡◌, ℕ, ◌≤◌, List, [], ◌∷◌, length}
 use Rattle.st_calls.specs.declared.argument.ArgText.{ArgText}
 use Rattle.st_calls.specs.declared.call.SysCall.{SysCall}
-use Rattle.st_calls.specs.declared.call.SysCall.TheVariants.{GetPid, GetUid, GetEuid, Exit, Open}
+use Rattle.st_calls.specs.declared.call.SysCall.TheVariants.{Exit}
 use Rattle.st_calls.specs.declared.judged.Snapshot.{Snapshot}
 use Rattle.st_calls.specs.declared.rule.FastAnswer.{FastAnswer}
 use Rattle.st_names.specs.Tree.{Tree}
 use Rattle.st_policy.specs.Formula.{FilterValue}
-use Rattle.st_policy.specs.Policies.{policy_of, HasFewFilters}
+use Rattle.st_policy.specs.Grammar.{most_filters}
+use Rattle.st_policy.specs.Policies.{policy_of}
 use Rattle.st_trace.specs.Effect.{Setting}
 use Rattle.st_trace.specs.declared.entry.Change.{Change}
 use Rattle.st_trace.specs.declared.entry.Change.TheVariants.{Dying}
@@ -20,9 +21,9 @@ use Rattle.st_kernel.specs.Runs.{IsOneThread}
 -- what is kept of an input is the input's
 pub record IsSetup (i : Input) (row : ProcessRow) (policy : List FilterValue) (answers : List FastAnswer) (tree : Tree) : Type 0 where
   pub one : IsOneThread i
-  pub few : HasFewFilters i.policies
   pub process_is : i.start.processes ≡ row ∷ []
   pub policy_is : policy ≡ policy_of i.policies row.binary
+  pub few : length policy ≤ most_filters
   pub answers_are : answers ≡ fast_answers policy
   pub tree_is : tree ≡ tree_of i
 
@@ -36,8 +37,5 @@ copied_call i seq call regs args = snapshot_of seq (head_of i 1 call regs) args
 
 -- what a call changes, whatever it is made over
 abbrev pub changes_made : SysCall → ℕ → List Change
-changes_made GetPid pid = []
-changes_made GetUid pid = []
-changes_made GetEuid pid = []
 changes_made Exit pid = Dying pid ∷ []
-changes_made Open pid = []
+changes_made _ pid = []

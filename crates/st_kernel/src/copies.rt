@@ -1,6 +1,7 @@
 ghost use Rattle.std.specs.Prelude.{◌≡◌, true, [], ◌∷◌, IfOk, OnOk, OnErr};
 ghost use Rattle.st_calls.specs.Spelling as spelled;
 ghost use Rattle.st_trace.specs.Progress.{Ready, by_walk, named};
+ghost use Rattle.st_trace.specs.Served.{is_open};
 ghost use Rattle.st_kernel.specs.Copies.{AsksLook, AsksWord, IsInside, due, filename, name_of, name_progress, no_copies, parts_in, progress_of, with_seen, with_word};
 ghost use Rattle.st_kernel.specs.Copying.{state_of};
 ghost use Rattle.st_kernel.specs.Walking.{walked};
@@ -45,6 +46,12 @@ impl Model for Copies {
     ghost view = { λ c. copies_by c.call c.regs c.copying c.walking };
 
     ghost invariant = { λ c. IsCopying c.call c.regs c.copying c.walking };
+}
+
+fn is_open(call: SysCall) -> bool
+    ensures { result ≡ is_open call }
+{
+    matches!(call, SysCall::Open)
 }
 
 // The one argument that is a name, in the text that policies judge.
@@ -146,7 +153,7 @@ impl Copies {
         ensures inside { IfOk result IsInside }
         ensures kept { self.new ≡ self.old }
     {
-        if self.call == SysCall::Open {
+        if is_open(self.call) {
             self.name_need(alloc)
         } else {
             Ok(Need::Parts(Sequence::new(alloc)))

@@ -49,6 +49,7 @@ pub fn result_of(
         SysCall::GetEuid => Ok(CallResult::Value(u64::from(ids.euid))),
         SysCall::Exit => Ok(CallResult::Value(0)),
         SysCall::Open => opened(files, alloc, descriptors, ids, args),
+        _ => Ok(CallResult::Failed(Errno::ENOSYS)),
     }
 }
 

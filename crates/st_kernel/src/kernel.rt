@@ -1,7 +1,6 @@
 ghost use Rattle.std.specs.Prelude.{◌≡◌, ◌↔◌, ◌<◌, [], ◌++◌, is_some, IsSome, IfOk, OnOk, OnErr, None, Some, take, length, reverse};
 ghost use Rattle.st_calls.specs.Spelling.{space_words};
 ghost use Rattle.st_memory.specs.Memory.{word_of};
-ghost use Rattle.st_policy.specs.Policies.{HasFewFilters};
 ghost use Rattle.st_trace.specs.declared.entry.Choice.TheVariants as choices;
 ghost use Rattle.st_trace.specs.declared.entry.Way.TheVariants as ways;
 ghost use Rattle.st_law.specs.History.{byte_at, pending, posted, turn};
@@ -57,10 +56,14 @@ pub struct Kernel<'a> {
 }
 
 impl<'a> Model for Kernel<'a> {
+    ghost use Rattle.std.specs.Coded.{codes};
+    ghost use Rattle.st_policy.specs.FormulaCode.{formula_code};
     ghost use Rattle.st_kernel.specs.Runs.{Run};
     ghost use Rattle.st_kernel.specs.Kept.{IsKernel};
 
     ghost Value = { Run };
+
+    ghost coded = { Prim.hlevel (codes, formula_code) };
 
     ghost view = { λ k. record { input = k.setup; trace = k.trace.items; schedule = k.schedule.items } };
 
@@ -83,7 +86,6 @@ impl<'a> Kernel<'a> {
     /// A kernel before its first step.
     pub fn start(alloc: Global, input: &'a Input) -> Result<Kernel<'a>, AllocError>
         requires one { IsOneThread input.now }
-        requires few { HasFewFilters input.now.policies }
         ensures { IfOk result (λ kernel. kernel ≡ record { input = input.now; trace = []; schedule = [] }) }
     {
         let thread = &input.start.threads.as_slice()[0];

@@ -1,6 +1,5 @@
 ghost use Rattle.std.specs.Prelude.{◌≡◌, ◌==◌, ℕ, true, is_some, Some, IfOk};
 ghost use Rattle.st_names.specs.Tree.{look};
-ghost use Rattle.st_policy.specs.Policies.{HasFewFilters};
 ghost use Rattle.st_law.specs.History.{judged, process, tree_of};
 ghost use Rattle.st_law.specs.Machine.{answer_for, decided, denied_by, goes_on, used, way_for};
 ghost use Rattle.st_kernel.specs.Runs.{IsOneThread};
@@ -13,9 +12,10 @@ use crate::table::Table;
 use crate::thread::Pending;
 use st_base::{Errno, Ids, Pid, Seq, Sequence, Tid, Worker};
 use st_calls::{ArgText, FastAnswer, Rule, Snapshot, SysCall, Verdict};
+use st_filter::decide;
 use st_law::Input;
 use st_names::{AbsName, SeenText};
-use st_policy::{Policy, decide};
+use st_policy::Policy;
 use st_trace::{Cause, Entry, Instr, ProcessRow, Way};
 use std::alloc::{AllocError, Global};
 use std::marker::Model;
@@ -40,10 +40,14 @@ pub struct Setup<'a> {
 }
 
 impl<'a> Model for Setup<'a> {
+    ghost use Rattle.std.specs.Coded.{codes};
+    ghost use Rattle.st_policy.specs.FormulaCode.{formula_code};
     ghost use Rattle.st_law.specs.declared.input.Input.{Input};
     ghost use Rattle.st_kernel.specs.Setup.{IsSetup};
 
     ghost Value = { Input };
+
+    ghost coded = { Prim.hlevel (codes, formula_code) };
 
     ghost view = { λ s. s.input.now };
 
@@ -54,7 +58,6 @@ impl<'a> Setup<'a> {
     /// What the run of an input is over.
     pub fn of(alloc: Global, input: &'a Input) -> Result<Self, AllocError>
         requires one { IsOneThread input.now }
-        requires few { HasFewFilters input.now.policies }
         ensures { IfOk result (λ setup. setup ≡ input.now) }
     {
         let process = &input.start.processes.as_slice()[0];
@@ -95,7 +98,7 @@ impl<'a> Setup<'a> {
         ensures value { result ≡ answer_for self.now (process self.now 1) call }
         ensures one { IsOneThread self.now }
     {
-        self.table.answer(Rule::of(call))
+        self.table.answer(Rule::of(call, &[0; 6], true))
     }
 
     // How a call goes on, where the next message has this number.
@@ -236,7 +239,7 @@ impl<'a> Setup<'a> {
             pid: PROCESS,
             ids: self.ids(),
             policy: self.process.binary.copy(alloc)?,
-            rule: Rule::of(call),
+            rule: Rule::of(call, &[0; 6], true),
             call,
             regs,
             parts: args,

@@ -5,7 +5,8 @@ ghost use Rattle.st_policy.specs.Policies.{filters_of};
 ghost use Rattle.st_kernel.specs.Answers.{fast_answers};
 
 use st_calls::{FastAnswer, Rule};
-use st_policy::{Policy, fast};
+use st_filter::fast;
+use st_policy::Policy;
 use std::alloc::{AllocError, Global};
 use std::marker::Model;
 

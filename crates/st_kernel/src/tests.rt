@@ -1,5 +1,4 @@
 ghost use Rattle.std.specs.Prelude.{IfOk, ◌<◌, ◌^◌, length};
-ghost use Rattle.st_policy.specs.Policies.{HasFewFilters};
 ghost use Rattle.st_kernel.specs.Runs.{IsOneThread};
 
 use crate::{Kernel, StepFault};
@@ -7,7 +6,7 @@ use st_base::{Errno, Ids, Sequence, Text};
 use st_calls::{ArgText, Label, Rule, Snapshot, SysCall, Verdict};
 use st_law::{Input, Mode, Options};
 use st_names::{AbsName, SeenText};
-use st_policy::read_policies;
+use st_policy::{Env, PolicySet, read_policies};
 use st_trace::{
     CallResult, Cause, Change, Choice, Entry, Instr, NewRow, ProcessRow, RowKind, Start, ThreadRow,
     TreeRow, Way,
@@ -62,10 +61,10 @@ fn body_of(alloc: Global, instructions: &[Instr]) -> Result<Sequence<Instr>, All
 // One traced process of user 10 and group 20 under a policy file, whose thread has these instructions.
 fn input_of(alloc: Global, policy: &[u8], instructions: &[Instr]) -> Result<Input, AllocError>
     requires { length policy.now < 2 ^ 32 }
-    ensures one { IfOk result IsOneThread }
-    ensures few { IfOk result (λ input. HasFewFilters input.policies) }
+    ensures { IfOk result IsOneThread }
 {
-    let Ok(policies) = read_policies(alloc, policy) else {
+    let mut policies = PolicySet::new(alloc);
+    let Ok(()) = read_policies(alloc, policy, &Env::new(alloc), &mut policies) else {
         return Err(AllocError);
     };
     let mut threads = Sequence::new(alloc);
@@ -96,39 +95,62 @@ fn input_of(alloc: Global, policy: &[u8], instructions: &[Instr]) -> Result<Inpu
     })
 }
 
+// Each of these looks at one kind of entry, field by field.
+
 fn is_entered(entry: &Entry, wanted: SysCall, how: Way) -> bool {
-    match entry {
-        Entry::Entered {
-            tid: 1,
-            call,
-            regs,
-            way,
-        } => *call == wanted && *regs == [0; 6] && *way == how,
-        _ => false,
+    let Entry::Entered {
+        tid,
+        call,
+        regs,
+        way,
+    } = entry
+    else {
+        return false;
+    };
+    if *tid != 1 || *regs != [0; 6] {
+        return false;
     }
+    *call == wanted && *way == how
 }
 
 fn is_stored(entry: &Entry, at: u32, bytes: &[u8; 8]) -> bool {
-    match entry {
-        Entry::Stored {
-            tid: 1,
-            place,
-            word,
-        } => *place == at && *word == u64::from_le_bytes(*bytes),
-        _ => false,
+    let Entry::Stored { tid, place, word } = entry else {
+        return false;
+    };
+    if *tid != 1 {
+        return false;
     }
+    *place == at && *word == u64::from_le_bytes(*bytes)
+}
+
+fn is_claimed(entry: &Entry) -> bool {
+    let Entry::Claimed { worker, seq } = entry else {
+        return false;
+    };
+    *worker == 1 && *seq == 1
 }
 
 fn is_copied(entry: &Entry, at: u32, bytes: &[u8; 8]) -> bool {
-    match entry {
-        Entry::Copied {
-            seq: 1,
-            part: 0,
-            place,
-            word,
-        } => *place == at && *word == u64::from_le_bytes(*bytes),
-        _ => false,
+    let Entry::Copied {
+        seq,
+        part,
+        place,
+        word,
+    } = entry
+    else {
+        return false;
+    };
+    if *seq != 1 || *part != 0 {
+        return false;
     }
+    *place == at && *word == u64::from_le_bytes(*bytes)
+}
+
+fn is_ended(entry: &Entry) -> bool {
+    let Entry::Ended { tid } = entry else {
+        return false;
+    };
+    *tid == 1
 }
 
 fn is_named(name: &AbsName, parts: &[&[u8]]) -> bool {
@@ -143,113 +165,216 @@ fn is_named(name: &AbsName, parts: &[&[u8]]) -> bool {
     true
 }
 
-fn sees_directory(entry: &Entry, parts: &[&[u8]]) -> bool {
-    match entry {
-        Entry::Looked {
-            seq: 1,
-            part: 0,
-            name,
-            seen: SeenText::Dir,
-        } => is_named(name, parts),
-        _ => false,
+// What was seen, where the entry is a look at this name.
+fn seen_of<'a>(entry: &'a Entry, parts: &[&[u8]]) -> Option<&'a SeenText> {
+    let Entry::Looked {
+        seq,
+        part,
+        name,
+        seen,
+    } = entry
+    else {
+        return None;
+    };
+    if *seq != 1 || *part != 0 || !is_named(name, parts) {
+        return None;
     }
+    Some(seen)
+}
+
+fn sees_directory(entry: &Entry, parts: &[&[u8]]) -> bool {
+    matches!(seen_of(entry, parts), Some(SeenText::Dir))
 }
 
 fn sees_file(entry: &Entry, parts: &[&[u8]]) -> bool {
-    match entry {
-        Entry::Looked {
-            seq: 1,
-            part: 0,
-            name,
-            seen: SeenText::File,
-        } => is_named(name, parts),
-        _ => false,
-    }
+    matches!(seen_of(entry, parts), Some(SeenText::File))
 }
 
 // Whether the one argument is this name.
 fn is_filename(args: &[ArgText], text: &[u8]) -> bool {
-    match args {
-        [arg] => arg.label == Label::Filename && arg.index == 0 && arg.text.bytes() == text,
-        _ => false,
+    let [arg] = args else {
+        return false;
+    };
+    if arg.label != Label::Filename || arg.index != 0 {
+        return false;
     }
+    arg.text.bytes() == text
 }
 
 fn is_copy(snapshot: &Snapshot, text: &[u8]) -> bool {
-    snapshot.seq == 1
-        && snapshot.pid == 1
-        && snapshot.ids == IDS
-        && snapshot.policy.bytes() == b"/bin/cat".as_slice()
-        && snapshot.rule == Rule::FsRead
-        && snapshot.call == SysCall::Open
-        && is_filename(snapshot.parts.as_slice(), text)
+    if snapshot.seq != 1 || snapshot.pid != 1 || snapshot.ids != IDS {
+        return false;
+    }
+    if snapshot.policy.bytes() != b"/bin/cat".as_slice() {
+        return false;
+    }
+    if snapshot.rule != Rule::FsRead || snapshot.call != SysCall::Open {
+        return false;
+    }
+    is_filename(snapshot.parts.as_slice(), text)
 }
 
 fn is_permitted(entry: &Entry, text: &[u8]) -> bool {
-    match entry {
-        Entry::Answered {
-            worker: 1,
-            snapshot,
-            verdict,
-            applied: true,
-        } => *verdict == Verdict::Permit(1, IDS) && is_copy(snapshot, text),
-        _ => false,
+    let Entry::Answered {
+        worker,
+        snapshot,
+        verdict,
+        applied,
+    } = entry
+    else {
+        return false;
+    };
+    if *worker != 1 || !*applied || *verdict != Verdict::Permit(1, IDS) {
+        return false;
     }
+    is_copy(snapshot, text)
 }
 
 fn is_opened(entry: &Entry, text: &[u8], descriptor: u64) -> bool {
-    match entry {
-        Entry::Used {
-            tid: 1,
-            seq: Some(1),
-            call: SysCall::Open,
-            args,
-            ids,
-            result: CallResult::Value(value),
-            changes,
-            ..
-        } => {
-            *ids == IDS
-                && *value == descriptor
-                && changes.as_slice().is_empty()
-                && is_filename(args.as_slice(), text)
-        }
-        _ => false,
+    let Entry::Used {
+        tid,
+        seq,
+        call,
+        args,
+        ids,
+        result,
+        changes,
+        ..
+    } = entry
+    else {
+        return false;
+    };
+    if *tid != 1 || *seq != Some(1) || *call != SysCall::Open || *ids != IDS {
+        return false;
     }
+    if *result != CallResult::Value(descriptor) || !changes.as_slice().is_empty() {
+        return false;
+    }
+    is_filename(args.as_slice(), text)
 }
 
 fn is_used(entry: &Entry, wanted: SysCall, value: u64, ended: &[Change]) -> bool {
-    match entry {
-        Entry::Used {
-            tid: 1,
-            seq: None,
-            call,
-            args,
-            ids,
-            result,
-            changes,
-            ..
-        } => {
-            *call == wanted
-                && args.as_slice().is_empty()
-                && *ids == IDS
-                && *result == CallResult::Value(value)
-                && changes.as_slice() == ended
-        }
-        _ => false,
+    let Entry::Used {
+        tid,
+        seq,
+        call,
+        args,
+        ids,
+        result,
+        changes,
+        ..
+    } = entry
+    else {
+        return false;
+    };
+    if *tid != 1 || *seq != None || *call != wanted || *ids != IDS {
+        return false;
     }
+    if *result != CallResult::Value(value) || !args.as_slice().is_empty() {
+        return false;
+    }
+    changes.as_slice() == ended
 }
 
 fn is_denied(entry: &Entry, number: Option<u64>, error: Errno, why: Cause) -> bool {
-    match entry {
-        Entry::Denied {
-            tid: 1,
-            seq,
-            errno,
-            cause,
-        } => *seq == number && *errno == error && *cause == why,
-        _ => false,
+    let Entry::Denied {
+        tid,
+        seq,
+        errno,
+        cause,
+    } = entry
+    else {
+        return false;
+    };
+    if *tid != 1 || *seq != number {
+        return false;
     }
+    *errno == error && *cause == why
+}
+
+// Traces are looked at here, so that no test has to know all of its entries at once.
+
+// The stores of the name, and the open that is held.
+fn asks_to_open(trace: &[Entry]) -> bool {
+    let [first, second, entered] = trace else {
+        return false;
+    };
+    if !is_stored(first, 0, b"/etc/pas") || !is_stored(second, 1, b"swd\0\0\0\0\0") {
+        return false;
+    }
+    is_entered(entered, SysCall::Open, Way::Held(1))
+}
+
+// The claim, the copies of the name and the looks at it.
+fn copies_and_looks(trace: &[Entry]) -> bool {
+    let [claimed, first, second, directory, file] = trace else {
+        return false;
+    };
+    if !is_claimed(claimed) {
+        return false;
+    }
+    if !is_copied(first, 0, b"/etc/pas") || !is_copied(second, 1, b"swd\0\0\0\0\0") {
+        return false;
+    }
+    sees_directory(directory, &[b"etc"]) && sees_file(file, &[b"etc", b"passwd"])
+}
+
+// The answer, the use and the end.
+fn is_answered_and_made(trace: &[Entry]) -> bool {
+    let [answered, opened, ended] = trace else {
+        return false;
+    };
+    if !is_permitted(answered, b"/etc/passwd") || !is_opened(opened, b"/etc/passwd", 3) {
+        return false;
+    }
+    is_ended(ended)
+}
+
+fn is_held_open(trace: &[Entry]) -> bool {
+    if trace.len() != 11 {
+        return false;
+    }
+    asks_to_open(&trace[..3]) && copies_and_looks(&trace[3..8]) && is_answered_and_made(&trace[8..])
+}
+
+// A call that was entered so and denied, as the first and the fourth of five entries.
+fn is_held_and_denied(trace: &[Entry]) -> bool {
+    let [entered, _, _, denied, _] = trace else {
+        return false;
+    };
+    is_entered(entered, SysCall::GetPid, Way::Held(1))
+        && is_denied(denied, Some(1), Errno::EPERM, Cause::NoFilter)
+}
+
+// A call that was entered fast, and was made with this value and these changes.
+fn is_fast(trace: &[Entry], call: SysCall, value: u64, ended: &[Change]) -> bool {
+    let [entered, used] = trace else {
+        return false;
+    };
+    is_entered(entered, call, Way::Fast) && is_used(used, call, value, ended)
+}
+
+fn is_pid_and_exit(trace: &[Entry]) -> bool {
+    if trace.len() != 5 {
+        return false;
+    }
+    if !is_fast(&trace[..2], SysCall::GetPid, 1, &[]) {
+        return false;
+    }
+    is_fast(&trace[2..4], SysCall::Exit, 0, &[Change::Dying(1)]) && is_ended(&trace[4])
+}
+
+fn is_barred_and_fast(trace: &[Entry]) -> bool {
+    if trace.len() != 5 {
+        return false;
+    }
+    if !is_entered(&trace[0], SysCall::GetUid, Way::Barred(1)) {
+        return false;
+    }
+    if !is_denied(&trace[1], None, Errno::EPERM, Cause::Filter(1)) {
+        return false;
+    }
+    is_fast(&trace[2..4], SysCall::GetEuid, 10, &[]) && is_ended(&trace[4])
 }
 
 const THREAD: Choice = Choice::Thread(1);
@@ -269,19 +394,7 @@ fn a_held_open_has_eleven_entries(rt: HostRuntime) -> Result<(), Fail> {
     let mut kernel = Kernel::start(rt.alloc(), &input)?;
     kernel.finish(rt.alloc())?;
 
-    let trace = kernel.trace();
-    assert_eq!(rt; trace.len(), 11);
-    assert!(rt; is_stored(&trace[0], 0, b"/etc/pas"));
-    assert!(rt; is_stored(&trace[1], 1, b"swd\0\0\0\0\0"));
-    assert!(rt; is_entered(&trace[2], SysCall::Open, Way::Held(1)));
-    assert!(rt; matches!(&trace[3], Entry::Claimed { worker: 1, seq: 1 }));
-    assert!(rt; is_copied(&trace[4], 0, b"/etc/pas"));
-    assert!(rt; is_copied(&trace[5], 1, b"swd\0\0\0\0\0"));
-    assert!(rt; sees_directory(&trace[6], &[b"etc"]));
-    assert!(rt; sees_file(&trace[7], &[b"etc", b"passwd"]));
-    assert!(rt; is_permitted(&trace[8], b"/etc/passwd"));
-    assert!(rt; is_opened(&trace[9], b"/etc/passwd", 3));
-    assert!(rt; matches!(&trace[10], Entry::Ended { tid: 1 }));
+    assert!(rt; is_held_open(kernel.trace()));
     Ok(())
 }
 
@@ -293,10 +406,7 @@ fn the_worker_moves_where_the_thread_waits(rt: HostRuntime) -> Result<(), Fail> 
     let mut kernel = Kernel::start(rt.alloc(), &input)?;
     kernel.finish(rt.alloc())?;
 
-    let trace = kernel.trace();
-    assert_eq!(rt; trace.len(), 5);
-    assert!(rt; is_entered(&trace[0], SysCall::GetPid, Way::Held(1)));
-    assert!(rt; is_denied(&trace[3], Some(1), Errno::EPERM, Cause::NoFilter));
+    assert!(rt; is_held_and_denied(kernel.trace()));
     assert_eq!(rt;
         kernel.schedule(),
         [THREAD, WORKER, WORKER, THREAD, THREAD].as_slice()
@@ -316,13 +426,7 @@ fn permitted_calls_are_made_in_order(rt: HostRuntime) -> Result<(), Fail> {
     let mut kernel = Kernel::start(rt.alloc(), &input)?;
     kernel.finish(rt.alloc())?;
 
-    let trace = kernel.trace();
-    assert_eq!(rt; trace.len(), 5);
-    assert!(rt; is_entered(&trace[0], SysCall::GetPid, Way::Fast));
-    assert!(rt; is_used(&trace[1], SysCall::GetPid, 1, &[]));
-    assert!(rt; is_entered(&trace[2], SysCall::Exit, Way::Fast));
-    assert!(rt; is_used(&trace[3], SysCall::Exit, 0, &[Change::Dying(1)]));
-    assert!(rt; matches!(&trace[4], Entry::Ended { tid: 1 }));
+    assert!(rt; is_pid_and_exit(kernel.trace()));
     assert_eq!(rt; kernel.schedule(), [THREAD; 5].as_slice());
     Ok(())
 }
@@ -339,18 +443,12 @@ fn a_barred_call_is_denied_and_the_thread_goes_on(rt: HostRuntime) -> Result<(),
     let mut kernel = Kernel::start(rt.alloc(), &input)?;
     kernel.finish(rt.alloc())?;
 
-    let trace = kernel.trace();
-    assert_eq!(rt; trace.len(), 5);
-    assert!(rt; is_entered(&trace[0], SysCall::GetUid, Way::Barred(1)));
-    assert!(rt; is_denied(&trace[1], None, Errno::EPERM, Cause::Filter(1)));
-    assert!(rt; is_entered(&trace[2], SysCall::GetEuid, Way::Fast));
-    assert!(rt; is_used(&trace[3], SysCall::GetEuid, 10, &[]));
-    assert!(rt; matches!(&trace[4], Entry::Ended { tid: 1 }));
+    assert!(rt; is_barred_and_fast(kernel.trace()));
     Ok(())
 }
 
 #[test]
-fn only_what_is_enabled_is_made(rt: HostRuntime) -> Result<(), Fail> {
+fn a_worker_without_a_message_makes_nothing(rt: HostRuntime) -> Result<(), Fail> {
     let policy = b"Policy: /bin/cat, Emulation: native\n";
     let body = [Instr::Call(SysCall::GetPid, [0; 6])];
     let input = input_of(rt.alloc(), policy, &body)?;
@@ -364,6 +462,17 @@ fn only_what_is_enabled_is_made(rt: HostRuntime) -> Result<(), Fail> {
         kernel.advance(rt.alloc(), Choice::Thread(2)),
         Err(StepFault::NotEnabled)
     );
+    assert!(rt; kernel.trace().is_empty());
+    assert_eq!(rt; kernel.input().start.threads.as_slice().len(), 1);
+    Ok(())
+}
+
+#[test]
+fn a_thread_waits_while_its_call_is_held(rt: HostRuntime) -> Result<(), Fail> {
+    let policy = b"Policy: /bin/cat, Emulation: native\n";
+    let body = [Instr::Call(SysCall::GetPid, [0; 6])];
+    let input = input_of(rt.alloc(), policy, &body)?;
+    let mut kernel = Kernel::start(rt.alloc(), &input)?;
     assert!(rt; kernel.enabled(THREAD));
     assert_eq!(rt; kernel.advance(rt.alloc(), THREAD), Ok(()));
     assert!(rt; !kernel.enabled(THREAD), "its call is held");
@@ -373,6 +482,5 @@ fn only_what_is_enabled_is_made(rt: HostRuntime) -> Result<(), Fail> {
     );
     assert_eq!(rt; kernel.advance(rt.alloc(), WORKER), Ok(()));
     assert_eq!(rt; kernel.trace().len(), 2);
-    assert_eq!(rt; kernel.input().start.threads.as_slice().len(), 1);
     Ok(())
 }

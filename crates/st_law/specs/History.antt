@@ -8,8 +8,6 @@ use Rattle.st_calls.specs.declared.call.SysCall.{SysCall}
 use Rattle.st_calls.specs.declared.call.SysCall.TheVariants.{Open}
 use Rattle.st_calls.specs.declared.judged.Snapshot.{Snapshot}
 use Rattle.st_calls.specs.declared.judged.Verdict.{Verdict}
-use Rattle.st_calls.specs.Argument.{args_of}
-use Rattle.st_calls.specs.Call.{rule_of}
 use Rattle.st_memory.specs.Memory.{stored, word_of}
 use Rattle.st_names.specs.Name.{Components}
 use Rattle.st_names.specs.Tree.{Tree, Node, Directory, Regular, root_only, add_object}
@@ -18,6 +16,7 @@ use Rattle.st_policy.specs.Judging.{verdict}
 use Rattle.st_policy.specs.Policies.{read_filters}
 use Rattle.st_trace.specs.Effect.{Setting}
 use Rattle.st_trace.specs.Progress.{Progress, Word, Look, Stuck, Ready, progress_from}
+use Rattle.st_trace.specs.Served.{machine_rule, served_args}
 use Rattle.st_trace.specs.declared.entry.CallResult.{CallResult}
 use Rattle.st_trace.specs.declared.entry.CallResult.TheVariants.{Value}
 use Rattle.st_trace.specs.declared.entry.Change.{Change}
@@ -309,7 +308,7 @@ is_live i h q = lives (head i h q) (is_closed h q) (is_dying h)
 
 abbrev pub progress_by : Option Head → (ℕ → List ℕ) → (ℕ → List SeenText) → Progress
 progress_by None words seens = Ready []
-progress_by (Some head) words seens = progress_from 0 (args_of head.call) head.regs head.cwd words seens
+progress_by (Some head) words seens = progress_from 0 (served_args head.call) head.regs head.cwd words seens
 
 -- how far a message's arguments have come
 abbrev pub progress : Input → History → ℕ → Progress
@@ -322,7 +321,7 @@ snapshot_of q head args = record {
   pid = head.pid;
   ids = head.ids;
   policy = head.policy;
-  rule = rule_of head.call;
+  rule = machine_rule head.call;
   call = head.call;
   regs = head.regs;
   parts = args;

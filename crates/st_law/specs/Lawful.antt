@@ -10,7 +10,6 @@ use Rattle.st_calls.specs.declared.judged.Verdict.{Verdict}
 use Rattle.st_calls.specs.declared.judged.Verdict.TheVariants.{Permit, Refuse, Unmatched}
 use Rattle.st_calls.specs.declared.rule.FastAnswer.{FastAnswer}
 use Rattle.st_calls.specs.declared.rule.FastAnswer.TheVariants as answer
-use Rattle.st_calls.specs.Call.{rule_of}
 use Rattle.st_names.specs.Name.{Components}
 use Rattle.st_names.specs.Tree.{look}
 use Rattle.st_names.specs.declared.seen.SeenText.{SeenText}
@@ -18,6 +17,7 @@ use Rattle.st_policy.specs.Fast.{fast}
 use Rattle.st_policy.specs.Policies.{read_filters}
 use Rattle.st_trace.specs.Effect.{effect}
 use Rattle.st_trace.specs.Progress.{Word, Look, Stuck}
+use Rattle.st_trace.specs.Served.{machine_rule}
 use Rattle.st_trace.specs.declared.entry.Entry.{Entry}
 use Rattle.st_trace.specs.declared.entry.Entry.TheVariants.{Stored, Entered, Claimed, Copied, Looked, Faulted, Answered, Used, Denied, Ended}
 use Rattle.st_trace.specs.declared.entry.Way.{Way}
@@ -39,7 +39,7 @@ pub record IsRunning (i : Input) (h : History) (t : ℕ) : Type 0 where
 
 -- the kernel's own answer for a call of a thread, by the filters that were read for its process's policy
 abbrev pub answer_at : Input → ℕ → SysCall → FastAnswer
-answer_at i t call = fast (read_filters i.policies (process i (owner i t)).policy (rule_of call))
+answer_at i t call = fast (read_filters i.policies (process i (owner i t)).policy (machine_rule call))
 
 -- a call goes fast exactly where the kernel permits it by itself, is barred exactly where it refuses it, and is held, by the
 -- message with the next number, exactly where the filters have to be asked

@@ -10,7 +10,6 @@ use Rattle.st_calls.specs.declared.judged.Verdict.{Verdict}
 use Rattle.st_calls.specs.declared.judged.Verdict.TheVariants.{Permit, Refuse, Unmatched}
 use Rattle.st_calls.specs.declared.rule.FastAnswer.{FastAnswer}
 use Rattle.st_calls.specs.declared.rule.FastAnswer.TheVariants as answer
-use Rattle.st_calls.specs.Call.{rule_of}
 use Rattle.st_memory.specs.Memory.{word_of}
 use Rattle.st_names.specs.Tree.{Tree, look}
 use Rattle.st_policy.specs.Fast.{fast}
@@ -18,6 +17,7 @@ use Rattle.st_policy.specs.Formula.{FilterValue}
 use Rattle.st_policy.specs.Policies.{read_filters}
 use Rattle.st_trace.specs.Effect.{Setting, effect}
 use Rattle.st_trace.specs.Progress.{Progress, Word, Look, Stuck, Ready}
+use Rattle.st_trace.specs.Served.{machine_rule}
 use Rattle.st_trace.specs.declared.entry.Choice.{Choice}
 use Rattle.st_trace.specs.declared.entry.Choice.TheVariants as choice
 use Rattle.st_trace.specs.declared.entry.Entry.{Entry}
@@ -131,7 +131,7 @@ at_in st w = served (live_in st) (progress_in st) (st.turns w)
 
 -- the filters that judge a call of a policy
 abbrev pub filters_for : Input → List ℕ → SysCall → List FilterValue
-filters_for i policy call = read_filters i.policies policy (rule_of call)
+filters_for i policy call = read_filters i.policies policy (machine_rule call)
 
 -- the kernel's own answer for a call of a process
 abbrev pub answer_for : Input → Process → SysCall → FastAnswer

@@ -1,9 +1,16 @@
 pub mod Distances
 pub mod Examples
+pub mod Fronts
+pub mod Holdings
+pub mod Insides
 pub mod Lines
 pub mod Parts
+pub mod Pieces
 pub mod Prints
 pub mod Runs
 pub mod Scans
 pub mod Skips
+pub mod Unquotes
 pub mod Within
+pub mod Wholes
+pub mod Words

@@ -39,7 +39,7 @@ Bounds text n = (is_word_byte (byte_before text n) && is_word_byte (get_or text 
 newlines-more : (text : List ℕ) (at k : ℕ) → newlines (take (at + k) text) ≡ newlines (take at text) + newlines (take k (drop at text))
 newlines-more text at k = ap newlines (take-add at k text) ∙ sum_by-append _ (take at text) (take k (drop at text))
 
-drop-next : (text : List ℕ) (at b : ℕ) (bs : List ℕ) → drop at text ≡ b ∷ bs → drop (at + 1) text ≡ bs
+pub drop-next : (text : List ℕ) (at b : ℕ) (bs : List ℕ) → drop at text ≡ b ∷ bs → drop (at + 1) text ≡ bs
 drop-next text at b bs e = sym (drop-drop 1 at text) ∙ ap (drop 1) e
 
 get-at : (text : List ℕ) (at : ℕ) (bytes : List ℕ) (k : ℕ) → drop at text ≡ bytes → get_or bytes k 0 ≡ get_or text (at + k) 0

@@ -54,9 +54,9 @@ digit : (n : ℕ) → n < 16 → IsDigit n (hex_digit n)
 digit n h = digit_by n (nat_lt n 10) refl h
 
 -- closing and faults go on behind these bytes, as many bytes further on
-record Passes (xs : List ℕ) : Type 0 where
-  closes : (rest : List ℕ) → closing (xs ++ rest) ≡ further (length xs) (closing rest)
-  faults : (rest : List ℕ) → inner_fault (xs ++ rest) ≡ later (length xs) (inner_fault rest)
+pub record Passes (xs : List ℕ) : Type 0 where
+  pub closes : (rest : List ℕ) → closing (xs ++ rest) ≡ further (length xs) (closing rest)
+  pub faults : (rest : List ℕ) → inner_fault (xs ++ rest) ≡ later (length xs) (inner_fault rest)
 
 passes_plain : (b : ℕ) → b ≢ 34 → b ≢ 10 → b ≢ 92 → b ≢ 0 → Passes (b ∷ [])
 passes_plain b q n s z = record {
@@ -103,7 +103,7 @@ passes_both xs ys p q = record {
   faults = λ rest. ap inner_fault (append_assoc xs ys rest) ∙ p.faults (ys ++ rest) ∙ ap (later (length xs)) (q.faults rest) ∙ later-later (length xs) (length ys) (inner_fault rest) ∙ ap (λ (n : ℕ). later n (inner_fault rest)) (sym (length-append xs ys));
 }
 
-passes_bytes : (bytes : List ℕ) → AreBytes bytes → Passes (quoted_bytes bytes)
+pub passes_bytes : (bytes : List ℕ) → AreBytes bytes → Passes (quoted_bytes bytes)
 passes_bytes [] a = passes_none
 passes_bytes (b ∷ bs) a = passes_both (quoted_byte b) (quoted_bytes bs) (passes_byte b a.0 a.1) (passes_bytes bs a.2)
 

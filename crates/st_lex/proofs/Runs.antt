@@ -35,7 +35,7 @@ Tells bytes (Piece kind k) = IsPiece bytes kind k
 Tells bytes (Broken fault) = Unit {0}
 
 -- what holds in each case of a test
-tested : {A : Type 0} (P : A → Type 0) (b : Bool) (x y : A) → (b ≡ true → P x) → (b ≡ false → P y) → P (cond b x y)
+pub tested : {A : Type 0} (P : A → Type 0) (b : Bool) (x y : A) → (b ≡ true → P x) → (b ≡ false → P y) → P (cond b x y)
 tested P true x y f g = f refl
 tested P false x y f g = g refl
 
@@ -51,10 +51,10 @@ newlines-no b bs n =
     let e : newlines (b ∷ bs) ≡ newlines (b ∷ []) + newlines bs = sum_by-append _ (b ∷ []) bs in
     omega (arith, e, newlines-one b n)
 
-prefix-yes : (p : ℕ → Bool) (b : ℕ) (bs : List ℕ) → p b ≡ true → prefix_len p (b ∷ bs) ≡ suc (prefix_len p bs)
+pub prefix-yes : (p : ℕ → Bool) (b : ℕ) (bs : List ℕ) → p b ≡ true → prefix_len p (b ∷ bs) ≡ suc (prefix_len p bs)
 prefix-yes p b bs e = rw e (omega arith)
 
-prefix-no : (p : ℕ → Bool) (b : ℕ) (bs : List ℕ) → p b ≡ false → prefix_len p (b ∷ bs) ≡ 0
+pub prefix-no : (p : ℕ → Bool) (b : ℕ) (bs : List ℕ) → p b ≡ false → prefix_len p (b ∷ bs) ≡ 0
 prefix-no p b bs e = rw e refl
 
 newlines-run : (p : ℕ → Bool) → ((b : ℕ) → p b ≡ true → b ≢ 10) → (bs : List ℕ) → newlines (take (prefix_len p bs) bs) ≡ 0
@@ -80,7 +80,7 @@ no_right : (x y : Bool) → y ≡ false → (x && y) ≡ false
 no_right false y e = refl
 no_right true y e = e
 
-is_at : (b n : ℕ) → nat_eq b n ≡ true → b ≡ n
+pub is_at : (b n : ℕ) → nat_eq b n ≡ true → b ≡ n
 is_at b n e = grind (arith, nat_tests)
 
 not_at : (b n : ℕ) → nat_eq b n ≡ false → b ≢ n
@@ -100,7 +100,7 @@ from_or : (x y : Bool) (P : Type 0) → (x || y) ≡ true → (x ≡ true → P)
 from_or true y P e f g = f refl
 from_or false y P e f g = g e
 
-blank_no_word : (b : ℕ) → is_blank b ≡ true → (is_word_byte b ≡ false) × (b ≢ 10)
+pub blank_no_word : (b : ℕ) → is_blank b ≡ true → (is_word_byte b ≡ false) × (b ≢ 10)
 blank_no_word b e =
     let P : Type 0 = (is_word_byte b ≡ false) × (b ≢ 10) in
     from_or (nat_eq b 32) (nat_eq b 9 || nat_eq b 13) P e

@@ -10,11 +10,11 @@ abbrev pub Closes : Bool → List ℕ → ℕ → Type 0
 Closes false bytes i = closing bytes ≡ further i (closing (drop i bytes))
 Closes true bytes i = (k : ℕ) × (k + 1 ≡ i) × (closing bytes ≡ further k (closing (92 ∷ drop i bytes)))
 
-closing-quote : (bs : List ℕ) → closing (34 ∷ bs) ≡ Some 1
+pub closing-quote : (bs : List ℕ) → closing (34 ∷ bs) ≡ Some 1
 closing-quote [] = refl
 closing-quote (b ∷ bs) = refl
 
-closing-newline : (bs : List ℕ) → closing (10 ∷ bs) ≡ None
+pub closing-newline : (bs : List ℕ) → closing (10 ∷ bs) ≡ None
 closing-newline [] = refl
 closing-newline (b ∷ bs) = refl
 
@@ -72,11 +72,11 @@ abbrev pub Faults : Bool → List ℕ → ℕ → Type 0
 Faults false bytes i = inner_fault bytes ≡ later i (inner_fault (drop i bytes))
 Faults true bytes i = (k : ℕ) × (k + 1 ≡ i) × (inner_fault bytes ≡ later k (inner_fault (92 ∷ drop i bytes)))
 
-inner_fault-quote : (bs : List ℕ) → inner_fault (34 ∷ bs) ≡ None
+pub inner_fault-quote : (bs : List ℕ) → inner_fault (34 ∷ bs) ≡ None
 inner_fault-quote [] = refl
 inner_fault-quote (b ∷ bs) = refl
 
-inner_fault-zero : (bs : List ℕ) → inner_fault (0 ∷ bs) ≡ Some (BadByte 0)
+pub inner_fault-zero : (bs : List ℕ) → inner_fault (0 ∷ bs) ≡ Some (BadByte 0)
 inner_fault-zero [] = refl
 inner_fault-zero (b ∷ bs) = refl
 
@@ -87,7 +87,7 @@ inner_fault-plain b (c ∷ cs) q n s = grind (arith, nat_tests)
 pub inner_fault-pair : (b : ℕ) (bs : List ℕ) → b ≢ 0 → (b ≡ 120 → is_byte_escape bs ≡ true) → inner_fault (92 ∷ b ∷ bs) ≡ later 2 (inner_fault bs)
 inner_fault-pair b bs n x = grind (arith, nat_tests)
 
-inner_fault-escape : (bs : List ℕ) → is_byte_escape bs ≡ false → inner_fault (92 ∷ 120 ∷ bs) ≡ Some (BadEscape 0)
+pub inner_fault-escape : (bs : List ℕ) → is_byte_escape bs ≡ false → inner_fault (92 ∷ 120 ∷ bs) ≡ Some (BadEscape 0)
 inner_fault-escape bs x = grind (arith, nat_tests)
 
 pub Faults-start : (bytes : List ℕ) → Faults false bytes 0

@@ -1,3 +1,4 @@
+pub mod Pieces
 pub mod Quote
 pub mod Quoted
 pub mod Rows
@@ -5,3 +6,4 @@ pub mod Slices
 pub mod Text
 pub mod Tokens
 pub mod Plain
+pub mod Unquote

@@ -1,5 +1,6 @@
 ghost use Rattle.std.specs.Prelude.{◌≡◌, ◌+◌, ◌<◌, ◌≤◌, ◌∷◌, ◌^◌, ℕ, List, length, IfOk, IfSome};
-ghost use Rattle.std.specs.List.{prefix_len};
+ghost use Rattle.std.specs.List.{prefix_len, list_all};
+ghost use Rattle.st_lex.specs.Pieces.{Piece, StandWell, IsReadAs, print, piece_tokens, is_word_text};
 ghost use Rattle.st_lex.specs.Slices.{AreSlices};
 ghost use Rattle.st_lex.specs.Tokens.{is_blank, is_word_byte, is_no_newline, sign_of, quoted_front, front_of, lexed_of, line_behind, LiesWithin};
 ghost use Rattle.st_lex.specs.Quoted.{closing, inner_fault, is_byte_escape, moved, place_of};
@@ -18,6 +19,22 @@ fn is_word_byte(byte: u8) -> bool
     ensures { result ≡ is_word_byte byte }
 {
     byte.is_ascii_alphanumeric() || matches!(byte, b'_' | b'-' | b'.' | b'/' | b'+' | b'~' | b'%')
+}
+
+fn are_word_bytes(bytes: &[u8]) -> bool
+    ensures { result ≡ list_all is_word_byte bytes.now }
+{
+    bytes.iter().all(|byte| is_word_byte(*byte))
+}
+
+/// Whether bytes are one Word: one byte or more, each of those that Words are made of.
+pub fn is_word_text(bytes: &[u8]) -> bool
+    ensures { result ≡ is_word_text bytes.now }
+{
+    match bytes {
+        [] => false,
+        _ => are_word_bytes(bytes),
+    }
 }
 
 fn word_len(bytes: &[u8]) -> usize
@@ -210,4 +227,9 @@ pub fn tokens(alloc: Global, text: &[u8]) -> Result<Lexed, AllocError>
 /// The tokens of a text are parts of it: in order, words whole, quoted texts between their quotes, on their lines.
 pub fn tokens_are_slices()
     ensures { (text : List ℕ) → AreSlices text (lexed_of text).tokens }
+{}
+
+/// Pieces that stand well, printed one behind the other, are read without a fault as the tokens that the pieces are.
+pub fn pieces_are_tokens()
+    ensures { (pieces : List Piece) → StandWell pieces → IsReadAs (print pieces) (piece_tokens pieces) }
 {}

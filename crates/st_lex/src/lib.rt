@@ -6,12 +6,14 @@ pub mod plain;
 pub mod quoted;
 pub mod rows;
 pub mod token;
+pub mod unquoted;
 
-pub use lexer::{tokens, tokens_are_slices};
+pub use lexer::{is_word_text, pieces_are_tokens, tokens, tokens_are_slices};
 pub use plain::plain_tokens;
 pub use quoted::{quote, quoted_is_one_token};
 pub use rows::next_row;
 pub use token::{LexFault, Lexed, Token, TokenKind};
+pub use unquoted::{Dollars, quoted_is_unquoted, unquote, unquote_plain};
 
 #[cfg(test)]
 mod tests;

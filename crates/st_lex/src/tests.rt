@@ -1,7 +1,7 @@
 ghost use Rattle.std.specs.Prelude.{◌<◌, ◌^◌, length};
 
 use crate::token::{LexFault, Token, TokenKind};
-use crate::{next_row, quote, tokens};
+use crate::{Dollars, next_row, quote, tokens, unquote, unquote_plain};
 use st_base::Text;
 use std::alloc::{AllocError, Global};
 use std::test::Fail;
@@ -93,5 +93,48 @@ fn cuts_rows(rt: HostRuntime) -> Result<(), Fail> {
     let (second, last) = next_row(behind).ok_or("no second row")?;
     assert_eq!(rt; (first.len(), second.len()), (2, 1));
     assert!(rt; next_row(last).is_none());
+    Ok(())
+}
+
+#[test]
+fn unquotes_with_names(rt: HostRuntime) -> Result<(), Fail> {
+    let dollars = Dollars {
+        home: Text::of(rt.alloc(), b"/h")?,
+        user: Text::of(rt.alloc(), b"\\x41\"$CWD")?,
+        cwd: Text::new(rt.alloc()),
+    };
+    let rows: [(&[u8], &[u8]); 11] = [
+        (b"\"\"", b""),
+        (b"\"$HOME/b\"", b"/h/b"),
+        (b"\"\\x2fb\"", b"/b"),
+        (b"\"\\x2Fb\"", b"/b"),
+        (b"\"\\$HOME\"", b"\\/h"),
+        (b"\"\\\\$HOME\"", b"\\/h"),
+        (b"\"\\x24HOME\"", b"$HOME"),
+        (b"\"$USER\"", b"\\x41\"$CWD"),
+        (b"\"a$CWD$CWDs\"", b"as"),
+        (b"\"$$HOMER$HOM$home$\"", b"$/hR$HOM$home$"),
+        (b"\"a\\\"b\\\\c\\d\"", b"a\"b\\c\\d"),
+    ];
+    for (source, held) in rows {
+        let text = unquote(rt.alloc(), source, &dollars)?;
+        assert_eq!(rt; text.bytes(), held);
+    }
+    Ok(())
+}
+
+#[test]
+fn unquotes_without_names(rt: HostRuntime) -> Result<(), Fail> {
+    let rows: [(&[u8], &[u8]); 5] = [
+        (b"\"$HOME\"", b"$HOME"),
+        (b"\"\\$USER\"", b"\\$USER"),
+        (b"\"\\\\x41\"", b"\\x41"),
+        (b"\"\\x5cx41\"", b"\\x41"),
+        (b"\"\\xfF\\x01\"", b"\xff\x01"),
+    ];
+    for (source, held) in rows {
+        let text = unquote_plain(rt.alloc(), source)?;
+        assert_eq!(rt; text.bytes(), held);
+    }
     Ok(())
 }

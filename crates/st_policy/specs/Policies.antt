@@ -1,4 +1,4 @@
-use Rattle.std.specs.Prelude.{ℕ, ◌<◌, ◌^◌, Bool, List, [], ◌∷◌, length, filter, if◌then◌else◌, ◌==◌}
+use Rattle.std.specs.Prelude.{ℕ, Bool, false, List, [], ◌∷◌, filter, if◌then◌else◌, ◌==◌}
 use Rattle.std.specs.Str.{bytes_eq}
 use Rattle.st_calls.specs.declared.rule.Rule.{Rule}
 use Rattle.st_calls.specs.Call.{index_of_rule}
@@ -12,13 +12,10 @@ abbrev pub policy_of : List BinaryPolicy → List ℕ → List FilterValue
 policy_of [] binary = []
 policy_of (p ∷ ps) binary = if bytes_eq p.binary binary then p.filters else policy_of ps binary
 
--- each filter of a binary has a number below 2^32
-abbrev pub HasFewFilters : List BinaryPolicy → Type 0
-HasFewFilters policies = (binary : List ℕ) → length (policy_of policies binary) < 2 ^ 32
-
 -- whether a filter of this name is for the rule
 abbrev pub is_for : Rule → FilterName → Bool
 is_for rule (name.Rule other) = index_of_rule other == index_of_rule rule
+is_for rule (name.Other other) = false
 
 -- the filters of a rule, in order
 abbrev pub filters_of : Rule → List FilterValue → List FilterValue

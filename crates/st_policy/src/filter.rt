@@ -1,27 +1,36 @@
-ghost use Rattle.std.specs.Prelude.{◌≡◌, IfOk};
-ghost use Rattle.st_policy.specs.Fast.{fast};
-ghost use Rattle.st_policy.specs.Policies.{filters_of};
+ghost use Rattle.std.specs.Prelude.{◌≡◌};
 
 use st_base::{Errno, Sequence, Text};
-use st_calls::{FastAnswer, Label, Rule};
-use std::alloc::{AllocError, Global};
+use st_calls::Rule;
 use std::marker::Model;
 
 /// The filters of one binary, in order.
 pub type Policy = Sequence<Filter>;
 
 /// What a filter is for.
-#[derive(Clone, Copy, Debug, PartialEq, Eq)]
+#[derive(Debug, Drop)]
 pub enum FilterName {
     /// A rule of the model.
     Rule(Rule),
+    /// A call outside the model, by its name behind `native-`; its filters are kept and never asked.
+    Other(Text),
 }
 
 /// How a test compares an argument with its text.
 #[derive(Clone, Copy, Debug, PartialEq, Eq)]
 pub enum Op {
+    /// The text, as a pattern, matches the argument or a leading part of it that a slash follows.
+    Match,
     /// All bytes are the same.
     Eq,
+    /// Some byte differs.
+    Neq,
+    /// The text stands somewhere in the argument.
+    Sub,
+    /// The text stands nowhere in the argument.
+    Nsub,
+    /// The argument is a directory on the way to the text, or the text itself.
+    Inpath,
 }
 
 /// A filter's test of a call's arguments.
@@ -36,6 +45,9 @@ pub enum Expr {
         op: Op,
         text: Text,
     },
+    Not(Box<Expr>),
+    And(Box<Expr>, Box<Expr>),
+    Or(Box<Expr>, Box<Expr>),
 }
 
 /// What a filter does with a call that it holds of.
@@ -43,6 +55,8 @@ pub enum Expr {
 pub enum Action {
     Permit,
     Deny(Errno),
+    /// A person is asked; until then the filter decides nothing.
+    Ask,
 }
 
 /// The ids that a permit grants for one call: `as user:group`.
@@ -88,58 +102,47 @@ pub struct Filter {
 }
 
 impl Model for Filter {
+    ghost use Rattle.std.specs.Coded.{codes};
     ghost use Rattle.st_policy.specs.Formula.{FilterValue, formula};
+    ghost use Rattle.st_policy.specs.FormulaCode.{formula_code};
 
     ghost Value = { FilterValue };
+
+    ghost coded = { Prim.hlevel (codes, formula_code) };
 
     ghost view = { λ f. record { name = f.name; formula = formula f.expr; action = f.action; grant = f.grant; log = f.log; predicate = f.predicate } };
 }
 
 impl Filter {
-    ghost use Rattle.st_policy.specs.Formula.{plain_filter, read_of, formula};
-    ghost use Rattle.st_policy.specs.Fast.{fast_answer};
+    ghost use Rattle.st_policy.specs.Formula.{formula};
     ghost use Rattle.st_policy.specs.Policies.{is_for};
 
-    /// The short form `name: action`: it holds of every call, grants nothing, logs nothing and asks for no id.
-    pub fn plain(name: FilterName, action: Action) -> Self
-        ensures { result ≡ plain_filter name action }
+    /// What it is for.
+    pub fn name(&self) -> &FilterName
+        ensures { result.now ≡ self.now.name }
+    {
+        &self.name
+    }
+
+    /// A filter of these parts.
+    pub(crate) fn new(
+        name: FilterName,
+        expr: Expr,
+        action: Action,
+        grant: Option<Grant>,
+        log: bool,
+        predicate: Option<Predicate>,
+    ) -> Self
+        ensures { result ≡ record { name = name; formula = formula expr; action = action; grant = grant; log = log; predicate = predicate } }
     {
         Filter {
             name,
-            expr: Expr::True,
+            expr,
             action,
-            grant: None,
-            log: false,
-            predicate: None,
+            grant,
+            log,
+            predicate,
         }
-    }
-
-    /// A permit for what reads the file of this name: `fsread: filename eq "NAME" then permit`.
-    pub fn read_of(alloc: Global, name: &[u8]) -> Result<Self, AllocError>
-        ensures { IfOk result (λ filter. filter ≡ read_of name.now) }
-    {
-        let label = Text::of(alloc, Label::Filename.word())?;
-        let text = Text::of(alloc, name)?;
-        Ok(Filter {
-            name: FilterName::Rule(Rule::FsRead),
-            expr: Expr::Test {
-                label,
-                index: 0,
-                op: Op::Eq,
-                text,
-            },
-            action: Action::Permit,
-            grant: None,
-            log: false,
-            predicate: None,
-        })
-    }
-
-    /// What it is for.
-    pub fn name(&self) -> FilterName
-        ensures { result ≡ self.now.name }
-    {
-        self.name
     }
 
     /// Which calls it holds of.
@@ -156,40 +159,34 @@ impl Filter {
         self.action
     }
 
+    /// The ids that it grants.
+    pub fn grant(&self) -> Option<Grant>
+        ensures { result ≡ self.now.grant }
+    {
+        self.grant
+    }
+
+    /// Whether the calls that it decides are marked in the audit.
+    pub fn log(&self) -> bool
+        ensures { result ≡ self.now.log }
+    {
+        self.log
+    }
+
+    /// Which ids it asks for.
+    pub fn predicate(&self) -> Option<Predicate>
+        ensures { result ≡ self.now.predicate }
+    {
+        self.predicate
+    }
+
     /// Whether it is for this rule.
     pub fn is_for(&self, rule: Rule) -> bool
         ensures { result ≡ is_for rule self.now.name }
     {
-        let FilterName::Rule(name) = self.name;
-        name.index() == rule.index()
-    }
-
-    /// What the kernel answers by itself where this filter is the first of its rule, as in systrace(4).
-    pub fn fast_answer(&self) -> FastAnswer
-        ensures { result ≡ fast_answer self.now }
-    {
-        if self.log || self.predicate.is_some() {
-            return FastAnswer::Ask;
-        }
-        if !matches!(&self.expr, Expr::True) {
-            return FastAnswer::Ask;
-        }
-        match (self.action, self.grant) {
-            (Action::Permit, None) => FastAnswer::Permit,
-            (Action::Deny(errno), _) => FastAnswer::Refuse(errno),
-            _ => FastAnswer::Ask,
+        match &self.name {
+            FilterName::Rule(name) => name.index() == rule.index(),
+            FilterName::Other(_) => false,
         }
     }
-}
-
-/// What the kernel answers by itself for a rule under a policy: as its first filter of that rule says.
-pub fn fast(policy: &Policy, rule: Rule) -> FastAnswer
-    ensures { result ≡ fast (filters_of rule policy.now) }
-{
-    for filter in policy.as_slice() {
-        if filter.is_for(rule) {
-            return filter.fast_answer();
-        }
-    }
-    FastAnswer::Ask
 }

@@ -1,240 +1,286 @@
-ghost use Rattle.std.specs.Prelude.{◌≡◌, ◌^◌, ◌<◌, length, IfOk, option_copied};
-ghost use Rattle.st_lex.specs.Rows.{rows};
-ghost use Rattle.st_policy.specs.Policies.{HasFewFilters};
-ghost use Rattle.st_policy.specs.Form.{native_call, action_named, plain_row, fixed_text, is_permitted, tested_text, read_row, filter_row, is_labelled, absolute_word, is_native, header_row, filter_rows, policy_rows, policies_in};
+ghost use Rattle.std.specs.Prelude.{◌≡◌, ◌≢◌, ◌^◌, ◌<◌, ◌≤◌, ◌↔◌, ℕ, List, true, false, Some, None, Ok, Err, IfOk, IfErr, OnOk, OnErr, length, take};
+ghost use Rattle.st_policy.specs.declared.env.Env.{Env};
+ghost use Rattle.st_policy.specs.declared.set.BinaryPolicy.{BinaryPolicy};
+ghost use Rattle.st_policy.specs.Symbol.{seen};
+ghost use Rattle.st_policy.specs.Grammar.{Reads, filters_in, most_filters, if_absolute, binary_of};
+ghost use Rattle.st_policy.specs.Diagram.{lexical, fault_in};
+ghost use Rattle.st_policy.specs.Leftmost.{HasNoWayOn};
+ghost use Rattle.st_policy.specs.Draft.{is_binary_place, ends_filter, add_filter, filter_of, first_draft, draft_after, set_after, reading, read_step, read_end, read_from, first_reading, set_of, policies_in};
 
-use crate::filter::{Action, Filter, FilterName, Policy};
-use crate::set::{BinaryPolicy, PolicySet};
-use st_base::{Errno, Text};
-use st_calls::{Label, Rule, SysCall};
-use st_lex::{Token, next_row, plain_tokens};
+use crate::draft::Draft;
+use crate::env::Env;
+use crate::fault::PolicyFault;
+use crate::set::PolicySet;
+use crate::symbol::Symbol;
+use crate::walk::Walk;
+use st_base::Text;
+use st_lex::{LexFault, Token, tokens, unquote};
 use std::alloc::{AllocError, Global};
+use std::mem::replace;
 
-/// How many filters the policies may have.
-pub const FILTER_LIMIT: usize = 4096;
-
-/// Why a policy file was not read.
-#[derive(Clone, Copy, Debug, PartialEq, Eq)]
-pub enum PolicyFault {
-    /// It isn't in the form that is built.
-    NotBuilt,
-    NoMemory,
-}
-
-impl From<AllocError> for PolicyFault {
-    ghost use Rattle.st_policy.specs.declared.reader.PolicyFault.TheVariants.{NoMemory};
-
-    ghost from_gives = { λ _ fault. fault ≡ NoMemory };
-
-    fn from(_error: AllocError) -> Self {
-        PolicyFault::NoMemory
-    }
-}
-
-// The call that a filter's name names, if its rule has its own name.
-fn native_call(word: &[u8]) -> Option<SysCall>
-    ensures { result ≡ native_call word.now }
+fn if_absolute(name: Text) -> Option<Text>
+    ensures { result ≡ if_absolute name }
 {
-    if !word.starts_with(b"native-") {
-        return None;
-    }
-    match SysCall::of_word(&word[7..]) {
-        None | Some(SysCall::Open) => None,
-        call => call,
-    }
-}
-
-fn action_named(word: &[u8]) -> Option<Action>
-    ensures { result ≡ action_named word.now }
-{
-    if word == b"permit".as_slice() {
-        Some(Action::Permit)
-    } else if word == b"deny".as_slice() {
-        Some(Action::Deny(Errno::EPERM))
-    } else {
-        None
-    }
-}
-
-// The filter of a row `native-CALL: permit`, or `deny`.
-fn plain_row(text: &[u8], row: &[Token]) -> Option<Filter>
-    ensures { result ≡ plain_row text.now row.now }
-{
-    let [named, colon, action] = row else {
-        return None;
-    };
-    if !(named.kind.is_word() && colon.kind.is_colon() && action.kind.is_word()) {
-        return None;
-    }
-    let call = native_call(named.text(text))?;
-    let action = action_named(action.text(text))?;
-    Some(Filter::plain(FilterName::Rule(Rule::of(call)), action))
-}
-
-// Whether the tokens are a Word and a colon.
-fn is_labelled(text: &[u8], word: &[u8], token: &Token, colon: &Token) -> bool
-    ensures { result ≡ is_labelled text.now word.now token.now colon.now }
-{
-    token.is_keyword(text, word) && colon.kind.is_colon()
-}
-
-// What a quoted text holds that has neither a backslash nor a `$`.
-fn fixed_text<'a>(text: &'a [u8], token: &Token) -> Option<&'a [u8]>
-    ensures { option_copied result ≡ fixed_text text.now token.now }
-{
-    let name = token.plain_quoted(text)?;
-    if name.contains(&b'$') {
-        None
-    } else {
+    if name.bytes().starts_with(b"/") {
         Some(name)
-    }
-}
-
-// Whether the tokens are `then permit`.
-fn is_permitted(text: &[u8], tokens: &[Token]) -> bool
-    ensures { result ≡ is_permitted text.now tokens.now }
-{
-    match tokens {
-        [behind, permit] => behind.is_keyword(text, b"then") && permit.is_keyword(text, b"permit"),
-        _ => false,
-    }
-}
-
-// The text of a test `filename eq "TEXT" then permit`.
-fn tested_text<'a>(text: &'a [u8], test: &[Token]) -> Option<&'a [u8]>
-    ensures { option_copied result ≡ tested_text text.now test.now }
-{
-    match test {
-        [label, op, quoted, action @ ..] => {
-            if label.is_keyword(text, Label::Filename.word())
-                && op.is_keyword(text, b"eq")
-                && is_permitted(text, action)
-            {
-                fixed_text(text, quoted)
-            } else {
-                None
-            }
-        }
-        _ => None,
-    }
-}
-
-// The filter of a row `native-fsread: filename eq "TEXT" then permit`.
-fn read_row(alloc: Global, text: &[u8], row: &[Token]) -> Result<Option<Filter>, AllocError>
-    ensures { IfOk result (λ found. found ≡ read_row text.now row.now) }
-{
-    let [named, colon, test @ ..] = row else {
-        return Ok(None);
-    };
-    if !is_labelled(text, b"native-fsread", named, colon) {
-        return Ok(None);
-    }
-    let Some(name) = tested_text(text, test) else {
-        return Ok(None);
-    };
-    Ok(Some(Filter::read_of(alloc, name)?))
-}
-
-/// The filter of a row: `native-CALL: permit`, or `deny`; or `native-fsread: filename eq "TEXT" then permit`.
-pub fn filter_row(alloc: Global, text: &[u8], row: &[Token]) -> Result<Option<Filter>, AllocError>
-    ensures { IfOk result (λ found. found ≡ filter_row text.now row.now) }
-{
-    if let Some(filter) = plain_row(text, row) {
-        return Ok(Some(filter));
-    }
-    read_row(alloc, text, row)
-}
-
-fn absolute_word<'a>(text: &'a [u8], token: &Token) -> Option<&'a [u8]>
-    ensures { option_copied result ≡ absolute_word text.now token.now }
-{
-    let word = token.text(text);
-    if token.kind.is_word() && word.starts_with(b"/") {
-        Some(word)
     } else {
         None
     }
 }
 
-// Whether the tokens are `, Emulation: native`.
-fn is_native(text: &[u8], tokens: &[Token]) -> bool
-    ensures { result ≡ is_native text.now tokens.now }
+// The binary that a symbol is.
+pub(crate) fn binary_of(
+    alloc: Global,
+    env: &Env,
+    symbol: &Symbol,
+) -> Result<Option<Text>, AllocError>
+    ensures { IfOk result (λ binary. binary ≡ binary_of env.now (seen symbol.now)) }
 {
-    match tokens {
-        [comma, emulation, colon, native] => {
-            comma.kind.is_comma()
-                && is_labelled(text, b"Emulation", emulation, colon)
-                && native.is_keyword(text, b"native")
-        }
-        _ => false,
+    match *symbol {
+        Symbol::Word(word) => Ok(if_absolute(Text::of(alloc, word)?)),
+        Symbol::Quoted(source) => Ok(if_absolute(unquote(alloc, source, &env.dollars)?)),
+        _ => Ok(None),
     }
 }
 
-/// The binary of a header: `Policy: BINARY, Emulation: native`.
-pub fn header_row<'a>(text: &'a [u8], row: &[Token]) -> Option<&'a [u8]>
-    ensures { option_copied result ≡ header_row text.now row.now }
+// A fault where a token is none: the token's own, unless something stands there that can't.
+fn lexical(fault: LexFault, found: PolicyFault) -> PolicyFault
+    ensures is { result ≡ lexical fault found }
+    ensures memory { result ≢ PolicyFault.NoMemory → found ≢ PolicyFault.NoMemory }
 {
-    match row {
-        [policy, colon, binary, emulation @ ..] => {
-            if is_labelled(text, b"Policy", policy, colon) && is_native(text, emulation) {
-                absolute_word(text, binary)
-            } else {
-                None
-            }
-        }
-        _ => None,
+    match found {
+        PolicyFault::Expected(_) => PolicyFault::Lex(fault),
+        _ => found,
     }
 }
 
-fn filter_rows(alloc: Global, text: &[u8], tokens: &[Token]) -> Result<Option<Policy>, AllocError>
-    ensures { IfOk result (λ found. found ≡ filter_rows text.now (rows tokens.now)) }
-{
-    let mut filters = Policy::new(alloc);
-    let mut rest = tokens;
-    while let Some((row, behind)) = next_row(rest) {
-        let Some(filter) = filter_row(alloc, text, row)? else {
-            return Ok(None);
+// What of a text was read.
+#[derive(Drop)]
+struct Reader<'a> {
+    walk: Walk<'a>,
+    draft: Draft,
+}
+
+impl<'a> Reader<'a> {
+    // Behind `Policy:`.
+    fn read_binary(
+        &mut self,
+        alloc: Global,
+        env: &Env,
+        set: &mut PolicySet,
+        at: u32,
+        symbol: &Symbol<'a>,
+    ) -> Result<(), PolicyFault>
+        requires { is_binary_place self.old.walk.place ≡ true }
+        ensures ok { OnOk result (read_step env.now (reading self.old.walk self.old.draft set.old) at (seen symbol.now) ≡ Ok (reading self.new.walk self.new.draft set.new)) }
+        ensures fault { IfErr result (λ f. f ≢ PolicyFault.NoMemory → read_step env.now (reading self.old.walk self.old.draft set.old) at (seen symbol.now) ≡ Err f) }
+        ensures same { OnErr result (set.new ≡ set.old) }
+    {
+        let binary = match binary_of(alloc, env, symbol)? {
+            Some(binary) => binary,
+            None => return Err(PolicyFault::Expected(at)),
         };
-        filters.push(filter)?;
-        rest = behind;
+        let walk = self.walk.step_binary(set, at, binary.bytes())?;
+        set.begin(alloc, binary)?;
+        self.walk = walk;
+        Ok(())
     }
-    Ok(Some(filters))
+
+    // The end of a filter.
+    fn end_filter(&mut self, alloc: Global, set: &mut PolicySet) -> Result<(), PolicyFault>
+        requires { filters_in set.old < most_filters }
+        ensures set { OnOk result (set.new ≡ add_filter set.old (filter_of self.old.walk.name self.old.draft)) }
+        ensures walk { self.new.walk ≡ self.old.walk }
+        ensures draft { OnOk result (self.new.draft ≡ first_draft) }
+        ensures fault { IfErr result (λ f. f ≡ PolicyFault.NoMemory) }
+        ensures same { OnErr result (set.new ≡ set.old) }
+    {
+        let name = self.walk.filter_name(alloc)?;
+        let draft = replace(&mut self.draft, Draft::new(alloc));
+        set.add_filter(draft.filter(name))?;
+        Ok(())
+    }
+
+    // What may stand there is known: what it adds to the draft and the set.
+    fn take(
+        &mut self,
+        alloc: Global,
+        env: &Env,
+        set: &mut PolicySet,
+        symbol: &Symbol<'a>,
+    ) -> Result<(), PolicyFault>
+        requires other { is_binary_place self.old.walk.place ≡ false }
+        requires room { ends_filter self.old.walk.place ≡ true → filters_in set.old < most_filters }
+        ensures set { OnOk result (set.new ≡ set_after env.now self.old.walk.name self.old.draft (seen symbol.now) self.old.walk.place set.old) }
+        ensures walk { self.new.walk ≡ self.old.walk }
+        ensures draft { OnOk result (self.new.draft ≡ draft_after env.now self.old.walk.label self.old.draft (seen symbol.now) self.old.walk.place) }
+        ensures fault { IfErr result (λ f. f ≡ PolicyFault.NoMemory) }
+        ensures same { OnErr result (set.new ≡ set.old) }
+    {
+        let place = self.walk.place();
+        if place.ends_filter() && symbol.is_line() {
+            self.end_filter(alloc, set)
+        } else {
+            self.draft
+                .take(alloc, env, self.walk.label(), place, symbol)?;
+            Ok(())
+        }
+    }
+
+    // At every other place.
+    fn read_other(
+        &mut self,
+        alloc: Global,
+        env: &Env,
+        set: &mut PolicySet,
+        at: u32,
+        symbol: &Symbol<'a>,
+    ) -> Result<(), PolicyFault>
+        requires other { is_binary_place self.old.walk.place ≡ false }
+        requires room { ends_filter self.old.walk.place ≡ true → filters_in set.old < most_filters }
+        ensures ok { OnOk result (read_step env.now (reading self.old.walk self.old.draft set.old) at (seen symbol.now) ≡ Ok (reading self.new.walk self.new.draft set.new)) }
+        ensures fault { IfErr result (λ f. f ≢ PolicyFault.NoMemory → read_step env.now (reading self.old.walk self.old.draft set.old) at (seen symbol.now) ≡ Err f) }
+        ensures same { OnErr result (set.new ≡ set.old) }
+    {
+        let walk = self.walk.step(env, at, symbol)?;
+        self.take(alloc, env, set, symbol)?;
+        self.walk = walk;
+        Ok(())
+    }
+
+    // Reads one symbol.
+    fn step(
+        &mut self,
+        alloc: Global,
+        env: &Env,
+        set: &mut PolicySet,
+        at: u32,
+        symbol: &Symbol<'a>,
+    ) -> Result<(), PolicyFault>
+        requires { ends_filter self.old.walk.place ≡ true → filters_in set.old < most_filters }
+        ensures ok { OnOk result (read_step env.now (reading self.old.walk self.old.draft set.old) at (seen symbol.now) ≡ Ok (reading self.new.walk self.new.draft set.new)) }
+        ensures fault { IfErr result (λ f. f ≢ PolicyFault.NoMemory → read_step env.now (reading self.old.walk self.old.draft set.old) at (seen symbol.now) ≡ Err f) }
+        ensures same { OnErr result (set.new ≡ set.old) }
+    {
+        if self.walk.place().is_binary() {
+            self.read_binary(alloc, env, set, at, symbol)
+        } else {
+            self.read_other(alloc, env, set, at, symbol)
+        }
+    }
+
+    // The text's end ends a row, or what stands there is no token.
+    fn end(
+        &mut self,
+        alloc: Global,
+        env: &Env,
+        set: &mut PolicySet,
+        text: &[u8],
+        broken: Option<LexFault>,
+    ) -> Result<(), PolicyFault>
+        requires small { length text.now < 2 ^ 32 }
+        requires room { ends_filter self.old.walk.place ≡ true → filters_in set.old < most_filters }
+        ensures ok { OnOk result (read_end env.now text.now broken (reading self.old.walk self.old.draft set.old) ≡ Ok (reading self.new.walk self.new.draft set.new)) }
+        ensures fault { IfErr result (λ f. f ≢ PolicyFault.NoMemory → read_end env.now text.now broken (reading self.old.walk self.old.draft set.old) ≡ Err f) }
+        ensures same { OnErr result (set.new ≡ set.old) }
+    {
+        let at = text.len() as u32;
+        match broken {
+            None => self.step(alloc, env, set, at, &Symbol::Line),
+            Some(fault) => match self.step(alloc, env, set, at, &Symbol::Broken) {
+                Ok(()) => Ok(()),
+                Err(found) => Err(lexical(fault, found)),
+            },
+        }
+    }
 }
 
-// The header's binary and the filters behind it.
-fn policy_rows(alloc: Global, text: &[u8], tokens: &[Token]) -> Result<PolicySet, PolicyFault>
-    ensures ok { IfOk result (λ set. policy_rows text.now (rows tokens.now) ≡ Some set) }
-    ensures not_built { result ≡ Err PolicyFault.NotBuilt → policy_rows text.now (rows tokens.now) ≡ None }
-    ensures few { IfOk result HasFewFilters }
-{
-    let Some((header, rest)) = next_row(tokens) else {
-        return Err(PolicyFault::NotBuilt);
-    };
-    let Some(binary) = header_row(text, header) else {
-        return Err(PolicyFault::NotBuilt);
-    };
-    let Some(filters) = filter_rows(alloc, text, rest)? else {
-        return Err(PolicyFault::NotBuilt);
-    };
-    if filters.len() > FILTER_LIMIT {
-        return Err(PolicyFault::NotBuilt);
-    }
-    let binary = Text::of(alloc, binary)?;
-    let mut set = PolicySet::new(alloc);
-    set.add(BinaryPolicy { binary, filters })?;
-    Ok(set)
-}
-
-/// The policies of a file, as in systrace(1): today one header with a Word as its binary, then filters
-/// `native-CALL: permit`, `native-CALL: deny` and `native-fsread: filename eq "TEXT" then permit`.
-pub fn read_policies(alloc: Global, text: &[u8]) -> Result<PolicySet, PolicyFault>
+// Reads the tokens of a text and what stands behind them; where that fails, the set has what was read of it.
+#[tactic(auto, using(crate::proofs::Rooms::kept, crate::proofs::Rooms::room, crate::proofs::Rooms::sound_first))]
+fn read_tokens(
+    alloc: Global,
+    text: &[u8],
+    env: &Env,
+    set: &mut PolicySet,
+    tokens: &[Token],
+    broken: Option<LexFault>,
+) -> Result<(), PolicyFault>
     requires { length text.now < 2 ^ 32 }
-    ensures ok { IfOk result (λ set. policies_in text.now ≡ Some set) }
-    ensures not_built { result ≡ Err PolicyFault.NotBuilt → policies_in text.now ≡ None }
-    ensures few { IfOk result HasFewFilters }
+    ensures ok { OnOk result (set_of (read_from env.now text.now broken (first_reading set.old) tokens.now) ≡ Ok set.new) }
+    ensures fault { IfErr result (λ f. f ≢ PolicyFault.NoMemory → read_from env.now text.now broken (first_reading set.old) tokens.now ≡ Err f) }
+    ensures kept { OnErr result (take (length set.old) set.new ≡ set.old) }
+    ensures few { OnOk result (filters_in set.old ≤ most_filters) }
 {
-    match plain_tokens(alloc, text)? {
-        Some(tokens) => policy_rows(alloc, text, tokens.as_slice()),
-        None => Err(PolicyFault::NotBuilt),
+    let mut reader = Reader {
+        walk: Walk::new(set.filters()),
+        draft: Draft::new(alloc),
+    };
+    for token in tokens {
+        let symbol = Symbol::of(text, token);
+        reader.step(alloc, env, set, token.at, &symbol)?;
+    }
+    reader.end(alloc, env, set, text, broken)
+}
+
+// Reads a text; where that fails, the set has what was read of it.
+fn read_text(alloc: Global, text: &[u8], env: &Env, set: &mut PolicySet) -> Result<(), PolicyFault>
+    requires { length text.now < 2 ^ 32 }
+    ensures ok { OnOk result (policies_in text.now env.now set.old ≡ Ok set.new) }
+    ensures fault { IfErr result (λ f. f ≢ PolicyFault.NoMemory → policies_in text.now env.now set.old ≡ Err f) }
+    ensures kept { OnErr result (take (length set.old) set.new ≡ set.old) }
+    ensures few { OnOk result (filters_in set.old ≤ most_filters) }
+{
+    let lexed = tokens(alloc, text)?;
+    read_tokens(alloc, text, env, set, lexed.tokens.as_slice(), lexed.fault)
+}
+
+// Reads a text, or gives the set back as it was.
+fn read_or_restore(
+    alloc: Global,
+    text: &[u8],
+    env: &Env,
+    set: &mut PolicySet,
+) -> Result<(), PolicyFault>
+    requires { length text.now < 2 ^ 32 }
+    ensures ok { OnOk result (policies_in text.now env.now set.old ≡ Ok set.new) }
+    ensures fault { IfErr result (λ f. f ≢ PolicyFault.NoMemory → policies_in text.now env.now set.old ≡ Err f) }
+    ensures same { OnErr result (set.new ≡ set.old) }
+    ensures few { OnOk result (filters_in set.old ≤ most_filters) }
+{
+    let len = set.len();
+    match read_text(alloc, text, env, set) {
+        Ok(()) => Ok(()),
+        Err(fault) => {
+            set.truncate(len);
+            Err(fault)
+        }
     }
 }
+
+/// Reads the policies of a text, as in systrace(1), behind those that the set has: exactly where the grammar has a reading of the
+/// text, and then that one. Else the fault is the leftmost, at its token, and the set is as it was.
+#[tactic(auto, using(crate::proofs::Results::fault_found))]
+pub fn read_policies(
+    alloc: Global,
+    text: &[u8],
+    env: &Env,
+    set: &mut PolicySet,
+) -> Result<(), PolicyFault>
+    requires { length text.now < 2 ^ 32 }
+    ensures ok { OnOk result (Reads text.now env.now set.old set.new) }
+    ensures fault { IfErr result (λ f. f ≢ PolicyFault.NoMemory → fault_in text.now env.now set.old ≡ Some f) }
+    ensures same { OnErr result (set.new ≡ set.old) }
+{
+    read_or_restore(alloc, text, env, set)?;
+    Ok(())
+}
+
+/// A text has one reading at most, and one exactly where it has no fault. Where it has a fault, no text is read that is the same up
+/// to the token that doesn't fit, whatever follows there.
+pub fn reading_is_one()
+    ensures one { (text : List ℕ) (env : Env) (old a b : List BinaryPolicy) → Reads text env old a → Reads text env old b → a ≡ b }
+    ensures faultless { (text : List ℕ) (env : Env) (old : List BinaryPolicy) → filters_in old ≤ most_filters →
+        (fault_in text env old ≡ None) ↔ ((set : List BinaryPolicy) × Reads text env old set) }
+    ensures leftmost { (text : List ℕ) (env : Env) (old : List BinaryPolicy) (fault : PolicyFault) → fault_in text env old ≡ Some fault →
+        HasNoWayOn text env old }
+{}

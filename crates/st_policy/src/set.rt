@@ -1,6 +1,8 @@
-ghost use Rattle.std.specs.Prelude.{◌≡◌, [], ◌∷◌, ◌++◌, OnOk, OnErr};
+ghost use Rattle.std.specs.Prelude.{◌≡◌, [], ◌∷◌, ◌++◌, ◌<◌, ◌≤◌, false, length, take, option_map, OnOk, OnErr, slice_get};
+ghost use Rattle.st_policy.specs.Grammar.{has_policy};
 
-use crate::filter::Policy;
+use crate::filter::{Filter, Policy};
+use indexmap::IndexMap;
 use st_base::Text;
 use std::alloc::{AllocError, Global};
 use std::marker::Model;
@@ -15,59 +17,136 @@ pub struct BinaryPolicy {
 /// The policies that were read, in order.
 #[derive(Debug, Drop)]
 pub struct PolicySet {
-    policies: Vec<BinaryPolicy>,
+    // By their binaries, in the order of first sight.
+    policies: IndexMap<Vec<u8>, Policy>,
+    // How many filters all of them have.
+    filters: usize,
     empty: Policy,
 }
 
 impl Model for PolicySet {
-    ghost use Rattle.std.specs.Prelude.{◌≡◌, List, []};
+    ghost use Rattle.std.specs.Prelude.{◌≡◌, ◌≤◌, List, []};
+    ghost use Rattle.st_policy.specs.Kept.{shown};
+    ghost use Rattle.std.specs.Coded.{codes};
     ghost use Rattle.st_policy.specs.declared.set.BinaryPolicy.{BinaryPolicy};
+    ghost use Rattle.st_policy.specs.FormulaCode.{formula_code};
+    ghost use Rattle.st_policy.specs.Grammar.{filters_in, most_filters};
 
     ghost Value = { List BinaryPolicy };
 
-    ghost view = { λ s. s.policies.items };
+    ghost coded = { Prim.hlevel (codes, formula_code) };
 
-    ghost invariant = { λ s. s.empty ≡ [] };
+    ghost view = { λ s. shown s.policies.entries };
+
+    ghost invariant = { λ s. (s.empty ≡ []) × (s.filters ≡ filters_in (shown s.policies.entries)) × (s.filters ≤ most_filters) };
 }
 
 impl PolicySet {
     ghost use Rattle.st_policy.specs.Policies.{policy_of};
+    ghost use Rattle.st_policy.specs.Grammar.{filters_in, most_filters};
+    ghost use Rattle.st_policy.specs.Draft.{add_filter};
 
     /// No policies, which takes no memory.
     pub fn new(alloc: Global) -> Self
         ensures { result ≡ [] }
     {
         PolicySet {
-            policies: Vec::new(alloc),
+            policies: IndexMap::new(alloc),
+            filters: 0,
             empty: Policy::new(alloc),
         }
     }
 
-    /// Adds a policy at the end; without memory it is dropped.
-    pub fn add(&mut self, policy: BinaryPolicy) -> Result<(), AllocError>
-        ensures ok { OnOk result (self.new ≡ self.old ++ policy ∷ []) }
+    /// How many policies there are.
+    pub fn len(&self) -> usize
+        ensures { result ≡ length self.now }
+    {
+        self.policies.len()
+    }
+
+    /// How many filters all policies have: at most 4,096.
+    pub fn filters(&self) -> usize
+        ensures is { result ≡ filters_in self.now }
+        ensures few { result ≤ most_filters }
+    {
+        self.filters
+    }
+
+    /// The binary of the policy at this place.
+    pub fn binary(&self, i: usize) -> &[u8]
+        requires { i < length self.now }
+        ensures { option_map (λ p. p.binary) (slice_get self.now i) ≡ Some result.now }
+    {
+        match self.policies.get_index(i) {
+            Some((binary, _)) => binary.as_slice(),
+            None => unreachable!(),
+        }
+    }
+
+    /// The filters of the policy at this place.
+    pub fn policy(&self, i: usize) -> &Policy
+        requires { i < length self.now }
+        ensures { option_map (λ p. p.filters) (slice_get self.now i) ≡ Some result.now }
+    {
+        match self.policies.get_index(i) {
+            Some((_, filters)) => filters,
+            None => unreachable!(),
+        }
+    }
+
+    /// Whether a binary has a policy.
+    pub fn has(&self, binary: &[u8]) -> bool
+        ensures { result ≡ has_policy self.now binary.now }
+    {
+        self.policies.contains_key(binary)
+    }
+
+    /// The filters of a binary: those of its policy, and none where it has none.
+    pub fn get(&self, binary: &[u8]) -> &Policy
+        ensures is { result.now ≡ policy_of self.now binary.now }
+        ensures few { length result.now ≤ most_filters }
+    {
+        match self.policies.get(binary) {
+            Some(filters) => filters,
+            None => &self.empty,
+        }
+    }
+
+    /// Begins the policy of a binary that has none, without filters.
+    pub(crate) fn begin(&mut self, alloc: Global, binary: Text) -> Result<(), AllocError>
+        requires { has_policy self.old binary ≡ false }
+        ensures ok { OnOk result (self.new ≡ self.old ++ record { binary = binary; filters = [] } ∷ []) }
         ensures err { OnErr result (self.new ≡ self.old) }
     {
-        self.policies.push(policy)?;
+        self.policies
+            .insert(binary.into_bytes(), Policy::new(alloc))?;
         Ok(())
     }
 
-    /// The policies, in order.
-    pub fn as_slice(&self) -> &[BinaryPolicy]
-        ensures { result.now ≡ self.now }
+    /// Adds a filter to the last policy.
+    pub(crate) fn add_filter(&mut self, filter: Filter) -> Result<(), AllocError>
+        requires { filters_in self.old < most_filters }
+        ensures ok { OnOk result (self.new ≡ add_filter self.old filter) }
+        ensures err { OnErr result (self.new ≡ self.old) }
     {
-        self.policies.as_slice()
+        let len = self.policies.len();
+        if len > 0 {
+            let filters = &mut self.policies[len - 1];
+            filters.push(filter)?;
+            self.filters += 1;
+        }
+        Ok(())
     }
 
-    /// The filters of a binary: those of its first policy, and none where it has no policy.
-    pub fn get(&self, binary: &[u8]) -> &Policy
-        ensures { result.now ≡ policy_of self.now binary.now }
+    /// Keeps so many policies at the front.
+    #[tactic(auto, using(crate::proofs::Entries::counted_before, crate::proofs::Entries::front_before))]
+    pub(crate) fn truncate(&mut self, len: usize)
+        ensures { self.new ≡ take len self.old }
     {
-        for policy in &self.policies {
-            if policy.binary.bytes() == binary {
-                return &policy.filters;
+        while self.policies.len() > len {
+            if let Some((_, filters)) = self.policies.pop() {
+                self.filters -= filters.len();
             }
         }
-        &self.empty
     }
 }

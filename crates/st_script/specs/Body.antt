@@ -31,13 +31,14 @@ registers text numbers =
     (register_at text numbers 2)) (register_at text numbers 1)) (register_at text numbers 0)
     else None
 
--- only what opens for reading is made
+-- the calls that the machine makes today, and only opens for reading
 abbrev pub is_made : SysCall → List ℕ → Bool
 is_made Open regs = slice_index regs 1 == 0
 is_made GetPid regs = true
 is_made GetUid regs = true
 is_made GetEuid regs = true
 is_made Exit regs = true
+is_made _ regs = false
 
 abbrev pub call_with : SysCall → List ℕ → Option Instr
 call_with call regs = if is_made call regs then Some (Call call regs) else None

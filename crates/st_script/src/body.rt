@@ -42,13 +42,14 @@ fn registers(text: &[u8], numbers: &[Token]) -> Option<[u64; 6]>
     Some([a, b, c, d, e, f])
 }
 
-// Only what opens for reading is made.
+// The calls that the machine makes today, and only opens for reading.
 fn is_made(call: SysCall, regs: &[u64; 6]) -> bool
     ensures { result ≡ is_made call regs.now }
 {
     match call {
         SysCall::Open => regs[1] == 0,
-        _ => true,
+        SysCall::GetPid | SysCall::GetUid | SysCall::GetEuid | SysCall::Exit => true,
+        _ => false,
     }
 }
 

@@ -1,9 +1,14 @@
 -- Words over files that are told mean one thing.
-use Rattle.std.proofs.Common.{◌≡◌, ℕ, ◌≤◌, ◌<◌, inl, inr, true, false, List, length, Option, Some, None, sym, ap, ◌∙◌, subst, arith}
+use Rattle.std.proofs.Common.{◌≡◌, ℕ, ◌≤◌, ◌<◌, ◌⊎◌, inl, inr, Bool, true, false, List, [], length, Option, Some, None, sym, ap, ◌∙◌, subst, arith}
 use Rattle.st_outside.specs.Files.{Held, Untold, Absent, Holds}
 use Rattle.st_outside.specs.declared.files.TheConstants.{FILE_LIMIT}
 use Rattle.st_policy.specs.declared.set.BinaryPolicy.{BinaryPolicy}
-use Rattle.st_policy.specs.Form.{policies_in}
+use Rattle.st_policy.specs.declared.env.Env.{Env}
+use Rattle.st_policy.specs.declared.fault.PolicyFault.{PolicyFault}
+use Rattle.st_policy.specs.Canon.{canon}
+use Rattle.st_policy.specs.Diagram.{fault_in}
+use Rattle.st_policy.specs.Form.{is_in_form}
+use Rattle.st_policy.proofs.Complete.{reads-once, reads-faultless}
 use Rattle.st_trace.specs.declared.start.Start.{Start}
 use Rattle.st_script.specs.Script.{script_in}
 use Rattle.st_script.specs.Schedule.{schedule_in}
@@ -11,8 +16,10 @@ use Rattle.st_law.specs.declared.input.Input.{Input}
 use Rattle.st_law.specs.declared.input.Schedule.{Schedule}
 use Rattle.st_top.specs.declared.status.Which.{Which}
 use Rattle.st_top.specs.declared.status.Which.TheVariants as which
-use Rattle.st_top.specs.Command.{Command, command_in}
-use Rattle.st_top.specs.Meaning.{Outcome, Stops, is_stop, Reads, Fetches, MeansSchedule, MeansInput, MeansPolicies, MeansStart, MeansCommand, Means, input_of}
+use Rattle.st_top.specs.declared.status.Status.TheVariants.{Policy}
+use Rattle.st_top.specs.Command.{Command, Steps, Checks, Step, Check, command_in}
+use Rattle.st_top.specs.Envs.{check_env, script_env}
+use Rattle.st_top.specs.Meaning.{Outcome, Stops, Refuses, Prints, is_stop, Reads, Fetches, MeansSchedule, MeansInput, MeansPolicy, MeansForm, MeansRun, MeansStart, MeansCheck, MeansCommand, Means, input_of}
 use Rattle.st_top.specs.Ends.{IsTold}
 
 -- a relation that holds of one outcome at the most, beside stops
@@ -50,24 +57,51 @@ schedule_one : (i : Input) (o : Option Schedule) → IsOne (MeansSchedule i o)
 schedule_one i None a b u v p q = p ∙ sym q
 schedule_one i (Some schedule) a b u v p q = p ∙ sym q
 
-module _ (held : List ℕ → Held) (told : (name : List ℕ) → IsTold (held name)) (command : Command) where
-  input_one : (i : Input) → IsOne (MeansInput command held i)
-  input_one i = fetches_one (held command.schedule) which.Schedule (λ text. MeansSchedule i (schedule_in text)) (told command.schedule) (λ text. schedule_one i (schedule_in text))
+same_fault : (f g : PolicyFault) → Some f ≡ Some g → Refuses (Policy 1 f) ≡ Refuses (Policy 1 g)
+same_fault f g e = ap (λ (h : PolicyFault). Refuses (Policy 1 h)) (ap (fault_or f) e)
+  where
+    fault_or : PolicyFault → Option PolicyFault → PolicyFault
+    fault_or d None = d
+    fault_or d (Some h) = h
 
-  policies_one : (start : Start) (o : Option (List BinaryPolicy)) → IsOne (MeansPolicies command held start o)
-  policies_one start None a b u v p q = p ∙ sym q
-  policies_one start (Some policies) a b u v p q = input_one (input_of policies start) a b u v p q
+-- a text has one reading or one first fault
+policy_one : (text : List ℕ) (env : Env) (R : List BinaryPolicy → Outcome → Type 0) → ((policies : List BinaryPolicy) → IsOne (R policies)) → IsOne (λ o. MeansPolicy text env (λ policies. R policies o) o)
+policy_one text env R one a b u v (inl p) (inl q) =
+    one q.0 a b u v (subst (λ ps. R ps a) (reads-once text env [] p.0 q.0 p.1 q.1) p.2) q.2
+policy_one text env R one a b u v (inl p) (inr q) = let e : None ≡ Some q.0 = sym (reads-faultless text env [] p.0 p.1) ∙ q.1 in absurd (cc)
+policy_one text env R one a b u v (inr p) (inl q) = let e : None ≡ Some p.0 = sym (reads-faultless text env [] q.0 q.1) ∙ p.1 in absurd (cc)
+policy_one text env R one a b u v (inr p) (inr q) = p.2 ∙ same_fault p.0 q.0 (sym p.1 ∙ q.1) ∙ sym q.2
 
-  start_one : (o : Option Start) → IsOne (MeansStart command held o)
+module _ (held : List ℕ → Held) (told : (name : List ℕ) → IsTold (held name)) (step : Step) where
+  input_one : (i : Input) → IsOne (MeansInput step held i)
+  input_one i = fetches_one (held step.schedule) which.Schedule (λ text. MeansSchedule i (schedule_in text)) (told step.schedule) (λ text. schedule_one i (schedule_in text))
+
+  form_one : (start : Start) (policies : List BinaryPolicy) (b : Bool) → IsOne (MeansForm step held start policies b)
+  form_one start policies false a b u v p q = p ∙ sym q
+  form_one start policies true a b u v p q = input_one (input_of policies start) a b u v p q
+
+  run_one : (start : Start) (text : List ℕ) → IsOne (MeansRun step held start text)
+  run_one start text = policy_one text (script_env start) (λ policies. MeansForm step held start policies (is_in_form text)) (λ policies. form_one start policies (is_in_form text))
+
+  start_one : (o : Option Start) → IsOne (MeansStart step held o)
   start_one None a b u v p q = p ∙ sym q
-  start_one (Some start) a b u v p q = fetches_one (held command.policy) (which.Policy 1) (λ text. MeansPolicies command held start (policies_in text)) (told command.policy) (λ text. policies_one start (policies_in text)) a b u v p q
+  start_one (Some start) a b u v p q = fetches_one (held step.policy) (which.Policy 1) (λ text. MeansRun step held start text) (told step.policy) (λ text. run_one start text) a b u v p q
 
-  command_some : IsOne (MeansCommand held (Some command))
-  command_some = fetches_one (held command.script) which.Script (λ text. MeansStart command held (script_in text)) (told command.script) (λ text. start_one (script_in text))
+  step_one : IsOne (MeansCommand held (Some (Steps step)))
+  step_one = fetches_one (held step.script) which.Script (λ text. MeansStart step held (script_in text)) (told step.script) (λ text. start_one (script_in text))
+
+printed_one : (policies : List BinaryPolicy) → IsOne (λ o. o ≡ Prints (canon policies))
+printed_one policies a b u v p q = p ∙ sym q
+
+check_one : (held : List ℕ → Held) → ((name : List ℕ) → IsTold (held name)) → (check : Check) → IsOne (MeansCheck held check)
+check_one held told check =
+    fetches_one (held check.policy) (which.Policy 1) (λ text o. MeansPolicy text (check_env check.elevate) (λ policies. o ≡ Prints (canon policies)) o) (told check.policy)
+    (λ text. policy_one text (check_env check.elevate) (λ policies o. o ≡ Prints (canon policies)) printed_one)
 
 command_one : (held : List ℕ → Held) → ((name : List ℕ) → IsTold (held name)) → (o : Option Command) → IsOne (MeansCommand held o)
 command_one held told None a b u v p q = p ∙ sym q
-command_one held told (Some command) a b u v p q = command_some held told command a b u v p q
+command_one held told (Some (Steps step)) a b u v p q = step_one held told step a b u v p q
+command_one held told (Some (Checks check)) a b u v p q = check_one held told check a b u v p q
 
 pub one_meaning : (words : List (List ℕ)) (held : List ℕ → Held) (a b : Outcome) → ((name : List ℕ) → IsTold (held name)) → is_stop a ≡ false → is_stop b ≡ false → Means words held a → Means words held b → a ≡ b
 one_meaning words held a b told u v p q = command_one held told (command_in words) a b u v p q

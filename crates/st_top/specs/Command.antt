@@ -1,24 +1,76 @@
 -- The words of the command line.
-use Rattle.std.specs.Prelude.{ℕ, Bool, ◌&&◌, ◌||◌, if◌then◌else◌, nat_eq, List, [], ◌∷◌, codes, Option, Some, None}
-use Rattle.std.specs.List.{starts_with}
+use Rattle.std.specs.Prelude.{ℕ, ◌-◌, ◌^◌, Bool, true, false, ◌&&◌, ◌||◌, ◌==◌, not, if◌then◌else◌, nat_eq, List, [], ◌∷◌, codes, take, drop, Option, Some, None}
+use Rattle.std.specs.List.{starts_with, prefix_len}
 use Rattle.std.specs.Str.{bytes_eq}
-
--- the files that a command names
-pub record Command : Type 0 where
-  pub policy : List ℕ
-  pub script : List ℕ
-  pub schedule : List ℕ
+use Rattle.std.specs.Option.{is_some}
+use Rattle.st_base.specs.Number.{numeral_up_to}
 
 abbrev pub is_option : List ℕ → Bool
 is_option word = starts_with nat_eq word (codes "-")
 
-abbrev pub if_operands : List ℕ → List ℕ → Command → Option Command
-if_operands script schedule command = if is_option script || is_option schedule then None else Some command
+-- ---- step
+
+-- the files that `step` names
+pub record Step : Type 0 where
+  pub policy : List ℕ
+  pub script : List ℕ
+  pub schedule : List ℕ
+
+abbrev pub if_operands : List ℕ → List ℕ → Step → Option Step
+if_operands script schedule step = if is_option script || is_option schedule then None else Some step
 
 -- step -f POLICY SCRIPT SCHEDULE, where neither SCRIPT nor SCHEDULE begins with -
-abbrev pub command_in : List (List ℕ) → Option Command
-command_in (step ∷ flag ∷ policy ∷ script ∷ schedule ∷ []) =
+abbrev pub step_in : List (List ℕ) → Option Step
+step_in (step ∷ flag ∷ policy ∷ script ∷ schedule ∷ []) =
     if bytes_eq step (codes "step") && bytes_eq flag (codes "-f") then
     if_operands script schedule (record { policy = policy; script = script; schedule = schedule })
     else None
-command_in _ = None
+step_in _ = None
+
+-- ---- check
+
+-- what `check` is asked to do: the file, and whether its filters may grant ids
+pub record Check : Type 0 where
+  pub policy : List ℕ
+  pub elevate : Bool
+
+-- decimal digits without a zero in front, below 2^32
+abbrev pub is_id : List ℕ → Bool
+is_id digits =
+    (bytes_eq digits (codes "0") || not (starts_with nat_eq digits (codes "0"))) && is_some (numeral_up_to (2 ^ 32 - 1) 10 digits)
+
+abbrev pub is_no_colon : ℕ → Bool
+is_no_colon b = not (b == 58)
+
+-- a colon and an id
+abbrev pub is_group : List ℕ → Bool
+is_group [] = false
+is_group (colon ∷ group) = is_id group
+
+-- U:G, two ids
+abbrev pub are_ids : List ℕ → Bool
+are_ids word = is_id (take (prefix_len is_no_colon word) word) && is_group (drop (prefix_len is_no_colon word) word)
+
+abbrev pub if_operand : Bool → List ℕ → Bool → Option Check
+if_operand fits policy elevate = if fits && not (is_option policy) then Some (record { policy = policy; elevate = elevate }) else None
+
+-- check POLICY, and check -c U:G POLICY, where POLICY doesn't begin with -
+abbrev pub check_in : List (List ℕ) → Option Check
+check_in (check ∷ policy ∷ []) = if_operand (bytes_eq check (codes "check")) policy false
+check_in (check ∷ flag ∷ ids ∷ policy ∷ []) =
+    if_operand (bytes_eq check (codes "check") && (bytes_eq flag (codes "-c") && are_ids ids)) policy true
+check_in _ = None
+
+-- ---- commands
+
+pub data Command : Type 0 where
+  Steps : Step → Command
+  Checks : Check → Command
+
+abbrev pub one_of : Option Step → Option Check → Option Command
+one_of (Some step) check = Some (Steps step)
+one_of None (Some check) = Some (Checks check)
+one_of None None = None
+
+abbrev pub command_in : List (List ℕ) → Option Command
+command_in words = one_of (step_in words) (check_in words)

@@ -1,5 +1,5 @@
 -- How a call of the program ends, against what its words and files mean.
-use Rattle.std.specs.Prelude.{◌≡◌, ℕ, List, Option, Result}
+use Rattle.std.specs.Prelude.{◌≡◌, ◌⊎◌, ℕ, List, Option, Result}
 use Rattle.std.specs.Prelude.{Ok, Err}
 use Rattle.st_outside.specs.Count.{Rises}
 use Rattle.st_outside.specs.Files.{Held, Untold, Absent, Holds, CanLack, CanExceed}
@@ -9,16 +9,20 @@ use Rattle.st_law.specs.declared.input.Input.{Input}
 use Rattle.st_law.specs.Lawful.{Lawful}
 use Rattle.st_law.specs.Machine.{run}
 use Rattle.st_top.specs.declared.status.Status.{Status}
-use Rattle.st_top.specs.declared.status.Status.TheVariants.{Done, Missing, Usage, ReadFault, WriteFault, NoMemory, TooLong, NotBuilt}
+use Rattle.st_top.specs.declared.status.Status.TheVariants.{Done, Missing, Usage, Policy, ReadFault, WriteFault, NoMemory, TooLong, NotBuilt}
 use Rattle.st_top.specs.declared.status.Which.{Which}
-use Rattle.st_top.specs.Meaning.{Outcome, Stops, Refuses, Writes}
+use Rattle.st_top.specs.Meaning.{Outcome, Stops, Refuses, Writes, Prints}
 
 -- a text is what is meant to be written of some run, and the run is lawful
-pub record IsMeant (Meant : Outcome → Type 0) (text : List ℕ) : Type 0 where
+pub record IsMeantRun (Meant : Outcome → Type 0) (text : List ℕ) : Type 0 where
   pub input : Input
   pub choices : List Choice
   pub meant : Meant (Writes input choices text)
   pub lawful : Lawful input (run input choices)
+
+-- a text is what is meant to be written: that of a lawful run, or one of no run
+abbrev pub IsMeant : (Outcome → Type 0) → List ℕ → Type 0
+IsMeant Meant text = IsMeantRun Meant text ⊎ Meant (Prints text)
 
 -- some file is come to, with all before it as it has to be
 abbrev pub IsStopped : (Outcome → Type 0) → Type 0
@@ -31,6 +35,7 @@ Refused Meant old new Usage = Meant (Refuses Usage)
 Refused Meant old new (Missing which) = Meant (Refuses (Missing which))
 Refused Meant old new (TooLong which) = Meant (Refuses (TooLong which))
 Refused Meant old new (NotBuilt which) = Meant (Refuses (NotBuilt which))
+Refused Meant old new (Policy file fault) = Meant (Refuses (Policy file fault))
 Refused Meant old new ReadFault = Rises old new × IsStopped Meant
 Refused Meant old new NoMemory = Unit {0}
 Refused Meant old new Done = ⊥
@@ -43,6 +48,7 @@ FetchRefused held which old new (TooLong other) = (other ≡ which) × CanExceed
 FetchRefused held which old new ReadFault = Rises old new
 FetchRefused held which old new NoMemory = Unit {0}
 FetchRefused held which old new (NotBuilt other) = ⊥
+FetchRefused held which old new (Policy file fault) = ⊥
 FetchRefused held which old new Usage = ⊥
 FetchRefused held which old new Done = ⊥
 FetchRefused held which old new WriteFault = ⊥
@@ -70,3 +76,4 @@ abbrev pub Ends : Outcome → Option (List ℕ) → Option (List ℕ) → Status
 Ends (Stops which) old new status = Unit {0}
 Ends (Refuses refusal) old new status = status ≡ refusal
 Ends (Writes input choices text) old new status = (status ≡ Done) × Appends old new text
+Ends (Prints text) old new status = (status ≡ Done) × Appends old new text

@@ -1,11 +1,16 @@
 -- What words and files mean: a refusal, or a run and the text that is written of it. Each case stands where those before it don't.
-use Rattle.std.specs.Prelude.{◌≡◌, ℕ, ◌≤◌, ◌⊎◌, Bool, true, false, List, length, Option, Some, None}
+use Rattle.std.specs.Prelude.{◌≡◌, ℕ, ◌≤◌, ◌⊎◌, Bool, true, false, List, [], length, Option, Some, None}
 use Rattle.st_outside.specs.Files.{Held, CanHold, CanLack, CanExceed}
 use Rattle.st_outside.specs.declared.files.TheConstants.{FILE_LIMIT}
 use Rattle.st_trace.specs.declared.entry.Choice.{Choice}
 use Rattle.st_trace.specs.declared.start.Start.{Start}
 use Rattle.st_policy.specs.declared.set.BinaryPolicy.{BinaryPolicy}
-use Rattle.st_policy.specs.Form.{policies_in}
+use Rattle.st_policy.specs.declared.env.Env.{Env}
+use Rattle.st_policy.specs.declared.fault.PolicyFault.{PolicyFault}
+use Rattle.st_policy.specs.Canon.{canon}
+use Rattle.st_policy.specs.Diagram.{fault_in}
+use Rattle.st_policy.specs.Form.{is_in_form}
+use Rattle.st_policy.specs.Grammar as policy
 use Rattle.st_script.specs.Script.{script_in}
 use Rattle.st_script.specs.Schedule.{schedule_in}
 use Rattle.st_law.specs.declared.input.Input.{Input}
@@ -15,23 +20,26 @@ use Rattle.st_law.specs.declared.input.Schedule.{Schedule}
 use Rattle.st_law.specs.Machine.{run, played}
 use Rattle.st_audit.specs.Audit.{audit}
 use Rattle.st_top.specs.declared.status.Status.{Status}
-use Rattle.st_top.specs.declared.status.Status.TheVariants.{Missing, Usage, TooLong, NotBuilt}
+use Rattle.st_top.specs.declared.status.Status.TheVariants.{Missing, Usage, Policy, TooLong, NotBuilt}
 use Rattle.st_top.specs.declared.status.Which.{Which}
 use Rattle.st_top.specs.declared.status.Which.TheVariants as which
-use Rattle.st_top.specs.Command.{Command, command_in}
+use Rattle.st_top.specs.Command.{Command, Steps, Checks, Step, Check, command_in}
+use Rattle.st_top.specs.Envs.{check_env, script_env}
 
--- what a call of the program comes to: it refuses, it writes a text, that of a run by these choices, or it stops at a file
--- that can't be read
+-- what a call of the program comes to: it refuses, it writes the text of a run by these choices, it writes a text of no run, or
+-- it stops at a file that can't be read
 pub data Outcome : Type 0 where
   Stops : Which → Outcome
   Refuses : Status → Outcome
   Writes : Input → List Choice → List ℕ → Outcome
+  Prints : List ℕ → Outcome
 
 -- whether an outcome is a stop, which any file that is come to can cause
 abbrev pub is_stop : Outcome → Bool
 is_stop (Stops which) = true
 is_stop (Refuses status) = false
 is_stop (Writes input choices text) = false
+is_stop (Prints text) = false
 
 -- a name that holds no file is missing, and one whose file is too long is refused; else the file is read
 abbrev pub Reads : Held → Which → (List ℕ → Type 0) → Outcome → Type 0
@@ -59,23 +67,41 @@ abbrev pub MeansSchedule : Input → Option Schedule → Outcome → Type 0
 MeansSchedule i None outcome = outcome ≡ Refuses (NotBuilt which.Schedule)
 MeansSchedule i (Some schedule) outcome = outcome ≡ writes i (played i schedule)
 
-abbrev pub MeansInput : Command → (List ℕ → Held) → Input → Outcome → Type 0
-MeansInput command held i outcome =
-    Fetches (held command.schedule) which.Schedule (λ text. MeansSchedule i (schedule_in text) outcome) outcome
+abbrev pub MeansInput : Step → (List ℕ → Held) → Input → Outcome → Type 0
+MeansInput step held i outcome =
+    Fetches (held step.schedule) which.Schedule (λ text. MeansSchedule i (schedule_in text) outcome) outcome
 
-abbrev pub MeansPolicies : Command → (List ℕ → Held) → Start → Option (List BinaryPolicy) → Outcome → Type 0
-MeansPolicies command held start None outcome = outcome ≡ Refuses (NotBuilt (which.Policy 1))
-MeansPolicies command held start (Some policies) outcome = MeansInput command held (input_of policies start) outcome
+-- a policy text has one reading, or a first fault
+abbrev pub MeansPolicy : List ℕ → Env → (List BinaryPolicy → Type 0) → Outcome → Type 0
+MeansPolicy text env Read outcome =
+    ((policies : List BinaryPolicy) × policy.Reads text env [] policies × Read policies) ⊎
+    ((fault : PolicyFault) × (fault_in text env [] ≡ Some fault) × (outcome ≡ Refuses (Policy 1 fault)))
 
-abbrev pub MeansStart : Command → (List ℕ → Held) → Option Start → Outcome → Type 0
-MeansStart command held None outcome = outcome ≡ Refuses (NotBuilt which.Script)
-MeansStart command held (Some start) outcome =
-    Fetches (held command.policy) (which.Policy 1) (λ text. MeansPolicies command held start (policies_in text) outcome) outcome
+-- a policy that is read and isn't in the form that is run is not built
+abbrev pub MeansForm : Step → (List ℕ → Held) → Start → List BinaryPolicy → Bool → Outcome → Type 0
+MeansForm step held start policies false outcome = outcome ≡ Refuses (NotBuilt (which.Policy 1))
+MeansForm step held start policies true outcome = MeansInput step held (input_of policies start) outcome
+
+abbrev pub MeansRun : Step → (List ℕ → Held) → Start → List ℕ → Outcome → Type 0
+MeansRun step held start text outcome =
+    MeansPolicy text (script_env start) (λ policies. MeansForm step held start policies (is_in_form text) outcome) outcome
+
+abbrev pub MeansStart : Step → (List ℕ → Held) → Option Start → Outcome → Type 0
+MeansStart step held None outcome = outcome ≡ Refuses (NotBuilt which.Script)
+MeansStart step held (Some start) outcome =
+    Fetches (held step.policy) (which.Policy 1) (λ text. MeansRun step held start text outcome) outcome
+
+-- `check` writes the canonical text of the policies
+abbrev pub MeansCheck : (List ℕ → Held) → Check → Outcome → Type 0
+MeansCheck held check outcome =
+    Fetches (held check.policy) (which.Policy 1)
+    (λ text. MeansPolicy text (check_env check.elevate) (λ policies. outcome ≡ Prints (canon policies)) outcome) outcome
 
 abbrev pub MeansCommand : (List ℕ → Held) → Option Command → Outcome → Type 0
 MeansCommand held None outcome = outcome ≡ Refuses Usage
-MeansCommand held (Some command) outcome =
-    Fetches (held command.script) which.Script (λ text. MeansStart command held (script_in text) outcome) outcome
+MeansCommand held (Some (Steps step)) outcome =
+    Fetches (held step.script) which.Script (λ text. MeansStart step held (script_in text) outcome) outcome
+MeansCommand held (Some (Checks check)) outcome = MeansCheck held check outcome
 
 -- what words mean over files of which this much is told
 abbrev pub Means : List (List ℕ) → (List ℕ → Held) → Outcome → Type 0

@@ -2,10 +2,12 @@
 #![tactic(auto)]
 
 pub mod command;
+pub mod envs;
 pub mod law;
 pub mod plain;
 pub mod status;
 
+pub use envs::{check_env, script_env};
 pub use plain::systrace_plain;
 pub use status::{Status, Which};
 

@@ -1,25 +1,28 @@
-ghost use Rattle.std.specs.Prelude.{◌≡◌, ◌≢◌, ◌≤◌, ◌⊎◌, ◌↔◌, List, ℕ, length, Some, None, IfOk, IfErr, OnOk, OnErr};
+ghost use Rattle.std.specs.Prelude.{◌≡◌, ◌≢◌, ◌≤◌, ◌<◌, ◌^◌, ◌⊎◌, ◌↔◌, List, ℕ, length, Some, None, IfOk, IfErr, OnOk, OnErr};
 ghost use Rattle.st_outside.specs.Count.{Rises};
 ghost use Rattle.st_outside.specs.Files.{CanHold};
 ghost use Rattle.st_outside.specs.declared.files.TheConstants.{FILE_LIMIT};
-ghost use Rattle.st_policy.specs.Policies.{HasFewFilters};
 ghost use Rattle.st_kernel.specs.Runs.{IsOneThread};
 ghost use Rattle.st_script.specs.Script.{StartsOneThread};
 ghost use Rattle.st_law.specs.Machine.{run, played};
 ghost use Rattle.st_audit.specs.Audit.{audit};
 ghost use Rattle.st_top.specs.declared.status.Which.{Which};
-ghost use Rattle.st_top.specs.Command.{command_in};
+ghost use Rattle.st_top.specs.Command.{command_in, Steps, Checks};
+ghost use Rattle.st_top.specs.Envs.{check_env, script_env};
 ghost use Rattle.st_top.specs.Meaning.{Outcome, Refuses, Means, MeansCommand, MeansStart, MeansInput};
+ghost use Rattle.st_top.specs.Readings.{PolicyRead, FormRead, CanonRead};
+ghost use Rattle.st_policy.specs.declared.fault.PolicyFault.{PolicyFault};
 ghost use Rattle.st_top.specs.Ends.{FetchRefused, IsStopped, Prepares, WritesWhole, WritesFront, IsTold, Ends};
 
-use crate::command::{Command, command_of};
+use crate::command::{Check, Step, check_of, step_of};
+use crate::envs::{check_env, script_env};
 use crate::status::{Status, Which};
 use st_audit::audit_text;
 use st_base::Text;
 use st_kernel::Kernel;
 use st_law::{Input, Mode, Options, Schedule};
 use st_outside::{FetchFault, Files, Sink, write_all};
-use st_policy::{PolicyFault, read_policies};
+use st_policy::{Env, PolicyFault, PolicySet, is_in_form, print_policies, read_policies};
 use st_script::{ScriptFault, read_schedule, read_script};
 use st_trace::Start;
 use std::alloc::{AllocError, Global};
@@ -44,7 +47,6 @@ fn fetch<F: Files>(alloc: Global, files: &mut F, name: &Text, which: Which) -> R
 // The audit of the run that a schedule makes.
 fn audit_of(alloc: Global, input: &Input, schedule: Schedule) -> Result<Text, AllocError>
     requires one { IsOneThread input.now }
-    requires few { HasFewFilters input.now.policies }
     ensures { IfOk result (λ text. text ≡ audit input.now (run input.now (played input.now schedule))) }
 {
     let Schedule::Rest = schedule;
@@ -56,44 +58,65 @@ fn audit_of(alloc: Global, input: &Input, schedule: Schedule) -> Result<Text, Al
 // From the schedule file on.
 fn run_input<F: Files>(
     alloc: Global,
-    command: &Command<'_>,
+    step: &Step<'_>,
     files: &mut F,
     input: &Input,
 ) -> Result<Text, Status>
     requires one { IsOneThread input.now }
-    requires few { HasFewFilters input.now.policies }
     ensures held { F.held files.new ≡ F.held files.old }
-    ensures prepares { Prepares (MeansInput command.now (F.held files.old) input.now) (F.faults files.old) (F.faults files.new) result }
+    ensures prepares { Prepares (MeansInput step.now (F.held files.old) input.now) (F.faults files.old) (F.faults files.new) result }
     ensures quiet { result ≢ Err Status.ReadFault → F.faults files.new ≡ F.faults files.old }
     ensures used { result ≢ Err Status.Usage }
 {
-    let text = fetch(alloc, files, command.schedule, Which::Schedule)?;
+    let text = fetch(alloc, files, step.schedule, Which::Schedule)?;
     match read_schedule(alloc, text.bytes())? {
         Some(schedule) => Ok(audit_of(alloc, input, schedule)?),
         None => Err(Status::NotBuilt(Which::Schedule)),
     }
 }
 
+// The policies of a policy file's text.
+fn policies_of(alloc: Global, text: &[u8], env: &Env) -> Result<PolicySet, Status>
+    requires { length text.now < 2 ^ 32 }
+    ensures { PolicyRead text.now env.now result }
+{
+    let mut policies = PolicySet::new(alloc);
+    match read_policies(alloc, text, env, &mut policies) {
+        Ok(()) => Ok(policies),
+        Err(PolicyFault::NoMemory) => Err(Status::NoMemory),
+        Err(fault) => Err(Status::Policy(1, fault)),
+    }
+}
+
+// What a policy file's text has, where it is in the form that is run.
+fn policies_in_form(alloc: Global, text: &[u8], start: &Start) -> Result<PolicySet, Status>
+    requires { length text.now < 2 ^ 32 }
+    ensures { FormRead text.now (script_env start.now) result }
+{
+    let env = script_env(alloc, start)?;
+    let policies = policies_of(alloc, text, &env)?;
+    if is_in_form(alloc, text)? {
+        Ok(policies)
+    } else {
+        Err(Status::NotBuilt(Which::Policy(1)))
+    }
+}
+
 // From the policy file on.
 fn run_start<F: Files>(
     alloc: Global,
-    command: &Command<'_>,
+    step: &Step<'_>,
     files: &mut F,
     start: Start,
 ) -> Result<Text, Status>
     requires { StartsOneThread start }
     ensures held { F.held files.new ≡ F.held files.old }
-    ensures prepares { Prepares (MeansStart command.now (F.held files.old) (Some start)) (F.faults files.old) (F.faults files.new) result }
+    ensures prepares { Prepares (MeansStart step.now (F.held files.old) (Some start)) (F.faults files.old) (F.faults files.new) result }
     ensures quiet { result ≢ Err Status.ReadFault → F.faults files.new ≡ F.faults files.old }
     ensures used { result ≢ Err Status.Usage }
 {
-    let which = Which::Policy(1);
-    let text = fetch(alloc, files, command.policy, which)?;
-    let policies = match read_policies(alloc, text.bytes()) {
-        Ok(policies) => policies,
-        Err(PolicyFault::NotBuilt) => return Err(Status::NotBuilt(which)),
-        Err(PolicyFault::NoMemory) => return Err(Status::NoMemory),
-    };
+    let text = fetch(alloc, files, step.policy, Which::Policy(1))?;
+    let policies = policies_in_form(alloc, text.bytes(), &start)?;
     let options = Options {
         mode: Mode::Enforce,
     };
@@ -102,26 +125,43 @@ fn run_start<F: Files>(
         start,
         options,
     };
-    run_input(alloc, command, files, &input)
+    run_input(alloc, step, files, &input)
 }
 
-// What a command writes, or why it is refused.
-fn run_command<F: Files>(
-    alloc: Global,
-    command: &Command<'_>,
-    files: &mut F,
-) -> Result<Text, Status>
+// What `step` writes, or why it is refused.
+fn run_step<F: Files>(alloc: Global, step: &Step<'_>, files: &mut F) -> Result<Text, Status>
     ensures held { F.held files.new ≡ F.held files.old }
-    ensures prepares { Prepares (MeansCommand (F.held files.old) (Some command.now)) (F.faults files.old) (F.faults files.new) result }
+    ensures prepares { Prepares (MeansCommand (F.held files.old) (Some (Steps step.now))) (F.faults files.old) (F.faults files.new) result }
     ensures quiet { result ≢ Err Status.ReadFault → F.faults files.new ≡ F.faults files.old }
     ensures used { result ≢ Err Status.Usage }
 {
-    let text = fetch(alloc, files, command.script, Which::Script)?;
+    let text = fetch(alloc, files, step.script, Which::Script)?;
     match read_script(alloc, text.bytes()) {
-        Ok(start) => run_start(alloc, command, files, start),
+        Ok(start) => run_start(alloc, step, files, start),
         Err(ScriptFault::NotBuilt) => Err(Status::NotBuilt(Which::Script)),
         Err(ScriptFault::NoMemory) => Err(Status::NoMemory),
     }
+}
+
+// The canonical text of a policy file's policies.
+fn canon_of(alloc: Global, text: &[u8], elevate: bool) -> Result<Text, Status>
+    requires { length text.now < 2 ^ 32 }
+    ensures { CanonRead text.now (check_env elevate) result }
+{
+    let env = check_env(alloc, elevate)?;
+    let policies = policies_of(alloc, text, &env)?;
+    Ok(print_policies(alloc, &policies)?)
+}
+
+// What `check` writes, or why it is refused.
+fn run_check<F: Files>(alloc: Global, check: &Check<'_>, files: &mut F) -> Result<Text, Status>
+    ensures held { F.held files.new ≡ F.held files.old }
+    ensures prepares { Prepares (MeansCommand (F.held files.old) (Some (Checks check.now))) (F.faults files.old) (F.faults files.new) result }
+    ensures quiet { result ≢ Err Status.ReadFault → F.faults files.new ≡ F.faults files.old }
+    ensures used { result ≢ Err Status.Usage }
+{
+    let text = fetch(alloc, files, check.policy, Which::Policy(1))?;
+    canon_of(alloc, text.bytes(), check.elevate)
 }
 
 // What words write, or why they are refused.
@@ -131,27 +171,31 @@ fn prepare<F: Files>(alloc: Global, words: &[Text], files: &mut F) -> Result<Tex
     ensures quiet { result ≢ Err Status.ReadFault → F.faults files.new ≡ F.faults files.old }
     ensures usage { (result ≡ Err Status.Usage) ↔ (command_in words.now ≡ None) }
 {
-    match command_of(words) {
-        Some(command) => run_command(alloc, &command, files),
+    if let Some(step) = step_of(words) {
+        return run_step(alloc, &step, files);
+    }
+    match check_of(words) {
+        Some(check) => run_check(alloc, &check, files),
         None => Err(Status::Usage),
     }
 }
 
-/// Serves the words `step -f POLICY SCRIPT SCHEDULE`: reads the three files and writes the audit of the run that the
-/// schedule makes.
+/// Serves the words `step -f POLICY SCRIPT SCHEDULE`, which read the three files and write the audit of the run that the schedule
+/// makes, and `check [-c U:G] POLICY`, which reads a policy file and writes its canonical text.
 pub fn systrace_plain<F: Files, S: Sink>(
     alloc: Global,
     words: &[Text],
     files: &mut F,
     out: &mut S,
 ) -> Status
-    // What was written is the whole text that the words and files mean, of a lawful run.
+    // What was written is the whole text that the words and files mean; where it is of a run, the run is lawful.
     ensures done { result ≡ Status.Done → WritesWhole (Means words.now (F.held files.old)) (S.written out.old) (S.written out.new) }
 
     // Each refusal is the first in its order.
     ensures usage { (result ≡ Status.Usage) ↔ (command_in words.now ≡ None) }
     ensures missing { (which : Which) → result ≡ Status.Missing which → Means words.now (F.held files.old) (Refuses (Status.Missing which)) }
     ensures too_long { (which : Which) → result ≡ Status.TooLong which → Means words.now (F.held files.old) (Refuses (Status.TooLong which)) }
+    ensures policy { (file : ℕ) (fault : PolicyFault) → result ≡ Status.Policy file fault → Means words.now (F.held files.old) (Refuses (Status.Policy file fault)) }
     ensures not_built { (which : Which) → result ≡ Status.NotBuilt which → Means words.now (F.held files.old) (Refuses (Status.NotBuilt which)) }
 
     // A fault comes only where its count rose, and one of reading only at a file before which nothing is refused. What was

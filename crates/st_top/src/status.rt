@@ -1,6 +1,7 @@
 ghost use Rattle.std.specs.Prelude.{◌≡◌};
 ghost use Rattle.st_top.specs.Number.{number_of_status};
 
+use st_policy::PolicyFault;
 use std::alloc::AllocError;
 
 /// A file that a command names.
@@ -21,6 +22,8 @@ pub enum Status {
     Missing(Which),
     /// The words are no command.
     Usage,
+    /// The policy file of this number, from 1, is refused, with its leftmost fault.
+    Policy(u32, PolicyFault),
     /// A file could not be read.
     ReadFault,
     /// The text could not be written; what was written is a front of it.
@@ -41,6 +44,7 @@ impl Status {
             Status::Done => 0,
             Status::Missing(_) => 1,
             Status::Usage => 2,
+            Status::Policy(_, _) => 3,
             Status::ReadFault => 5,
             Status::WriteFault => 6,
             Status::NoMemory => 7,

@@ -1,6 +1,8 @@
 use crate::{Status, Which, systrace_plain};
 use st_base::Text;
+use st_lex::LexFault;
 use st_outside::{FILE_LIMIT, MemoryFiles, MemorySink};
+use st_policy::{PolicyFault, Unsupported};
 use std::alloc::Global;
 use std::test::Fail;
 
@@ -53,6 +55,19 @@ fn step(alloc: Global, policy: &[u8], script: &[u8]) -> Result<(Status, MemorySi
     let words = words_of(alloc, &WORDS)?;
     let mut files = files_of(alloc, policy, script, SCHEDULE)?;
     let mut sink = MemorySink::new(alloc, 1000)?;
+    let status = systrace_plain(alloc, &words, &mut files, &mut sink);
+    Ok((status, sink))
+}
+
+// What `check` comes to with these words before the policy's, and what is written.
+fn check(alloc: Global, options: &[&[u8]], policy: &[u8]) -> Result<(Status, MemorySink), Fail> {
+    let mut words = words_of(alloc, &[b"check".as_slice()])?;
+    for option in options {
+        words.push(Text::of(alloc, option)?)?;
+    }
+    words.push(Text::of(alloc, b"P")?)?;
+    let mut files = files_of(alloc, policy, b"", b"")?;
+    let mut sink = MemorySink::new(alloc, 2000)?;
     let status = systrace_plain(alloc, &words, &mut files, &mut sink);
     Ok((status, sink))
 }
@@ -301,21 +316,44 @@ fn a_policy_of_one_byte_too_many(rt: HostRuntime) -> Result<(), Fail> {
     Ok(())
 }
 
+fn is_usage(alloc: Global, words: &[&[u8]]) -> Result<bool, Fail> {
+    let words = words_of(alloc, words)?;
+    let mut files = files_of(alloc, POLICY, SCRIPT, SCHEDULE)?;
+    let mut sink = MemorySink::new(alloc, 1000)?;
+    let status = systrace_plain(alloc, &words, &mut files, &mut sink);
+    Ok(status == Status::Usage)
+}
+
 #[test]
 fn words_that_are_no_command(rt: HostRuntime) -> Result<(), Fail> {
-    let alloc = rt.alloc();
     let step = [b"step".as_slice()];
     let option = [b"step".as_slice(), b"-f", b"P", b"-S", b"C"];
     let help = [b"--help".as_slice()];
     let five = [b"step".as_slice(), b"-g", b"P", b"S", b"C"];
     for words in [[].as_slice(), &step, &option, &help, &five] {
-        let words = words_of(alloc, words)?;
-        let mut files = files_of(alloc, POLICY, SCRIPT, SCHEDULE)?;
-        let mut sink = MemorySink::new(alloc, 1000)?;
-        assert_eq!(rt;
-            systrace_plain(alloc, &words, &mut files, &mut sink),
-            Status::Usage
-        );
+        assert!(rt; is_usage(rt.alloc(), words)?);
+    }
+    Ok(())
+}
+
+#[test]
+fn words_that_are_no_check(rt: HostRuntime) -> Result<(), Fail> {
+    let no_file = [b"check".as_slice()];
+    let no_operand = [b"check".as_slice(), b"-P"];
+    let script = [b"check".as_slice(), b"P", b"S"];
+    for words in [no_file.as_slice(), &no_operand, &script] {
+        assert!(rt; is_usage(rt.alloc(), words)?);
+    }
+    for ids in [
+        b"1".as_slice(),
+        b"1:",
+        b":1",
+        b"01:1",
+        b"1:4294967296",
+        b"+1:1",
+    ] {
+        let words = [b"check".as_slice(), b"-c", ids, b"P"];
+        assert!(rt; is_usage(rt.alloc(), &words)?);
     }
     Ok(())
 }
@@ -342,6 +380,7 @@ fn statuses_have_numbers(rt: HostRuntime) {
         (Status::Done, 0),
         (Status::Missing(Which::Script), 1),
         (Status::Usage, 2),
+        (Status::Policy(1, PolicyFault::Expected(0)), 3),
         (Status::ReadFault, 5),
         (Status::WriteFault, 6),
         (Status::NoMemory, 7),
@@ -351,4 +390,167 @@ fn statuses_have_numbers(rt: HostRuntime) {
     for (status, number) in cases {
         assert_eq!(rt; status.number(), number);
     }
+}
+
+#[test]
+fn refused_policies(rt: HostRuntime) -> Result<(), Fail> {
+    let open = b"Policy: /bin/a, Emulation: native\nnative-fsread: filename eq \"/etc".as_slice();
+    let expression =
+        b"Policy: /bin/a, Emulation: native\nnative-fsread: filename re \"x\" then permit";
+    let cases = [
+        (open, PolicyFault::Lex(LexFault::OpenQuote(61))),
+        (expression, PolicyFault::NotSupported(58, Unsupported::Re)),
+    ];
+    for (policy, fault) in cases {
+        let (status, sink) = step(rt.alloc(), policy, SCRIPT)?;
+        assert_eq!(rt; status, Status::Policy(1, fault));
+        assert_eq!(rt; sink.bytes(), b"".as_slice());
+        let (status, _) = check(rt.alloc(), &[], policy)?;
+        assert_eq!(rt; status, Status::Policy(1, fault));
+    }
+    Ok(())
+}
+
+#[test]
+fn elevation_refused(rt: HostRuntime) -> Result<(), Fail> {
+    let bind = b"Policy: /bin/a, Emulation: native\nnative-bind: permit as root\n";
+    let (status, _) = check(rt.alloc(), &[], bind)?;
+    assert_eq!(rt;
+        status,
+        Status::Policy(1, PolicyFault::ElevateWithoutIds(54))
+    );
+    let setuid = b"Policy: /bin/a, Emulation: native\nnative-setuid: permit as root\n";
+    let (status, _) = check(rt.alloc(), &[b"-c", b"30:30"], setuid)?;
+    assert_eq!(rt; status, Status::Policy(1, PolicyFault::ElevateOnSetId(56)));
+    Ok(())
+}
+
+#[test]
+fn canonical_policy(rt: HostRuntime) -> Result<(), Fail> {
+    let policy =
+        b"Policy: /bin/a, Emulation: native\nnative-fsread: not filename match \"$HOME/*\" and (true or filename sub \"\\x24x\") then deny[enoent] log\nnative-getpid: true then permit\nnative-bind: permit log as root:wheel, if user != 0\n";
+    let canonical =
+        b"Policy: /bin/a, Emulation: native\nnative-fsread: not filename match \"/root/*\" and (true or filename sub \"\\x24x\") then deny[enoent] log\nnative-getpid: permit\nnative-bind: permit as 0:0 log, if user != 0\n";
+    for text in [policy.as_slice(), canonical] {
+        let (status, sink) = check(rt.alloc(), &[b"-c", b"30:30"], text)?;
+        assert_eq!(rt; status, Status::Done);
+        assert_eq!(rt; sink.bytes(), canonical.as_slice());
+    }
+    Ok(())
+}
+
+#[test]
+fn sixty_four_nots(rt: HostRuntime) -> Result<(), Fail> {
+    let alloc = rt.alloc();
+    for (count, expected) in [
+        (64, Status::Done),
+        (65, Status::Policy(1, PolicyFault::TooMany(305))),
+    ] {
+        let mut policy = Text::of(alloc, b"Policy: /bin/a, Emulation: native\nnative-getpid: ")?;
+        for _ in 0..count {
+            policy.append(b"not ")?;
+        }
+        policy.append(b"true then permit\n")?;
+        let (status, _) = check(alloc, &[], policy.bytes())?;
+        assert_eq!(rt; status, expected);
+    }
+    Ok(())
+}
+
+// The policy of a web server, up to the user of its logs, and behind it.
+const WEB_FRONT: &[u8] = b"Policy: /usr/sbin/httpd, Emulation: native
+native-__sysctl: permit
+native-accept: permit
+native-bind: sockaddr eq \"inet-[0.0.0.0]:80\" then permit as root
+native-break: permit
+native-chdir: filename inpath \"/var/www/htdocs\" then permit
+native-close: permit
+native-connect: sockaddr sub \":53\" then permit
+native-dup: permit
+native-execve: filename match \"/var/www/cgi-bin/*\" then permit log
+native-exit: permit
+native-fcntl: cmd eq \"F_SETFD\" then permit
+native-fork: permit
+native-fsread: filename eq \"/etc/master.passwd\" then deny[enoent] log
+native-fsread: filename match \"/etc/*\" then permit
+native-fsread: filename match \"/var/www/*\" then permit
+native-fsread: filename inpath \"/var/www\" then permit
+native-fswrite: filename match \"/var/www/logs/*\" then permit, if user = ";
+
+const WEB_BACK: &[u8] = b"
+native-fswrite: filename match \"/tmp/*\" and not filename sub \".ht\" then permit
+native-fswrite: true then deny[eacces] log
+native-getpid: permit
+native-getuid: permit
+native-geteuid: permit
+native-gettimeofday: permit
+native-kill: true then deny
+native-lseek: permit
+native-mmap: prot eq \"PROT_READ\" then permit
+native-mprotect: permit
+native-read: permit
+native-socket: sockdom eq \"AF_INET\" and socktype eq \"SOCK_STREAM\" then permit
+native-write: permit
+";
+
+// Its canonical text, by the user's id.
+const WEB_CANON: &[u8] = b"Policy: /usr/sbin/httpd, Emulation: native
+native-__sysctl: permit
+native-accept: permit
+native-bind: sockaddr eq \"inet-[0.0.0.0]:80\" then permit as 0
+native-break: permit
+native-chdir: filename inpath \"/var/www/htdocs\" then permit
+native-close: permit
+native-connect: sockaddr sub \":53\" then permit
+native-dup: permit
+native-execve: filename match \"/var/www/cgi-bin/*\" then permit log
+native-exit: permit
+native-fcntl: cmd eq \"F_SETFD\" then permit
+native-fork: permit
+native-fsread: filename eq \"/etc/master.passwd\" then deny[enoent] log
+native-fsread: filename match \"/etc/*\" then permit
+native-fsread: filename match \"/var/www/*\" then permit
+native-fsread: filename inpath \"/var/www\" then permit
+native-fswrite: filename match \"/var/www/logs/*\" then permit, if user = 67
+native-fswrite: filename match \"/tmp/*\" and not filename sub \".ht\" then permit
+native-fswrite: deny[eacces] log
+native-getpid: permit
+native-getuid: permit
+native-geteuid: permit
+native-gettimeofday: permit
+native-kill: deny
+native-lseek: permit
+native-mmap: prot eq \"PROT_READ\" then permit
+native-mprotect: permit
+native-read: permit
+native-socket: sockdom eq \"AF_INET\" and socktype eq \"SOCK_STREAM\" then permit
+native-write: permit
+";
+
+fn web(alloc: Global, user: &[u8]) -> Result<Text, Fail> {
+    let mut policy = Text::of(alloc, WEB_FRONT)?;
+    policy.append(user)?;
+    policy.append(WEB_BACK)?;
+    Ok(policy)
+}
+
+#[test]
+fn a_web_server_in_its_canonical_form(rt: HostRuntime) -> Result<(), Fail> {
+    let alloc = rt.alloc();
+    let policy = web(alloc, b"67")?;
+    for text in [policy.bytes(), WEB_CANON] {
+        let (status, sink) = check(alloc, &[b"-c", b"67:67"], text)?;
+        assert_eq!(rt; status, Status::Done);
+        assert_eq!(rt; sink.bytes(), WEB_CANON);
+    }
+    Ok(())
+}
+
+#[test]
+fn a_web_server_whose_user_has_no_row(rt: HostRuntime) -> Result<(), Fail> {
+    let policy = web(rt.alloc(), b"www")?;
+    let (status, sink) = check(rt.alloc(), &[b"-c", b"67:67"], policy.bytes())?;
+    assert_eq!(rt; status, Status::Policy(1, PolicyFault::UnknownUser(774)));
+    assert_eq!(rt; sink.bytes(), b"".as_slice());
+    Ok(())
 }

@@ -1,7 +1,7 @@
 -- What each call gives its thread, and what it changes.
 use Rattle.std.specs.Prelude.{ℕ, ◌+◌, nat_le, if◌then◌else◌, Bool, true, false, List, [], ◌∷◌, Option, Some, None}
 use Rattle.st_base.specs.declared.errno.Errno.{Errno}
-use Rattle.st_base.specs.declared.errno.Errno.TheVariants.{EMFILE, ENOENT, EACCES}
+use Rattle.st_base.specs.declared.errno.Errno.TheVariants.{EMFILE, ENOENT, EACCES, ENOSYS}
 use Rattle.st_base.specs.declared.ids.Ids.{Ids}
 use Rattle.st_calls.specs.declared.argument.ArgText.{ArgText}
 use Rattle.st_calls.specs.declared.call.SysCall.{SysCall}
@@ -51,10 +51,12 @@ opens setting ids (name ∷ more) =
     if nat_le most_descriptors setting.descriptors then fails EMFILE
     else opens_walked setting.tree setting.descriptors ids (components_of name.text) (walk_error setting.tree ids (components_of name.text))
 
--- each call's result and changes, for the calling process, the ids that it is made under, its arguments and its setting
+-- each call's result and changes, for the calling process, the ids that it is made under, its arguments and its setting;
+-- a call that the machine doesn't make yet fails, as a kernel answers for what it doesn't have
 abbrev pub effect : Setting → SysCall → ℕ → Ids → List ArgText → Outcome
 effect setting GetPid pid ids args = answers pid
 effect setting GetUid pid ids args = answers ids.ruid
 effect setting GetEuid pid ids args = answers ids.euid
 effect setting Exit pid ids args = record { result = Value 0; changes = Dying pid ∷ [] }
 effect setting Open pid ids args = opens setting ids args
+effect setting call pid ids args = fails ENOSYS

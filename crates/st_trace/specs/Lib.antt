@@ -1,3 +1,4 @@
 pub mod Effect
 pub mod Permission
 pub mod Progress
+pub mod Served

@@ -7,9 +7,14 @@ const HELP: &str =
     "systrace runs the system calls of a script under a policy, and prints what became of each.
 
 usage: systrace step -f POLICY SCRIPT SCHEDULE
+       systrace check [-c U:G] POLICY
        systrace --help
        systrace --version
 
+step      runs the script under the policy in the order of the schedule, and writes a line for each call
+check     reads a policy, and writes it in its canonical form, or tells its first fault
+
+-c U:G    the ids of a user and of a group, as decimals: with them the filters of a policy may grant ids, by 'as'
 POLICY    the policy of a binary: which of its system calls are permitted, and which are denied
 SCRIPT    the files that are there, the process that runs, its thread, and what the thread does: the words that it stores
           in memory, and the system calls that it makes
@@ -53,7 +58,7 @@ mod tests {
         let version = words_of(rt.alloc(), &[b"--version"])?;
         assert_eq!(rt; answer_of(version.as_slice()), Some("systrace 0.1.0\n"));
         let help = words_of(rt.alloc(), &[b"--help"])?;
-        assert!(rt; answer_of(help.as_slice()).is_some());
+        assert_eq!(rt; answer_of(help.as_slice()), Some(HELP));
         let both = words_of(rt.alloc(), &[b"--help", b"--version"])?;
         assert_eq!(rt; answer_of(both.as_slice()), None);
         assert_eq!(rt; answer_of(&[]), None);

@@ -6,15 +6,22 @@ ghost use Rattle.std.specs.Process.{exit_status};
 ghost use Rattle.st_top.specs.Number.{number_of_status};
 
 mod answer;
+mod expected;
 mod message;
 mod misfit;
+mod position;
+mod refusal;
 
 use crate::answer::answer_of;
 use crate::message::{OUT_OF_MEMORY, message, misfit_message, word_of};
 use crate::misfit::misfit_in;
+use crate::refusal::refusal_message;
 use st_base::Text;
 use st_outside::{Files as _, StdFiles, StdSink};
-use st_top::{Status, systrace_plain};
+use st_policy::PolicyFault;
+use st_script::read_script;
+use st_top::command::{check_of, step_of};
+use st_top::{Status, Which, check_env, script_env, systrace_plain};
 use std::alloc::AllocError;
 use std::process::ExitCode;
 use std::rt::{Env, Files};
@@ -46,21 +53,72 @@ fn serve<R: Files + Print + AllocGlobal>(rt: &R, words: &[Text]) -> Status {
     }
 }
 
-// The line for a status. Where a file isn't in the form that is read, it is read again to tell where it leaves it.
+// Where a file isn't in the form that is run, it is read again to tell where it leaves it.
+fn misfit_line<R: Files + AllocGlobal>(
+    rt: &R,
+    which: Which,
+    words: &[Text],
+) -> Result<Option<Text>, AllocError> {
+    let alloc = rt.alloc();
+    if let Some(name) = word_of(words, which)
+        && let Ok(text) = StdFiles::new(rt).fetch(alloc, name)
+        && let Some(misfit) = misfit_in(alloc, which, text.bytes())?
+    {
+        return Ok(Some(misfit_message(alloc, name.bytes(), &misfit)?));
+    }
+    Ok(None)
+}
+
+// What the policies of a command are read with; of `step`, by its script, which is read again.
+fn env_of<R: Files + AllocGlobal>(
+    rt: &R,
+    words: &[Text],
+) -> Result<Option<st_policy::Env>, AllocError> {
+    let alloc = rt.alloc();
+    if let Some(check) = check_of(words) {
+        return Ok(Some(check_env(alloc, check.elevate)?));
+    }
+    if let Some(step) = step_of(words)
+        && let Ok(text) = StdFiles::new(rt).fetch(alloc, step.script)
+        && let Ok(start) = read_script(alloc, text.bytes())
+    {
+        return Ok(Some(script_env(alloc, &start)?));
+    }
+    Ok(None)
+}
+
+// Where a policy file is refused, it is read again to tell what stands there.
+fn refusal_line<R: Files + AllocGlobal>(
+    rt: &R,
+    file: u32,
+    fault: PolicyFault,
+    words: &[Text],
+) -> Result<Option<Text>, AllocError> {
+    let alloc = rt.alloc();
+    if let Some(name) = word_of(words, Which::Policy(file))
+        && let Some(env) = env_of(rt, words)?
+        && let Ok(text) = StdFiles::new(rt).fetch(alloc, name)
+    {
+        return refusal_message(alloc, name.bytes(), text.bytes(), &env, fault);
+    }
+    Ok(None)
+}
+
+// The line for a status.
 fn line_of<R: Files + AllocGlobal>(
     rt: &R,
     status: Status,
     words: &[Text],
 ) -> Result<Text, AllocError> {
-    let alloc = rt.alloc();
-    if let Status::NotBuilt(which) = status
-        && let Some(name) = word_of(words, which)
-        && let Ok(text) = StdFiles::new(rt).fetch(alloc, name)
-        && let Some(misfit) = misfit_in(alloc, which, text.bytes())?
-    {
-        return misfit_message(alloc, name.bytes(), &misfit);
+    let told = match status {
+        Status::NotBuilt(which) => misfit_line(rt, which, words)?,
+        Status::Policy(file, fault) => refusal_line(rt, file, fault, words)?,
+        _ => None,
+    };
+    match told {
+        Some(line) => Ok(line),
+        None => message(rt.alloc(), status, words),
     }
-    message(alloc, status, words)
 }
 
 // Tells a person of a status. A failed write is ignored, since there is nobody else to tell.

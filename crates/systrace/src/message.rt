@@ -1,15 +1,21 @@
 use crate::misfit::Misfit;
+use crate::position::found_at;
 use st_base::Text;
+use st_top::command::check_of;
 use st_top::{Status, Which};
 use std::alloc::{AllocError, Global};
 
 /// The line of a program that has no memory left.
 pub const OUT_OF_MEMORY: &str = "systrace: out of memory";
 
-const USAGE: &str = "usage: systrace step -f POLICY SCRIPT SCHEDULE";
+const USAGE: &str = "usage: systrace step -f POLICY SCRIPT SCHEDULE
+       systrace check [-c U:G] POLICY";
 
-/// The word that names a file in `step -f POLICY SCRIPT SCHEDULE`.
+/// The word that names a file, in `check [-c U:G] POLICY` and else in `step -f POLICY SCRIPT SCHEDULE`.
 pub fn word_of(words: &[Text], which: Which) -> Option<&Text> {
+    if let Some(check) = check_of(words) {
+        return Some(check.policy);
+    }
     let place = match which {
         Which::Policy(_) => 2,
         Which::Script => 3,
@@ -31,7 +37,7 @@ const SHOWN: usize = 60;
 // What is not built of a file whose rows are all in the form.
 fn not_built(which: Which) -> &'static str {
     match which {
-        Which::Policy(_) => "not a policy that is built: expected at most 4096 filters",
+        Which::Policy(_) => "not a policy that is built: expected the form that 'step' runs",
         Which::Script => "not a script that is built: expected at most 4096 instructions",
         Which::Schedule => "not a schedule that is built: expected the one line 'rest'",
     }
@@ -47,16 +53,11 @@ fn about_file(alloc: Global, name: &[u8], fault: &str) -> Result<Text, AllocErro
 
 /// The line that tells a person where a file leaves the form that is read, without its newline.
 pub fn misfit_message(alloc: Global, name: &[u8], misfit: &Misfit<'_>) -> Result<Text, AllocError> {
-    let mut line = Text::of(alloc, b"systrace: ")?;
-    line.append(name)?;
-    line.push(b':')?;
-    line.append_number(misfit.line as u64)?;
-    line.push(b':')?;
-    line.append_number(misfit.column as u64)?;
+    let mut line = found_at(alloc, name, misfit.position)?;
     if misfit.found.is_empty() {
-        line.append(b": found the end of the file, expected ")?;
+        line.append(b"the end of the file, expected ")?;
     } else {
-        line.append(b": found '")?;
+        line.push(b'\'')?;
         line.append(&misfit.found[..misfit.found.len().min(SHOWN)])?;
         line.append(b"', expected ")?;
     }
@@ -81,6 +82,10 @@ pub fn message(alloc: Global, status: Status, words: &[Text]) -> Result<Text, Al
         Status::NotBuilt(which) => {
             return about_file(alloc, name_of(words, which), not_built(which));
         }
+        Status::Policy(file, _) => {
+            let name = name_of(words, Which::Policy(file));
+            return about_file(alloc, name, "refused, and not read again to tell why");
+        }
         Status::Usage => USAGE,
         Status::ReadFault => "systrace: a file could not be read",
         Status::WriteFault => "systrace: standard output could not be written",
@@ -93,6 +98,7 @@ pub fn message(alloc: Global, status: Status, words: &[Text]) -> Result<Text, Al
 mod tests {
     use super::*;
     use crate::misfit::misfit_in;
+    use st_policy::PolicyFault;
     use std::test::Fail;
 
     fn words(alloc: Global) -> Result<Vec<Text>, AllocError> {
@@ -111,7 +117,7 @@ mod tests {
             (
                 Status::Usage,
                 2,
-                b"usage: systrace step -f POLICY SCRIPT SCHEDULE",
+                b"usage: systrace step -f POLICY SCRIPT SCHEDULE\n       systrace check [-c U:G] POLICY",
             ),
             (Status::ReadFault, 5, b"systrace: a file could not be read"),
             (
@@ -167,7 +173,7 @@ mod tests {
             (
                 Status::NotBuilt(Which::Policy(1)),
                 11,
-                b"systrace: p: not a policy that is built: expected at most 4096 filters",
+                b"systrace: p: not a policy that is built: expected the form that 'step' runs",
             ),
             (
                 Status::NotBuilt(Which::Script),
@@ -185,6 +191,30 @@ mod tests {
                 want
             );
             assert_eq!(rt; status.number(), number);
+        }
+        Ok(())
+    }
+
+    #[test]
+    fn tells_the_file_of_check(rt: HostRuntime) -> Result<(), Fail> {
+        let mut words = Vec::new(rt.alloc());
+        for word in [b"check".as_slice(), b"-c", b"67:67", b"p"] {
+            words.push(Text::of(rt.alloc(), word)?)?;
+        }
+        for (status, want) in [
+            (
+                Status::Missing(Which::Policy(1)),
+                b"systrace: p: no such file".as_slice(),
+            ),
+            (
+                Status::Policy(1, PolicyFault::Expected(0)),
+                b"systrace: p: refused, and not read again to tell why",
+            ),
+        ] {
+            assert_eq!(rt;
+                message(rt.alloc(), status, words.as_slice())?.bytes(),
+                want
+            );
         }
         Ok(())
     }
@@ -217,10 +247,6 @@ mod tests {
             (
                 b"Policy: /a, Emulation: native # a",
                 b"systrace: f:1:31: found '# a', expected no '#', which is not built",
-            ),
-            (
-                b"Policy: /a; Emulation: native",
-                b"systrace: f:1:11: found '; Emulation: native', expected a token",
             ),
             (
                 b"Policy: /a, Emulation: native\nnative-fsread: filename eq \"/f\" then permit",

@@ -1,9 +1,10 @@
 ghost use Rattle.std.specs.Prelude.{◌≤◌, length};
 ghost use Rattle.st_outside.specs.declared.files.TheConstants.{FILE_LIMIT};
 
+use crate::position::{Position, position_in, rest_of_line};
 use st_base::Text;
 use st_lex::{LexFault, Lexed, Token, next_row, tokens};
-use st_policy::{filter_row, header_row};
+use st_policy::{is_filter_row, is_header_row};
 use st_script::{
     body_row, grown, is_end, is_thread_row, is_tree_row, process_row, root_alone, schedule_row,
 };
@@ -13,10 +14,7 @@ use std::alloc::{AllocError, Global};
 /// Where a file leaves the form that is read: what stands there, and what was expected.
 #[derive(Debug, Drop)]
 pub struct Misfit<'a> {
-    /// The line, from 1.
-    pub line: usize,
-    /// The byte's place in its line, from 1.
-    pub column: usize,
+    pub position: Position,
     /// The rest of the row, or nothing at the end of the file.
     pub found: &'a [u8],
     pub expected: &'static str,
@@ -116,6 +114,11 @@ fn behind_body(alloc: Global, text: &[u8], row: &[Token]) -> Result<Option<Await
     Ok(body_row(alloc, text, row)?.map(|_| Awaited::Instruction))
 }
 
+// What is awaited behind a row of a policy.
+fn filters_if(fits: bool) -> Option<Awaited> {
+    if fits { Some(Awaited::Filter) } else { None }
+}
+
 impl Awaited {
     fn first(which: Which) -> Self {
         match which {
@@ -151,8 +154,8 @@ impl Awaited {
         row: &[Token],
     ) -> Result<Option<Awaited>, AllocError> {
         match self {
-            Awaited::Header => Ok(header_row(text, row).map(|_| Awaited::Filter)),
-            Awaited::Filter => Ok(filter_row(alloc, text, row)?.map(|_| Awaited::Filter)),
+            Awaited::Header => Ok(filters_if(is_header_row(text, row))),
+            Awaited::Filter => Ok(filters_if(is_filter_row(text, row))),
             Awaited::Process => behind_process(alloc, text, row),
             Awaited::Thread(owner) => Ok(if is_thread_row(text, owner.bytes(), row) {
                 Some(Awaited::Instruction)
@@ -168,23 +171,9 @@ impl Awaited {
 
 // A misfit at a byte of the text; the row from there on is what was found.
 fn misfit_at<'a>(text: &'a [u8], at: usize, expected: &'static str) -> Misfit<'a> {
-    let at = at.min(text.len());
-    let before = &text[..at];
-    let line = before.iter().filter(|byte| **byte == b'\n').count();
-    let column = before
-        .iter()
-        .rev()
-        .take_while(|byte| **byte != b'\n')
-        .count();
-    let rest = &text[at..];
-    let end = rest
-        .iter()
-        .take_while(|byte| !matches!(**byte, b'\n' | b'\r'))
-        .count();
     Misfit {
-        line: line.saturating_add(1),
-        column: column.saturating_add(1),
-        found: &rest[..end.min(rest.len())],
+        position: position_in(text, at),
+        found: rest_of_line(text, at),
         expected,
     }
 }

@@ -1,0 +1,72 @@
+ghost use Rattle.std.specs.Prelude.{◌≡◌};
+ghost use Rattle.st_policy.specs.Judging.{stands_in, leads_to, is_on_way, compares, compares_ids};
+
+use st_glob::glob;
+use st_policy::{Cmp, Op};
+
+// Whether a text stands somewhere in an argument.
+fn stands_in(text: &[u8], argument: &[u8]) -> bool
+    ensures { result ≡ stands_in text.now argument.now }
+{
+    for start in 0..argument.len() {
+        if argument[start..].starts_with(text) {
+            return true;
+        }
+    }
+    text.is_empty()
+}
+
+// Whether a path begins with an argument, behind which it ends or goes on with a slash.
+fn leads_to(argument: &[u8], path: &[u8]) -> bool
+    ensures { result ≡ leads_to argument.now path.now }
+{
+    let mut rest = path;
+    for byte in argument {
+        match rest {
+            [first, behind @ ..] => {
+                if byte != first {
+                    return false;
+                }
+                rest = behind;
+            }
+            [] => return false,
+        }
+    }
+    match rest {
+        [first, ..] => *first == b'/',
+        [] => true,
+    }
+}
+
+// Whether an argument is a path, or a directory on the way to it.
+fn is_on_way(argument: &[u8], path: &[u8]) -> bool
+    ensures { result ≡ is_on_way argument.now path.now }
+{
+    leads_to(argument, path) || (argument == b"/".as_slice() && path.starts_with(b"/"))
+}
+
+/// Whether an argument compares so with the text of a test.
+pub fn compares(op: Op, argument: &[u8], text: &[u8]) -> bool
+    ensures { result ≡ compares op argument.now text.now }
+{
+    match op {
+        Op::Match => glob(text, argument),
+        Op::Eq => argument == text,
+        Op::Neq => argument != text,
+        Op::Sub => stands_in(text, argument),
+        Op::Nsub => !stands_in(text, argument),
+        Op::Inpath => is_on_way(argument, text),
+    }
+}
+
+/// Whether an id compares so with that of a predicate.
+pub fn compares_ids(cmp: Cmp, id: u32, other: u32) -> bool
+    ensures { result ≡ compares_ids cmp id other }
+{
+    match cmp {
+        Cmp::Same => id == other,
+        Cmp::Other => id != other,
+        Cmp::Below => id < other,
+        Cmp::Above => id > other,
+    }
+}

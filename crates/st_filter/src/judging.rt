@@ -1,0 +1,116 @@
+ghost use Rattle.std.specs.Prelude.{◌≡◌, ◌<◌, ◌^◌, length};
+ghost use Rattle.std.specs.List.{list_any};
+ghost use Rattle.st_policy.specs.Formula.{formula};
+ghost use Rattle.st_policy.specs.Judging.{passes, is_true, id_of, meets, holds, granted, verdict_by, verdict};
+ghost use Rattle.st_policy.specs.Policies.{filters_of};
+
+use crate::compare::{compares, compares_ids};
+use st_base::Ids;
+use st_calls::{ArgText, Snapshot, Verdict};
+use st_policy::{Action, Expr, Filter, Grant, Op, Policy, Predicate, Who};
+
+// Whether an argument is the one of a label and index, and compares so with a text.
+fn passes(label: &[u8], index: u32, op: Op, text: &[u8], argument: &ArgText) -> bool
+    ensures { result ≡ passes label.now index op text.now argument.now }
+{
+    argument.label.word() == label
+        && argument.index == index
+        && compares(op, argument.text.bytes(), text)
+}
+
+// Whether one of the arguments passes.
+fn one_passes(label: &[u8], index: u32, op: Op, text: &[u8], arguments: &[ArgText]) -> bool
+    ensures { result ≡ list_any (passes label.now index op text.now) arguments.now }
+{
+    arguments
+        .iter()
+        .any(|argument| passes(label, index, op, text, argument))
+}
+
+// Whether an expression is true of a call's arguments.
+fn is_true(expr: &Expr, arguments: &[ArgText]) -> bool
+    ensures { result ≡ is_true (formula expr.now) arguments.now }
+{
+    match expr {
+        Expr::True => true,
+        Expr::Test {
+            label,
+            index,
+            op,
+            text,
+        } => one_passes(label.bytes(), *index, *op, text.bytes(), arguments),
+        Expr::Not(operand) => !is_true(operand, arguments),
+        Expr::And(left, right) => is_true(left, arguments) && is_true(right, arguments),
+        Expr::Or(left, right) => is_true(left, arguments) || is_true(right, arguments),
+    }
+}
+
+// The effective id that a predicate looks at.
+fn id_of(who: Who, ids: Ids) -> u32
+    ensures { result ≡ id_of who ids }
+{
+    match who {
+        Who::User => ids.euid,
+        Who::Group => ids.egid,
+    }
+}
+
+fn meets(predicate: Option<Predicate>, ids: Ids) -> bool
+    ensures { result ≡ meets predicate ids }
+{
+    match predicate {
+        None => true,
+        Some(predicate) => compares_ids(predicate.cmp, id_of(predicate.who, ids), predicate.id),
+    }
+}
+
+/// Whether a filter holds of a call by the copies of its arguments: its expression is true of them, and the effective ids are
+/// as its predicate asks.
+pub fn holds(filter: &Filter, copies: &Snapshot) -> bool
+    ensures { result ≡ holds filter.now copies.now }
+{
+    is_true(filter.expr(), copies.parts.as_slice()) && meets(filter.predicate(), copies.ids)
+}
+
+// The ids of a call under a grant.
+fn granted(grant: Option<Grant>, ids: Ids) -> Ids
+    ensures { result ≡ granted grant ids }
+{
+    match grant {
+        None => ids,
+        Some(grant) => Ids {
+            euid: grant.user.unwrap_or(ids.euid),
+            egid: grant.group.unwrap_or(ids.egid),
+            ..ids
+        },
+    }
+}
+
+// What the filter of this number says; one that asks decides nothing.
+fn verdict_of(filter: &Filter, number: u32, ids: Ids) -> Verdict
+    ensures { result ≡ verdict_by number filter.now.grant ids filter.now.action }
+{
+    match filter.action() {
+        Action::Permit => Verdict::Permit(number, granted(filter.grant(), ids)),
+        Action::Deny(errno) => Verdict::Refuse(number, errno),
+        Action::Ask => Verdict::Unmatched,
+    }
+}
+
+/// What a policy says of a held call by the copies of its arguments: as the first filter of its rule that holds, of filters
+/// numbered from 1.
+pub fn decide(policy: &Policy, copies: &Snapshot) -> Verdict
+    requires { length policy.now < 2 ^ 32 }
+    ensures { result ≡ verdict (filters_of copies.now.rule policy.now) copies.now }
+{
+    let mut number = 0;
+    for filter in policy.as_slice() {
+        if filter.is_for(copies.rule) {
+            number += 1;
+            if holds(filter, copies) {
+                return verdict_of(filter, number, copies.ids);
+            }
+        }
+    }
+    Verdict::Unmatched
+}

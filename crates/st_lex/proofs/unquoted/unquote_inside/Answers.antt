@@ -1,0 +1,15 @@
+use Rattle.std.proofs.Common.{◌≡◌, ◌-◌, length, take, drop, ap, ◌∙◌, arith}
+use Rattle.std.specs.Prelude.{option_copied}
+use Rattle.std.proofs.lemmas.List.{take_rest, length-drop}
+use Rattle.st_lex.specs.Unquote.{names_in}
+use Rattle.st_lex.proofs.Unquotes.{front_at}
+use Rattle.st_lex.proofs.unquoted.unquote_inside.Goals as goal
+
+pub loop-at-preserved : goal.loop-at-preserved
+loop-at-preserved c =
+    let cut = take_rest c.args.bytes.now c.loop-at.at in
+    let n : length (take (length c.args.bytes.now - c.loop-at.at) (drop c.loop-at.at c.args.bytes.now)) ≡ length c.args.bytes.now - c.loop-at.at = ap length cut ∙ length-drop c.loop-at.at c.args.bytes.now in
+    record {
+      same = front_at (names_in (option_copied c.args.dollars)) _ c.loop-at.text c.append_front.new.out c.args.bytes.now _ c.loop-at.at c.in_ok-at.field-0 cut (omega (arith, n)) c.loop-at.invariant.same c.in_ok-at.ensures.len c.in_ok-at.ensures.some c.in_ok-at.ensures.text;
+      place = omega (arith, n, c.in_ok-at.ensures.within);
+    }

@@ -1,0 +1,90 @@
+-- Texts that are printed piece by piece, and the tokens that they are read as.
+use Rattle.std.specs.Prelude.{ℕ, ◌≡◌, Bool, true, false, List, [], ◌∷◌, map, None, codes}
+use Rattle.std.specs.List.{flat_map, list_all}
+use Rattle.st_lex.specs.declared.token.Token.{Token}
+use Rattle.st_lex.specs.declared.token.TokenKind.{TokenKind}
+use Rattle.st_lex.specs.declared.token.TokenKind.TheVariants.{Word, Quoted, Colon, Comma, Open, Close, OpenBracket, CloseBracket, Equal, NotEqual, Less, Greater, Line}
+use Rattle.st_lex.specs.Quote.{quoted, AreBytes}
+use Rattle.st_lex.specs.Quoted.{newline}
+use Rattle.st_lex.specs.Text.{text_of_token}
+use Rattle.st_lex.specs.Tokens.{is_word_byte, lexed_of}
+
+pub data Piece : Type 0 where
+  PlainWord : List ℕ → Piece
+  -- printed in quotes
+  QuotedText : List ℕ → Piece
+  -- a newline is one too
+  Sign : TokenKind → Piece
+  Space : Piece
+
+abbrev pub is_sign : TokenKind → Bool
+is_sign Word = false
+is_sign Quoted = false
+is_sign _ = true
+
+abbrev pub sign_bytes : TokenKind → List ℕ
+sign_bytes Word = []
+sign_bytes Quoted = []
+sign_bytes Colon = codes ":"
+sign_bytes Comma = codes ","
+sign_bytes Open = codes "("
+sign_bytes Close = codes ")"
+sign_bytes OpenBracket = codes "["
+sign_bytes CloseBracket = codes "]"
+sign_bytes Equal = codes "="
+sign_bytes NotEqual = codes "!="
+sign_bytes Less = codes "<"
+sign_bytes Greater = codes ">"
+sign_bytes Line = newline ∷ []
+
+abbrev pub piece_bytes : Piece → List ℕ
+piece_bytes (PlainWord bytes) = bytes
+piece_bytes (QuotedText bytes) = quoted bytes
+piece_bytes (Sign kind) = sign_bytes kind
+piece_bytes Space = codes " "
+
+abbrev pub print : List Piece → List ℕ
+print pieces = flat_map piece_bytes pieces
+
+-- whether bytes can be printed as a Word
+abbrev pub is_word_text : List ℕ → Bool
+is_word_text [] = false
+is_word_text (b ∷ bs) = list_all is_word_byte (b ∷ bs)
+
+-- no Word stands first
+abbrev pub StandApart : List Piece → Type 0
+StandApart [] = Unit {0}
+StandApart (PlainWord bytes ∷ pieces) = ⊥
+StandApart (_ ∷ pieces) = Unit {0}
+
+-- each piece can be read back, and no Word directly follows a Word
+abbrev pub StandWell : List Piece → Type 0
+StandWell [] = Unit {0}
+StandWell (PlainWord bytes ∷ pieces) = (is_word_text bytes ≡ true) × StandApart pieces × StandWell pieces
+StandWell (QuotedText bytes ∷ pieces) = AreBytes bytes × StandWell pieces
+StandWell (Sign kind ∷ pieces) = (is_sign kind ≡ true) × StandWell pieces
+StandWell (Space ∷ pieces) = StandWell pieces
+
+-- what a token is, and its bytes
+pub record SpelledToken : Type 0 where
+  pub kind : TokenKind
+  pub text : List ℕ
+
+abbrev pub spelled_token : List ℕ → Token → SpelledToken
+spelled_token text token = record { kind = token.kind; text = text_of_token text token }
+
+abbrev pub spelled_tokens : List ℕ → List Token → List SpelledToken
+spelled_tokens text tokens = map (spelled_token text) tokens
+
+-- the pieces as tokens: all but the spaces
+abbrev pub piece_tokens : List Piece → List SpelledToken
+piece_tokens [] = []
+piece_tokens (PlainWord bytes ∷ pieces) = record { kind = Word; text = bytes } ∷ piece_tokens pieces
+piece_tokens (QuotedText bytes ∷ pieces) = record { kind = Quoted; text = quoted bytes } ∷ piece_tokens pieces
+piece_tokens (Sign kind ∷ pieces) = record { kind = kind; text = sign_bytes kind } ∷ piece_tokens pieces
+piece_tokens (Space ∷ pieces) = piece_tokens pieces
+
+-- the text has no fault, and its tokens are of these kinds and bytes, in order
+pub record IsReadAs (text : List ℕ) (tokens : List SpelledToken) : Type 0 where
+  pub faultless : (lexed_of text).fault ≡ None
+  pub in_order : spelled_tokens text (lexed_of text).tokens ≡ tokens

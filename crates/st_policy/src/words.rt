@@ -1,0 +1,176 @@
+ghost use Rattle.std.specs.Prelude.{◌≡◌, ◌&&◌, nat_lt, length, find, option_copied, option_map};
+ghost use Rattle.std.specs.List.{list_all};
+ghost use Rattle.std.specs.Str.{bytes_eq};
+ghost use Rattle.st_policy.specs.Grammar.{who_named};
+ghost use Rattle.st_policy.specs.Words.{is_label, is_name_byte, native_name, name_by, filter_name, allows, knows, sets_ids, op_named, index_in, has_name, id_in, names_for};
+
+use crate::env::{Env, NamedId};
+use crate::filter::{Op, Who};
+use st_base::number::{number_of, numeral_up_to};
+use st_calls::{Rule, SysCall};
+
+/// Whether a word is this one.
+pub(crate) fn is(word: &[u8], keyword: &[u8]) -> bool
+    ensures { result ≡ bytes_eq word.now keyword.now }
+{
+    word == keyword
+}
+
+/// Whether a word is a label: any word but those of the grammar.
+pub(crate) fn is_label(word: &[u8]) -> bool
+    ensures { result ≡ is_label word.now }
+{
+    !(is(word, b"not")
+        || is(word, b"true")
+        || is(word, b"and")
+        || is(word, b"or")
+        || is(word, b"then")
+        || is(word, b"permit")
+        || is(word, b"deny")
+        || is(word, b"ask"))
+}
+
+fn is_name_byte(byte: u8) -> bool
+    ensures { result ≡ is_name_byte byte }
+{
+    byte.is_ascii_alphanumeric() || byte == b'_'
+}
+
+fn has_name_bytes(name: &[u8]) -> bool
+    ensures { result ≡ list_all is_name_byte name.now }
+{
+    name.iter().all(|byte| is_name_byte(*byte))
+}
+
+fn is_name(name: &[u8]) -> bool
+    ensures { result ≡ (nat_lt 0 (length name.now) && list_all is_name_byte name.now) }
+{
+    name.len() > 0 && has_name_bytes(name)
+}
+
+/// What stands behind `native-`, where it is the name of a call.
+pub(crate) fn native_name(word: &[u8]) -> Option<&[u8]>
+    ensures { option_copied result ≡ native_name word.now }
+{
+    if !word.starts_with(b"native-") {
+        return None;
+    }
+    let name = &word[7..];
+    if is_name(name) { Some(name) } else { None }
+}
+
+/// Whether a filter for this rule, or for a call outside the model, may test the argument of this label and index.
+pub(crate) fn allows(name: &[u8], rule: Option<Rule>, label: &[u8], index: u32) -> bool
+    ensures { result ≡ allows (name_by name.now rule) label.now index }
+{
+    match rule {
+        Some(rule) => rule.has_argument(label, index),
+        None => true,
+    }
+}
+
+/// Whether it may test an argument of this label with some index.
+pub(crate) fn knows(name: &[u8], rule: Option<Rule>, label: &[u8]) -> bool
+    ensures { result ≡ knows (name_by name.now rule) label.now }
+{
+    match rule {
+        Some(rule) => rule.has_label(label),
+        None => true,
+    }
+}
+
+/// Whether it is for a call that sets ids, to which no ids may be granted.
+pub(crate) fn sets_ids(name: &[u8], rule: Option<Rule>) -> bool
+    ensures { result ≡ sets_ids (name_by name.now rule) }
+{
+    match rule {
+        Some(Rule::Call(call)) => match call {
+            SysCall::SetUid | SysCall::SetEuid | SysCall::SetGid | SysCall::SetEgid => true,
+            _ => false,
+        },
+        _ => false,
+    }
+}
+
+impl Op {
+    /// The operator that a word names.
+    pub(crate) fn named(word: &[u8]) -> Option<Op>
+        ensures { result ≡ op_named word.now }
+    {
+        if is(word, b"match") {
+            Some(Op::Match)
+        } else if is(word, b"eq") {
+            Some(Op::Eq)
+        } else if is(word, b"neq") {
+            Some(Op::Neq)
+        } else if is(word, b"sub") {
+            Some(Op::Sub)
+        } else if is(word, b"nsub") {
+            Some(Op::Nsub)
+        } else if is(word, b"inpath") {
+            Some(Op::Inpath)
+        } else {
+            None
+        }
+    }
+}
+
+impl Who {
+    /// Whose id a word names.
+    pub(crate) fn named(word: &[u8]) -> Option<Who>
+        ensures { result ≡ who_named word.now }
+    {
+        if is(word, b"user") {
+            Some(Who::User)
+        } else if is(word, b"group") {
+            Some(Who::Group)
+        } else {
+            None
+        }
+    }
+}
+
+/// The index that a word spells: a number below 2^32.
+pub(crate) fn index_of(word: &[u8]) -> Option<u32>
+    ensures { result ≡ index_in word.now }
+{
+    match number_of(word) {
+        Some(number) => {
+            if number <= u32::MAX as u64 {
+                Some(number as u32)
+            } else {
+                None
+            }
+        }
+        None => None,
+    }
+}
+
+// The id of the first row with this name.
+fn id_named(rows: &[NamedId], word: &[u8]) -> Option<u32>
+    ensures { result ≡ option_map (λ row. row.id) (find (has_name word.now) rows.now) }
+{
+    rows.iter()
+        .find(|row| row.name.bytes() == word)
+        .map(|row| row.id)
+}
+
+/// The id that a word is: a decimal number below 2^32, else that of the first user, or group, of this name.
+pub(crate) fn id_of(rows: &[NamedId], word: &[u8]) -> Option<u32>
+    ensures { result ≡ id_in rows.now word.now }
+{
+    match numeral_up_to(u32::MAX as u64, 10, word) {
+        Some(id) => Some(id as u32),
+        None => id_named(rows, word),
+    }
+}
+
+/// The names that ids of users, or of groups, may have.
+pub(crate) fn names_for(env: &Env, who: Who) -> &[NamedId]
+    ensures { result.now ≡ names_for env.now who }
+{
+    match who {
+        Who::User => env.users.as_slice(),
+        Who::Group => env.groups.as_slice(),
+    }
+}

@@ -1,0 +1,95 @@
+use st_lex::LexFault;
+use st_policy::{Place, PolicyFault, Unsupported, Who};
+
+const FILTER_OR_HEADER: &str =
+    "a filter 'native-CALL: ...' or a header 'Policy: BINARY, Emulation: native'";
+
+const ERROR: &str = "the name of an error in small letters, such as eacces";
+
+/// What may stand at a place in the grammar of policies.
+pub fn expected_at(place: Place) -> &'static str {
+    match place {
+        Place::Start => "a header 'Policy: BINARY, Emulation: native'",
+        Place::Row => FILTER_OR_HEADER,
+        Place::PolicyColon | Place::EmulationColon | Place::NameColon => "':'",
+        Place::Binary => "a binary that begins with '/'",
+        Place::Comma => "','",
+        Place::Emulation => "'Emulation'",
+        Place::System => "'native'",
+        Place::HeaderEnd | Place::FilterEnd => "the end of the line",
+        Place::Clause => "'permit', 'deny', 'ask', 'not', 'true', '(' or a label",
+        Place::Operand => "'not', 'true', '(' or a label",
+        Place::Label => "'[' or one of match, eq, neq, sub, nsub, inpath",
+        Place::Index => "an index below 4294967296",
+        Place::IndexEnd | Place::ErrorEnd => "']'",
+        Place::Operator => "one of match, eq, neq, sub, nsub, inpath",
+        Place::Text => "a quoted text",
+        Place::Joint => "'and', 'or', 'then', or ')' behind its '('",
+        Place::Action => "'permit', 'deny' or 'ask'",
+        Place::Denial => "'[', 'log', ',' or the end of the line",
+        Place::Error => ERROR,
+        Place::Tail { grant, log } => behind_action(grant, log),
+        Place::Grant { .. } => "':' or the id of a user",
+        Place::User { log } => behind_user(log),
+        Place::Group { .. } => "the id of a group",
+        Place::If => "'if'",
+        Place::Who => "'user' or 'group'",
+        Place::Comparison(_) => "'=', '!=', '<' or '>'",
+        Place::Id(Who::User) => "the id of a user",
+        Place::Id(Who::Group) => "the id of a group",
+    }
+}
+
+fn behind_action(grant: bool, log: bool) -> &'static str {
+    match (grant, log) {
+        (true, true) => "'as', 'log', ',' or the end of the line",
+        (true, false) => "'as', ',' or the end of the line",
+        (false, true) => "'log', ',' or the end of the line",
+        (false, false) => "',' or the end of the line",
+    }
+}
+
+fn behind_user(log: bool) -> &'static str {
+    if log {
+        "':', 'log', ',' or the end of the line"
+    } else {
+        "':', ',' or the end of the line"
+    }
+}
+
+// How many there may be of what stands at a place.
+fn at_most(place: Place) -> &'static str {
+    match place {
+        Place::Row => "at most 4096 filters in all",
+        _ => "at most 64 of 'not', 'and', 'or' and '(' in a filter",
+    }
+}
+
+/// What was expected where a policy has a fault at this place in the grammar.
+pub fn expected_of(fault: PolicyFault, place: Place) -> &'static str {
+    match fault {
+        PolicyFault::Lex(LexFault::BadByte(_)) => "a token",
+        PolicyFault::Lex(LexFault::OpenQuote(_)) => "a text that is closed on its line",
+        PolicyFault::Lex(LexFault::BadEscape(_)) => {
+            "'\\x' and two hexadecimal digits that aren't 00"
+        }
+        PolicyFault::Expected(_) | PolicyFault::NoMemory => expected_at(place),
+        PolicyFault::UnknownCall(_) => "'native-' and letters, digits or '_'",
+        PolicyFault::UnknownArgument(_) => "an argument of the call",
+        PolicyFault::UnknownError(_) => ERROR,
+        PolicyFault::UnknownUser(_) => {
+            "an id below 4294967296, or the name of a known user or group"
+        }
+        PolicyFault::DuplicatePolicy(_) => "a binary that has no policy yet",
+        PolicyFault::ElevateWithoutIds(_) => "no 'as' where no ids are given by '-c U:G'",
+        PolicyFault::ElevateOnSetId(_) => "no 'as' on a call that sets ids",
+        PolicyFault::NotSupported(_, Unsupported::Re) => {
+            "one of match, eq, neq, sub, nsub, inpath; 're' is not supported"
+        }
+        PolicyFault::NotSupported(_, Unsupported::Emulation) => {
+            "'native', the only emulation that is supported"
+        }
+        PolicyFault::AskWithLearn(_) => "no 'ask' where policies are learnt",
+        PolicyFault::TooMany(_) => at_most(place),
+    }
+}

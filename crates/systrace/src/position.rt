@@ -1,0 +1,52 @@
+use st_base::Text;
+use std::alloc::{AllocError, Global};
+
+/// Where a byte stands in a text: its line, and its place in the line, each from 1.
+#[derive(Clone, Copy, Debug, PartialEq, Eq)]
+pub struct Position {
+    pub line: usize,
+    pub column: usize,
+}
+
+/// What stands before a byte in its line; of a byte behind the text, before the text's end.
+pub fn before_in_line(text: &[u8], at: usize) -> &[u8] {
+    let before = &text[..at.min(text.len())];
+    let count = before
+        .iter()
+        .rev()
+        .take_while(|byte| **byte != b'\n')
+        .count();
+    &before[before.len().saturating_sub(count)..]
+}
+
+/// What stands in a line from a byte on.
+pub fn rest_of_line(text: &[u8], at: usize) -> &[u8] {
+    let rest = &text[at.min(text.len())..];
+    let end = rest
+        .iter()
+        .take_while(|byte| !matches!(**byte, b'\n' | b'\r'))
+        .count();
+    &rest[..end.min(rest.len())]
+}
+
+/// The position of a byte; of a byte behind the text, that of the text's end.
+pub fn position_in(text: &[u8], at: usize) -> Position {
+    let before = &text[..at.min(text.len())];
+    let line = before.iter().filter(|byte| **byte == b'\n').count();
+    Position {
+        line: line.saturating_add(1),
+        column: before_in_line(text, at).len().saturating_add(1),
+    }
+}
+
+/// The front of a line that tells what was found at a position in a file.
+pub fn found_at(alloc: Global, name: &[u8], position: Position) -> Result<Text, AllocError> {
+    let mut line = Text::of(alloc, b"systrace: ")?;
+    line.append(name)?;
+    line.push(b':')?;
+    line.append_number(position.line as u64)?;
+    line.push(b':')?;
+    line.append_number(position.column as u64)?;
+    line.append(b": found ")?;
+    Ok(line)
+}

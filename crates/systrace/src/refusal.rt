@@ -1,0 +1,556 @@
+ghost use Rattle.std.specs.Prelude.{◌≤◌, ◌<◌, length};
+ghost use Rattle.st_outside.specs.declared.files.TheConstants.{FILE_LIMIT};
+
+use crate::expected::expected_of;
+use crate::position::{before_in_line, found_at, position_in, rest_of_line};
+use st_base::Text;
+use st_calls::{ArgSpec, Rule, args_of};
+use st_lex::{LexFault, TokenKind, tokens};
+use st_policy::{Env, PolicyFault, PolicySet, place_of_fault};
+use std::alloc::{AllocError, Global};
+
+// How much of a token a message shows, in bytes.
+const SHOWN: usize = 60;
+
+// The byte at which a fault stands.
+fn byte_of(fault: PolicyFault) -> usize {
+    let at = match fault {
+        PolicyFault::Lex(fault) => match fault {
+            LexFault::BadByte(at) | LexFault::OpenQuote(at) | LexFault::BadEscape(at) => at,
+        },
+        PolicyFault::Expected(at) => at,
+        PolicyFault::UnknownCall(at) => at,
+        PolicyFault::UnknownArgument(at) => at,
+        PolicyFault::UnknownError(at) => at,
+        PolicyFault::UnknownUser(at) => at,
+        PolicyFault::DuplicatePolicy(at) => at,
+        PolicyFault::ElevateWithoutIds(at) => at,
+        PolicyFault::ElevateOnSetId(at) => at,
+        PolicyFault::NotSupported(at, _) => at,
+        PolicyFault::AskWithLearn(at) => at,
+        PolicyFault::TooMany(at) => at,
+        PolicyFault::NoMemory => 0,
+    };
+    at as usize
+}
+
+fn hex_digit(value: u8) -> u8
+    requires { value < 16 }
+{
+    if value < 10 {
+        b'0' + value
+    } else {
+        b'a' + (value - 10)
+    }
+}
+
+// Appends bytes between quotes, each that doesn't print by its number.
+fn append_shown(line: &mut Text, bytes: &[u8]) -> Result<(), AllocError> {
+    line.push(b'\'')?;
+    for &byte in &bytes[..bytes.len().min(SHOWN)] {
+        match byte {
+            0x20..=0x7e => line.push(byte)?,
+            _ => line.append(&[b'\\', b'x', hex_digit(byte / 16), hex_digit(byte % 16)])?,
+        }
+    }
+    line.push(b'\'')
+}
+
+// What is no token: one byte, an escape, or a text that isn't closed, as far as the line goes.
+fn broken(rest: &[u8], fault: PolicyFault) -> &[u8] {
+    let len = match fault {
+        PolicyFault::Lex(LexFault::BadByte(_)) => 1,
+        PolicyFault::Lex(LexFault::BadEscape(_)) => {
+            rest.iter().take_while(|byte| **byte != b'"').count().min(4)
+        }
+        _ => rest.len(),
+    };
+    &rest[..len.min(rest.len())]
+}
+
+fn append_found(
+    alloc: Global,
+    line: &mut Text,
+    text: &[u8],
+    fault: PolicyFault,
+) -> Result<(), AllocError>
+    requires { length text.now ≤ FILE_LIMIT }
+{
+    let at = byte_of(fault);
+    let lexed = tokens(alloc, text)?;
+    match lexed
+        .tokens
+        .as_slice()
+        .iter()
+        .find(|token| token.at as usize == at)
+    {
+        Some(token) => match token.kind {
+            TokenKind::Line => line.append(b"the end of the line"),
+            _ => append_shown(line, token.text(text)),
+        },
+        None if at >= text.len() => line.append(b"the end of the file"),
+        None => append_shown(line, broken(rest_of_line(text, at), fault)),
+    }
+}
+
+// The rule of the filter whose name begins a line; none where its call isn't in the model.
+fn rule_of(row: &[u8]) -> Option<Rule> {
+    let blanks = row
+        .iter()
+        .take_while(|byte| matches!(**byte, b' ' | b'\t' | b'\r'))
+        .count();
+    let name = &row[blanks.min(row.len())..];
+    if !name.starts_with(b"native-") {
+        return None;
+    }
+    let name = &name[7..];
+    let len = name
+        .iter()
+        .take_while(|byte| !matches!(**byte, b':' | b' ' | b'\t' | b'\r'))
+        .count();
+    Rule::of_word(&name[..len.min(name.len())])
+}
+
+// Appends an argument as a policy names it: an index that is 0 isn't written.
+fn append_argument(line: &mut Text, argument: &ArgSpec) -> Result<(), AllocError> {
+    line.append(argument.label.word())?;
+    if argument.index > 0 {
+        line.push(b'[')?;
+        line.append_number(u64::from(argument.index))?;
+        line.push(b']')?;
+    }
+    Ok(())
+}
+
+// Appends which arguments there are.
+fn append_arguments(line: &mut Text, arguments: &[ArgSpec]) -> Result<(), AllocError> {
+    if arguments.is_empty() {
+        return line.append(b", which has none");
+    }
+    let mut between = b": ".as_slice();
+    for argument in arguments {
+        line.append(between)?;
+        append_argument(line, argument)?;
+        between = b", ";
+    }
+    Ok(())
+}
+
+/// The line that tells a person why a policy file is refused, without its newline; none where its text has no fault.
+pub fn refusal_message(
+    alloc: Global,
+    name: &[u8],
+    text: &[u8],
+    env: &Env,
+    fault: PolicyFault,
+) -> Result<Option<Text>, AllocError>
+    requires { length text.now ≤ FILE_LIMIT }
+{
+    let before = PolicySet::new(alloc);
+    let Some(place) = place_of_fault(alloc, text, env, &before)? else {
+        return Ok(None);
+    };
+    let at = byte_of(fault);
+    let mut line = found_at(alloc, name, position_in(text, at))?;
+    append_found(alloc, &mut line, text, fault)?;
+    line.append(b", expected ")?;
+    line.append(expected_of(fault, place).as_bytes())?;
+    if let PolicyFault::UnknownArgument(_) = fault
+        && let Some(rule) = rule_of(before_in_line(text, at))
+    {
+        append_arguments(&mut line, args_of(rule))?;
+    }
+    Ok(Some(line))
+}
+
+#[cfg(test)]
+mod tests {
+    use super::*;
+    use st_policy::read_policies;
+    use st_top::check_env;
+    use std::test::Fail;
+
+    const HEADER: &[u8] = b"Policy: /bin/a, Emulation: native\n";
+
+    // The line for a text that is refused, or nothing.
+    fn told_by(alloc: Global, env: &Env, text: &[u8]) -> Result<Text, AllocError> {
+        if text.len() > 100_000 {
+            return Ok(Text::new(alloc));
+        }
+        let mut set = PolicySet::new(alloc);
+        match read_policies(alloc, text, env, &mut set) {
+            Ok(()) => Ok(Text::new(alloc)),
+            Err(fault) => match refusal_message(alloc, b"f", text, env, fault)? {
+                Some(line) => Ok(line),
+                None => Ok(Text::new(alloc)),
+            },
+        }
+    }
+
+    fn told(alloc: Global, text: &[u8]) -> Result<Text, AllocError> {
+        let env = check_env(alloc, false)?;
+        told_by(alloc, &env, text)
+    }
+
+    // The header, and so many pieces and a rest behind it.
+    fn repeated(alloc: Global, count: u32, piece: &[u8], rest: &[u8]) -> Result<Text, AllocError> {
+        let mut text = Text::of(alloc, HEADER)?;
+        for _ in 0..count {
+            text.append(piece)?;
+        }
+        text.append(rest)?;
+        Ok(text)
+    }
+
+    // The line for a row behind the header, with ids given or not.
+    fn row_told(alloc: Global, elevate: bool, row: &[u8]) -> Result<Text, AllocError> {
+        let env = check_env(alloc, elevate)?;
+        let text = repeated(alloc, 0, b"", row)?;
+        told_by(alloc, &env, text.bytes())
+    }
+
+    #[test]
+    fn tells_of_headers(rt: HostRuntime) -> Result<(), Fail> {
+        let cases: [(&[u8], &[u8]); 11] = [
+            (
+                b"native-read: permit",
+                b"systrace: f:1:1: found 'native-read', expected a header 'Policy: BINARY, Emulation: native'",
+            ),
+            (b"Policy /a", b"systrace: f:1:8: found '/a', expected ':'"),
+            (
+                b"Policy: a, Emulation: native",
+                b"systrace: f:1:9: found 'a', expected a binary that begins with '/'",
+            ),
+            (
+                b"Policy: \"a\", Emulation: native",
+                b"systrace: f:1:9: found '\"a\"', expected a binary that begins with '/'",
+            ),
+            (
+                b"Policy: /a Emulation",
+                b"systrace: f:1:12: found 'Emulation', expected ','",
+            ),
+            (
+                b"Policy: /a, emulation",
+                b"systrace: f:1:13: found 'emulation', expected 'Emulation'",
+            ),
+            (
+                b"Policy: /a, Emulation\n",
+                b"systrace: f:1:22: found the end of the line, expected ':'",
+            ),
+            (
+                b"Policy: /a, Emulation:",
+                b"systrace: f:1:23: found the end of the file, expected 'native'",
+            ),
+            (
+                b"Policy: /a, Emulation: linux",
+                b"systrace: f:1:24: found 'linux', expected 'native', the only emulation that is supported",
+            ),
+            (
+                b"Policy: /a, Emulation: native native-read: permit",
+                b"systrace: f:1:31: found 'native-read', expected the end of the line",
+            ),
+            (
+                b"Policy: /a, Emulation: native\nPolicy: \"/a\", Emulation: native",
+                b"systrace: f:2:9: found '\"/a\"', expected a binary that has no policy yet",
+            ),
+        ];
+        for (text, wanted) in cases {
+            assert_eq!(rt; told(rt.alloc(), text)?.bytes(), wanted);
+        }
+        Ok(())
+    }
+
+    #[test]
+    fn tells_of_the_front_of_a_filter(rt: HostRuntime) -> Result<(), Fail> {
+        let cases: [(&[u8], &[u8]); 5] = [
+            (
+                b": permit",
+                b"systrace: f:2:1: found ':', expected a filter 'native-CALL: ...' or a header 'Policy: BINARY, Emulation: native'",
+            ),
+            (
+                b"linux-read: permit",
+                b"systrace: f:2:1: found 'linux-read', expected 'native-' and letters, digits or '_'",
+            ),
+            (
+                b"\nnative-read permit",
+                b"systrace: f:3:13: found 'permit', expected ':'",
+            ),
+            (
+                b"native-read: and",
+                b"systrace: f:2:14: found 'and', expected 'permit', 'deny', 'ask', 'not', 'true', '(' or a label",
+            ),
+            (
+                b"native-read: not permit",
+                b"systrace: f:2:18: found 'permit', expected 'not', 'true', '(' or a label",
+            ),
+        ];
+        for (row, wanted) in cases {
+            assert_eq!(rt; row_told(rt.alloc(), false, row)?.bytes(), wanted);
+        }
+        Ok(())
+    }
+
+    #[test]
+    fn tells_of_expressions(rt: HostRuntime) -> Result<(), Fail> {
+        let cases: [(&[u8], &[u8]); 8] = [
+            (
+                b"native-mmap: prot \"x\"",
+                b"systrace: f:2:19: found '\"x\"', expected '[' or one of match, eq, neq, sub, nsub, inpath",
+            ),
+            (
+                b"native-mmap: prot[x]",
+                b"systrace: f:2:19: found 'x', expected an index below 4294967296",
+            ),
+            (
+                b"native-mmap: prot[1 eq",
+                b"systrace: f:2:21: found 'eq', expected ']'",
+            ),
+            (
+                b"native-mmap: prot[1] is",
+                b"systrace: f:2:22: found 'is', expected one of match, eq, neq, sub, nsub, inpath",
+            ),
+            (
+                b"native-mmap: prot re \"x\"",
+                b"systrace: f:2:19: found 're', expected one of match, eq, neq, sub, nsub, inpath; 're' is not supported",
+            ),
+            (
+                b"native-mmap: prot eq x",
+                b"systrace: f:2:22: found 'x', expected a quoted text",
+            ),
+            (
+                b"native-read: true permit",
+                b"systrace: f:2:19: found 'permit', expected 'and', 'or', 'then', or ')' behind its '('",
+            ),
+            (
+                b"native-read: true then log",
+                b"systrace: f:2:24: found 'log', expected 'permit', 'deny' or 'ask'",
+            ),
+        ];
+        for (row, wanted) in cases {
+            assert_eq!(rt; row_told(rt.alloc(), false, row)?.bytes(), wanted);
+        }
+        Ok(())
+    }
+
+    #[test]
+    fn tells_the_arguments_of_a_call(rt: HostRuntime) -> Result<(), Fail> {
+        let cases: [(&[u8], &[u8]); 4] = [
+            (
+                b"native-fsread: uid eq \"0\" then permit",
+                b"systrace: f:2:16: found 'uid', expected an argument of the call: filename",
+            ),
+            (
+                b"native-rename: filename[2] eq \"/a\" then permit",
+                b"systrace: f:2:16: found 'filename', expected an argument of the call: filename, filename[1]",
+            ),
+            (
+                b"native-getpid: pid eq \"1\" then permit",
+                b"systrace: f:2:16: found 'pid', expected an argument of the call, which has none",
+            ),
+            (
+                b"native-chown: mode[x]",
+                b"systrace: f:2:15: found 'mode', expected an argument of the call: filename, uid, gid",
+            ),
+        ];
+        for (row, wanted) in cases {
+            assert_eq!(rt; row_told(rt.alloc(), false, row)?.bytes(), wanted);
+        }
+        Ok(())
+    }
+
+    #[test]
+    fn tells_of_actions(rt: HostRuntime) -> Result<(), Fail> {
+        let cases: [(&[u8], &[u8]); 8] = [
+            (
+                b"native-read: deny as root",
+                b"systrace: f:2:19: found 'as', expected '[', 'log', ',' or the end of the line",
+            ),
+            (
+                b"native-read: deny[:",
+                b"systrace: f:2:19: found ':', expected the name of an error in small letters, such as eacces",
+            ),
+            (
+                b"native-read: deny[EPERM]",
+                b"systrace: f:2:19: found 'EPERM', expected the name of an error in small letters, such as eacces",
+            ),
+            (
+                b"native-read: deny[eacces",
+                b"systrace: f:2:25: found the end of the file, expected ']'",
+            ),
+            (
+                b"native-read: deny[eacces] if",
+                b"systrace: f:2:27: found 'if', expected 'log', ',' or the end of the line",
+            ),
+            (
+                b"native-read: deny log log",
+                b"systrace: f:2:23: found 'log', expected ',' or the end of the line",
+            ),
+            (
+                b"native-read: permit if",
+                b"systrace: f:2:21: found 'if', expected 'as', 'log', ',' or the end of the line",
+            ),
+            (
+                b"native-read: permit log log",
+                b"systrace: f:2:25: found 'log', expected 'as', ',' or the end of the line",
+            ),
+        ];
+        for (row, wanted) in cases {
+            assert_eq!(rt; row_told(rt.alloc(), false, row)?.bytes(), wanted);
+        }
+        Ok(())
+    }
+
+    #[test]
+    fn tells_of_grants(rt: HostRuntime) -> Result<(), Fail> {
+        let cases: [(bool, &[u8], &[u8]); 7] = [
+            (
+                true,
+                b"native-bind: permit as ,",
+                b"systrace: f:2:24: found ',', expected ':' or the id of a user",
+            ),
+            (
+                true,
+                b"native-bind: permit as 1 2",
+                b"systrace: f:2:26: found '2', expected ':', 'log', ',' or the end of the line",
+            ),
+            (
+                true,
+                b"native-bind: permit log as 1 log",
+                b"systrace: f:2:30: found 'log', expected ':', ',' or the end of the line",
+            ),
+            (
+                true,
+                b"native-bind: permit as :,",
+                b"systrace: f:2:25: found ',', expected the id of a group",
+            ),
+            (
+                true,
+                b"native-bind: permit as daemon",
+                b"systrace: f:2:24: found 'daemon', expected an id below 4294967296, or the name of a known user or group",
+            ),
+            (
+                true,
+                b"native-setuid: permit as root",
+                b"systrace: f:2:23: found 'as', expected no 'as' on a call that sets ids",
+            ),
+            (
+                false,
+                b"native-bind: permit as root",
+                b"systrace: f:2:21: found 'as', expected no 'as' where no ids are given by '-c U:G'",
+            ),
+        ];
+        for (elevate, row, wanted) in cases {
+            assert_eq!(rt; row_told(rt.alloc(), elevate, row)?.bytes(), wanted);
+        }
+        Ok(())
+    }
+
+    #[test]
+    fn tells_of_predicates(rt: HostRuntime) -> Result<(), Fail> {
+        let cases: [(&[u8], &[u8]); 7] = [
+            (
+                b"native-read: permit, user",
+                b"systrace: f:2:22: found 'user', expected 'if'",
+            ),
+            (
+                b"native-read: permit, if root",
+                b"systrace: f:2:25: found 'root', expected 'user' or 'group'",
+            ),
+            (
+                b"native-read: permit, if user 0",
+                b"systrace: f:2:30: found '0', expected '=', '!=', '<' or '>'",
+            ),
+            (
+                b"native-read: permit, if user = \"root\"",
+                b"systrace: f:2:32: found '\"root\"', expected the id of a user",
+            ),
+            (
+                b"native-read: permit, if group = (",
+                b"systrace: f:2:33: found '(', expected the id of a group",
+            ),
+            (
+                b"native-read: permit, if user = www",
+                b"systrace: f:2:32: found 'www', expected an id below 4294967296, or the name of a known user or group",
+            ),
+            (
+                b"native-read: permit, if user = 0 log",
+                b"systrace: f:2:34: found 'log', expected the end of the line",
+            ),
+        ];
+        for (row, wanted) in cases {
+            assert_eq!(rt; row_told(rt.alloc(), false, row)?.bytes(), wanted);
+        }
+        Ok(())
+    }
+
+    #[test]
+    fn tells_of_what_is_no_token(rt: HostRuntime) -> Result<(), Fail> {
+        let cases: [(&[u8], &[u8]); 5] = [
+            (
+                b"native-read; permit",
+                b"systrace: f:2:12: found ';', expected a token",
+            ),
+            (
+                b"native-read: \xff",
+                b"systrace: f:2:14: found '\\xff', expected a token",
+            ),
+            (
+                b"native-mmap: prot eq \"/a then permit\n",
+                b"systrace: f:2:22: found '\"/a then permit', expected a text that is closed on its line",
+            ),
+            (
+                b"native-mmap: prot eq \"/a\\x0\" then permit",
+                b"systrace: f:2:25: found '\\x0', expected '\\x' and two hexadecimal digits that aren't 00",
+            ),
+            (
+                b"native-mmap: prot eq \"\\x00a\"",
+                b"systrace: f:2:23: found '\\x00', expected '\\x' and two hexadecimal digits that aren't 00",
+            ),
+        ];
+        for (row, wanted) in cases {
+            assert_eq!(rt; row_told(rt.alloc(), false, row)?.bytes(), wanted);
+        }
+        Ok(())
+    }
+
+    #[test]
+    fn tells_of_too_many(rt: HostRuntime) -> Result<(), Fail> {
+        let filters = repeated(rt.alloc(), 4097, b"native-read: permit\n", b"")?;
+        assert_eq!(rt;
+            told(rt.alloc(), filters.bytes())?.bytes(),
+            b"systrace: f:4098:1: found 'native-read', expected at most 4096 filters in all".as_slice()
+        );
+        let mut joins = repeated(rt.alloc(), 0, b"", b"native-read: ")?;
+        for _ in 0..65 {
+            joins.append(b"not ")?;
+        }
+        assert_eq!(rt;
+            told(rt.alloc(), joins.bytes())?.bytes(),
+            b"systrace: f:2:270: found 'not', expected at most 64 of 'not', 'and', 'or' and '(' in a filter".as_slice()
+        );
+        Ok(())
+    }
+
+    #[test]
+    fn tells_of_asking_where_policies_are_learnt(rt: HostRuntime) -> Result<(), Fail> {
+        let mut env = check_env(rt.alloc(), false)?;
+        env.learn = true;
+        let text = repeated(rt.alloc(), 0, b"", b"native-read: ask")?;
+        assert_eq!(rt;
+            told_by(rt.alloc(), &env, text.bytes())?.bytes(),
+            b"systrace: f:2:14: found 'ask', expected no 'ask' where policies are learnt".as_slice()
+        );
+        Ok(())
+    }
+
+    #[test]
+    fn shows_the_front_of_a_long_text(rt: HostRuntime) -> Result<(), Fail> {
+        let text =
+            b"Policy: \"0123456789abcdefghijklmnopqrstuvwxyzABCDEFGHIJKLMNOPQRSTUVWXYZ\", Emulation";
+        assert_eq!(rt;
+            told(rt.alloc(), text)?.bytes(),
+            b"systrace: f:1:9: found '\"0123456789abcdefghijklmnopqrstuvwxyzABCDEFGHIJKLMNOPQRSTUVW', expected a binary that begins with '/'".as_slice()
+        );
+        Ok(())
+    }
+}
