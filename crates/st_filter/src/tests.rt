@@ -96,98 +96,48 @@ fn holds_of_reading(alloc: Global, row: &[u8], name: &[u8]) -> Result<bool, Poli
     Ok(first_holds(&policies(alloc, row)?, &reading(alloc, name)?))
 }
 
+// Whether a test of the name holds of a reading of this name.
+fn test_holds(alloc: Global, test: &[u8], name: &[u8]) -> Result<bool, PolicyFault> {
+    let mut row = Text::of(alloc, b"native-fsread: filename ")?;
+    row.append(test)?;
+    row.append(b" then permit")?;
+    holds_of_reading(alloc, row.bytes(), name)
+}
+
 #[test]
-fn each_operator_compares(rt: HostRuntime) -> Result<(), Fail> {
-    let cases: [(&[u8], &[u8], bool); 18] = [
-        (
-            b"native-fsread: filename match \"/usr/*\" then permit",
-            b"/usr/lib/a",
-            true,
-        ),
-        (
-            b"native-fsread: filename match \"/usr/*\" then permit",
-            b"/usr",
-            false,
-        ),
-        (
-            b"native-fsread: filename match \"/[a-c]?\" then permit",
-            b"/bx/y",
-            true,
-        ),
-        (
-            b"native-fsread: filename eq \"/etc\" then permit",
-            b"/etc",
-            true,
-        ),
-        (
-            b"native-fsread: filename eq \"/etc\" then permit",
-            b"/etc/a",
-            false,
-        ),
-        (
-            b"native-fsread: filename neq \"/etc\" then permit",
-            b"/etc/a",
-            true,
-        ),
-        (
-            b"native-fsread: filename neq \"/etc\" then permit",
-            b"/etc",
-            false,
-        ),
-        (
-            b"native-fsread: filename sub \".ht\" then permit",
-            b"/www/.htaccess",
-            true,
-        ),
-        (
-            b"native-fsread: filename sub \".ht\" then permit",
-            b"/www/h.t",
-            false,
-        ),
-        (b"native-fsread: filename sub \"\" then permit", b"/", true),
-        (
-            b"native-fsread: filename nsub \".ht\" then permit",
-            b"/www/.htaccess",
-            false,
-        ),
-        (
-            b"native-fsread: filename nsub \".ht\" then permit",
-            b"/www/h.t",
-            true,
-        ),
-        (
-            b"native-fsread: filename inpath \"/var/www\" then permit",
-            b"/",
-            true,
-        ),
-        (
-            b"native-fsread: filename inpath \"/var/www\" then permit",
-            b"/var",
-            true,
-        ),
-        (
-            b"native-fsread: filename inpath \"/var/www\" then permit",
-            b"/var/www",
-            true,
-        ),
-        (
-            b"native-fsread: filename inpath \"/var/www\" then permit",
-            b"/va",
-            false,
-        ),
-        (
-            b"native-fsread: filename inpath \"/var/www\" then permit",
-            b"/var/www/a",
-            false,
-        ),
-        (
-            b"native-fsread: filename inpath \"var\" then permit",
-            b"/",
-            false,
-        ),
+fn bytes_are_the_same_or_stand_within(rt: HostRuntime) -> Result<(), Fail> {
+    let cases: [(&[u8], &[u8], bool); 9] = [
+        (b"eq \"/etc\"", b"/etc", true),
+        (b"eq \"/etc\"", b"/etc/a", false),
+        (b"neq \"/etc\"", b"/etc/a", true),
+        (b"neq \"/etc\"", b"/etc", false),
+        (b"sub \".ht\"", b"/www/.htaccess", true),
+        (b"sub \".ht\"", b"/www/h.t", false),
+        (b"sub \"\"", b"/", true),
+        (b"nsub \".ht\"", b"/www/.htaccess", false),
+        (b"nsub \".ht\"", b"/www/h.t", true),
     ];
-    for (row, name, answer) in cases {
-        assert_eq!(rt; holds_of_reading(rt.alloc(), row, name), Ok(answer));
+    for (test, name, answer) in cases {
+        assert_eq!(rt; test_holds(rt.alloc(), test, name), Ok(answer));
+    }
+    Ok(())
+}
+
+#[test]
+fn names_match_or_lead_to_a_path(rt: HostRuntime) -> Result<(), Fail> {
+    let cases: [(&[u8], &[u8], bool); 9] = [
+        (b"match \"/usr/*\"", b"/usr/lib/a", true),
+        (b"match \"/usr/*\"", b"/usr", false),
+        (b"match \"/[a-c]?\"", b"/bx/y", true),
+        (b"inpath \"/var/www\"", b"/", true),
+        (b"inpath \"/var/www\"", b"/var", true),
+        (b"inpath \"/var/www\"", b"/var/www", true),
+        (b"inpath \"/var/www\"", b"/va", false),
+        (b"inpath \"/var/www\"", b"/var/www/a", false),
+        (b"inpath \"var\"", b"/", false),
+    ];
+    for (test, name, answer) in cases {
+        assert_eq!(rt; test_holds(rt.alloc(), test, name), Ok(answer));
     }
     Ok(())
 }
