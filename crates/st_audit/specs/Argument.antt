@@ -4,7 +4,7 @@ use Rattle.st_calls.specs.declared.argument.ArgText.{ArgText}
 use Rattle.st_calls.specs.Argument.{name_of_label}
 use Rattle.st_lex.specs.Quote.{quoted}
 use Rattle.st_trace.specs.declared.entry.Cause.{Cause}
-use Rattle.st_trace.specs.declared.entry.Cause.TheVariants.{Filter, NoFilter, Fault}
+use Rattle.st_trace.specs.declared.entry.Cause.TheVariants.{Filter, NoFilter, Fault, Link}
 use Rattle.st_audit.specs.Answer.{Answer, parts_in}
 
 -- which of the arguments with a label: nothing for the first, and [N] for another
@@ -32,4 +32,5 @@ args_judged answers (Some q) = parts_in (answers q)
 abbrev pub args_denied : (ℕ → Option Answer) → Option ℕ → Cause → List ArgText
 args_denied answers seq (Filter n) = args_judged answers seq
 args_denied answers seq NoFilter = args_judged answers seq
+args_denied answers seq (Link name) = args_judged answers seq
 args_denied answers seq Fault = []

@@ -1,8 +1,10 @@
 use Rattle.std.specs.Prelude.{ℕ, List, ◌++◌, codes, decimal, Option, Some, None}
+use Rattle.st_lex.specs.Quote.{quoted}
+use Rattle.st_names.specs.Name.{printed_name}
 use Rattle.st_trace.specs.declared.entry.Cause.{Cause}
 use Rattle.st_trace.specs.declared.entry.Cause.TheVariants as cause
 use Rattle.st_audit.specs.declared.how.How.{How}
-use Rattle.st_audit.specs.declared.how.How.TheVariants.{Fast, Barred, Permit, Deny, NoFilter, Fault}
+use Rattle.st_audit.specs.declared.how.How.TheVariants.{Fast, Barred, Permit, Deny, NoFilter, Fault, Link}
 use Rattle.st_audit.specs.Answer.{Answer, permitting}
 
 -- how a call went
@@ -13,6 +15,7 @@ how_text (Permit n) = codes "permit#" ++ decimal n
 how_text (Deny n) = codes "deny#" ++ decimal n
 how_text NoFilter = codes "nofilter"
 how_text Fault = codes "fault"
+how_text (Link name) = codes "link " ++ quoted name
 
 -- a call that was made: the kernel permitted it by itself, or a filter did
 abbrev pub how_used : (ℕ → Option Answer) → Option ℕ → How
@@ -23,8 +26,10 @@ abbrev pub how_filtered : ℕ → Option ℕ → How
 how_filtered n None = Barred n
 how_filtered n (Some q) = Deny n
 
--- a call that was denied: the kernel refused it by itself, or a filter did; or there is no filter, or a fault was met
+-- a call that was denied: the kernel refused it by itself, or a filter did; or there is no filter, or a fault was
+-- met, or a name is a link now
 abbrev pub how_denied : Option ℕ → Cause → How
 how_denied seq (cause.Filter n) = how_filtered n seq
 how_denied seq cause.NoFilter = NoFilter
 how_denied seq cause.Fault = Fault
+how_denied seq (cause.Link name) = Link (printed_name name)

@@ -24,11 +24,11 @@ pub fn args_used(seq: Option<Seq>, args: &[ArgText]) -> &[ArgText]
 pub fn args_denied<'m>(
     answers: &'m BTreeMap<Seq, Answer<'_>>,
     seq: Option<Seq>,
-    cause: Cause,
+    cause: &Cause,
 ) -> &'m [ArgText]
-    ensures { result.now ≡ args_denied (answer_in answers.now) seq cause }
+    ensures { result.now ≡ args_denied (answer_in answers.now) seq cause.now }
 {
-    if cause == Cause::Fault {
+    if matches!(cause, Cause::Fault) {
         return &[];
     }
     let Some(seq) = seq else { return &[] };

@@ -18,6 +18,7 @@ use std::collections::BTreeMap;
 
 // Appends what an entry prints behind a history whose entered calls and applied answers are known.
 fn append_entry(
+    alloc: Global,
     text: &mut Text,
     input: &Input,
     entered: &BTreeMap<Tid, SysCall>,
@@ -52,8 +53,8 @@ fn append_entry(
             Some(call) => {
                 let told = Told {
                     call: *call,
-                    args: args_denied(answers, *seq, *cause),
-                    how: How::denied(*seq, *cause),
+                    args: args_denied(answers, *seq, cause),
+                    how: How::denied(alloc, *seq, cause)?,
                     outcome: CallResult::Failed(*errno),
                 };
                 append_traced_line(text, input, *tid, &told)
@@ -88,7 +89,7 @@ pub fn audit_text(alloc: Global, trace: &[Entry], input: &Input) -> Result<Text,
     let mut entered = BTreeMap::new(alloc);
     let mut answers = BTreeMap::new(alloc);
     for entry in trace {
-        append_entry(&mut text, input, &entered, &answers, entry)?;
+        append_entry(alloc, &mut text, input, &entered, &answers, entry)?;
         note_entered(&mut entered, entry)?;
         note_answer(&mut answers, entry)?;
     }

@@ -20,7 +20,7 @@ struct Caller<'a> {
 }
 
 /// What a line says of a call: with which arguments it was made or denied, how, and with what end.
-#[derive(Clone, Copy)]
+#[derive(Drop)]
 pub struct Told<'a> {
     pub call: SysCall,
     pub args: &'a [ArgText],
@@ -55,7 +55,7 @@ fn append_line(text: &mut Text, caller: &Caller<'_>, told: &Told<'_>) -> Result<
     append_caller(text, caller, told.call)?;
     append_args(text, told.args)?;
     text.push(b' ')?;
-    append_how(text, told.how)?;
+    append_how(text, &told.how)?;
     text.append(b" = ")?;
     append_result(text, told.outcome)?;
     text.push(b'\n')

@@ -2,6 +2,7 @@ use crate::audit_text;
 use st_base::{Errno, Ids, Pid, Sequence, Text, Tid};
 use st_calls::{ArgText, Label, Rule, Snapshot, SysCall, Verdict};
 use st_law::{Input, Mode, Options};
+use st_names::AbsName;
 use st_policy::PolicySet;
 use st_trace::{CallResult, Cause, Entry, ProcessRow, Start, ThreadRow, Way};
 use std::alloc::{AllocError, Global};
@@ -18,6 +19,7 @@ fn add_process(
         binary: Text::of(alloc, binary)?,
         uid: 1000,
         gid: 1000,
+        cwd: AbsName::root(alloc),
     })
 }
 
@@ -38,9 +40,18 @@ fn input_of(alloc: Global, start: Start) -> Input {
     }
 }
 
+// The name of one component.
+fn name_of(alloc: Global, part: &[u8]) -> Result<AbsName, AllocError> {
+    let mut name = AbsName::root(alloc);
+    name.push(Text::of(alloc, part)?)?;
+    Ok(name)
+}
+
 // A traced process with a thread.
 fn reader(alloc: Global) -> Result<Input, AllocError> {
     let mut start = Start {
+        users: Sequence::new(alloc),
+        groups: Sequence::new(alloc),
         tree: Sequence::new(alloc),
         processes: Sequence::new(alloc),
         threads: Sequence::new(alloc),
@@ -53,6 +64,8 @@ fn reader(alloc: Global) -> Result<Input, AllocError> {
 // A traced process, an untraced one, and a traced one with bytes that are quoted, with a thread each.
 fn input(alloc: Global) -> Result<Input, AllocError> {
     let mut start = Start {
+        users: Sequence::new(alloc),
+        groups: Sequence::new(alloc),
         tree: Sequence::new(alloc),
         processes: Sequence::new(alloc),
         threads: Sequence::new(alloc),
@@ -232,11 +245,13 @@ fn prints_refusals_and_faults(rt: HostRuntime) -> Result<(), Fail> {
         denied_held(1, Errno::ENOENT, Cause::Filter(2)),
         entered(1, SysCall::Open, Way::Held(2)),
         denied_held(2, Errno::EPERM, Cause::Fault),
+        entered(1, SysCall::Open, Way::Held(3)),
+        denied_held(1, Errno::ELOOP, Cause::Link(name_of(alloc, b"tmp")?)),
         used_held(3, names(alloc, 1, b"/tmp/z")?, alloc),
     ];
     let text = audit_text(alloc, &trace, &reader(alloc)?)?;
     let expected =
-        b"1.1 \"/bin/cat\" native-fsread filename=\"/etc/spwd\" deny#2 = ENOENT\n1.1 \"/bin/cat\" native-fsread fault = EPERM\n1.1 \"/bin/cat\" native-fsread filename[1]=\"/tmp/z\" permit#0 = 3\n";
+        b"1.1 \"/bin/cat\" native-fsread filename=\"/etc/spwd\" deny#2 = ENOENT\n1.1 \"/bin/cat\" native-fsread fault = EPERM\n1.1 \"/bin/cat\" native-fsread filename=\"/etc/spwd\" link \"/tmp\" = ELOOP\n1.1 \"/bin/cat\" native-fsread filename[1]=\"/tmp/z\" permit#0 = 3\n";
     assert_eq!(rt; text.bytes(), expected.as_slice());
     Ok(())
 }

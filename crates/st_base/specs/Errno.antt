@@ -1,4 +1,4 @@
-use Rattle.std.specs.Prelude.{ℕ, List, [], ◌∷◌, codes, map, find, Option}
+use Rattle.std.specs.Prelude.{ℕ, Bool, if◌then◌else◌, List, [], ◌∷◌, codes, map, find, Option, Some, None}
 use Rattle.std.specs.Str.{bytes_eq}
 use Rattle.std.specs.Char.{to_ascii_lowercase}
 use Rattle.st_base.specs.declared.errno.Errno.{Errno}
@@ -65,3 +65,13 @@ every_error =
 -- the error of this name, in small letters
 abbrev pub error_named : List ℕ → Option Errno
 error_named word = find (λ errno. bytes_eq (word_of_error errno) word) every_error
+
+-- a reason for refusal, where it is met
+abbrev pub when : Bool → Errno → Option Errno
+when met errno = if met then Some errno else None
+
+-- the first reason of those that are met, in their order
+abbrev pub first_of : List (Option Errno) → Option Errno
+first_of [] = None
+first_of (None ∷ reasons) = first_of reasons
+first_of (Some errno ∷ reasons) = Some errno

@@ -10,6 +10,12 @@ pub type Tid = u32;
 /// A worker's number, from 1.
 pub type Worker = u32;
 
+/// A memory's number, from 1: that of each first process is the process's own, and each that is made later has the next.
+pub type Space = u32;
+
+/// The number of an object of the file tree, from 1, which is the root.
+pub type Obj = u32;
+
 /// A message's sequence number, from 1; none is used twice.
 pub type Seq = u64;
 

@@ -1,3 +1,4 @@
-pub mod Call
 pub mod Argument
+pub mod Call
+pub mod Identity
 pub mod Spelling

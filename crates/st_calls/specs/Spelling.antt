@@ -1,8 +1,13 @@
 -- Spelling an argument from the words that were copied for it.
-use Rattle.std.specs.Prelude.{ℕ, ◌+◌, ◌/◌, ◌%◌, ◌==◌, nat_lt, nat_le, if◌then◌else◌, List, length, take, drop, flat_map, position, Option, Some, None}
+use Rattle.std.specs.Prelude.{ℕ, ◌+◌, ◌/◌, ◌%◌, ◌*◌, ◌==◌, ◌||◌, not, nat_lt, nat_le, if◌then◌else◌, Bool, List, [], ◌∷◌, ◌++◌, length, take, drop, flat_map, position, slice_index, codes, decimal, false, zero, suc, Option, Some, None}
+use Rattle.std.specs.List.{concat, join_with_byte, list_any, take_while}
+use Rattle.std.specs.Fmt.{radix_digits}
 use Rattle.std.specs.Int.{w64, to_le_bytes}
 use Rattle.st_base.specs.declared.errno.Errno.{Errno}
-use Rattle.st_base.specs.declared.errno.Errno.TheVariants.{EFAULT, ENAMETOOLONG}
+use Rattle.st_base.specs.declared.errno.Errno.TheVariants.{E2BIG, EFAULT, EINVAL, ENAMETOOLONG}
+pub use Rattle.st_base.specs.Memory.{space_words}
+use Rattle.st_calls.specs.declared.argument.PartKind.{PartKind}
+use Rattle.st_calls.specs.declared.argument.PartKind.TheVariants as kind
 
 pub data Spelled : Type 0 where
   -- the argument is this text
@@ -15,26 +20,123 @@ pub data Spelled : Type 0 where
 abbrev pub longest_name : ℕ
 longest_name = 1024
 
--- how many words a space has
-abbrev pub space_words : ℕ
-space_words = 8192
+-- the most bytes that a plain text may have
+abbrev pub longest_text : ℕ
+longest_text = 255
+
+-- how many parts argv may have, and how many bytes they may have together
+abbrev pub most_parts : ℕ
+most_parts = 16
+
+abbrev pub longest_argv : ℕ
+longest_argv = 1024
 
 -- the bytes of the words, from byte at of memory on, which lies in the first word
 abbrev pub bytes_of_words : ℕ → List ℕ → List ℕ
 bytes_of_words at words = drop (at % 8) (flat_map (to_le_bytes w64) words)
 
+-- the word at this place is next, if there is one
+abbrev pub next_word : ℕ → Spelled
+next_word place = if nat_le space_words place then Fault EFAULT else More place
+
+abbrev pub unfinished_text : ℕ → ℕ → ℕ → Spelled
+unfinished_text longest place count = if nat_lt longest count then Fault ENAMETOOLONG else next_word place
+
+abbrev pub ended_text : ℕ → List ℕ → ℕ → Option ℕ → Spelled
+ended_text longest bytes place (Some end) = Text (take end bytes)
+ended_text longest bytes place None = unfinished_text longest place (length bytes)
+
+abbrev pub is_zero : ℕ → Bool
+is_zero byte = byte == 0
+
+-- a text from byte at on, of which these words are copied: it ends before its first zero byte, and has at most so many bytes
+abbrev pub spell_text : ℕ → ℕ → List ℕ → Spelled
+spell_text longest at words =
+    let bytes = bytes_of_words at words in
+    ended_text longest bytes (at / 8 + length words) (position is_zero (take (longest + 1) bytes))
+
+-- the same for a name
 abbrev pub unfinished : ℕ → ℕ → Spelled
-unfinished place count =
-    if nat_lt longest_name count then Fault ENAMETOOLONG
-    else if nat_le space_words place then Fault EFAULT
-    else More place
+unfinished place count = unfinished_text longest_name place count
 
 abbrev pub ended_at : List ℕ → ℕ → Option ℕ → Spelled
-ended_at bytes place (Some end) = Text (take end bytes)
-ended_at bytes place None = unfinished place (length bytes)
+ended_at bytes place end = ended_text longest_name bytes place end
 
--- a name from byte at on, of which these words are copied: it ends before its first zero byte, and has at most 1,024 bytes
 abbrev pub spell_name : ℕ → List ℕ → Spelled
-spell_name at words =
-    let bytes = bytes_of_words at words in
-    ended_at bytes (at / 8 + length words) (position (λ b. b == 0) (take (longest_name + 1) bytes))
+spell_name at words = spell_text longest_name at words
+
+-- an address stands in one word: a length, which isn't looked at, the family, the port, the high byte first, and four bytes
+-- of the address
+abbrev pub address_text : List ℕ → List ℕ
+address_text bytes =
+    codes "inet-[" ++ decimal (slice_index bytes 4) ++ codes "." ++ decimal (slice_index bytes 5) ++ codes "." ++
+    decimal (slice_index bytes 6) ++ codes "." ++ decimal (slice_index bytes 7) ++ codes "]:" ++
+    decimal (256 * slice_index bytes 2 + slice_index bytes 3)
+
+-- the family of internet addresses
+abbrev pub internet : ℕ
+internet = 2
+
+abbrev pub spell_address : ℕ → List ℕ → Spelled
+spell_address at [] = if not (at % 8 == 0) then Fault EFAULT else next_word (at / 8)
+spell_address at (word ∷ words) =
+    if not (at % 8 == 0) || nat_le space_words (at / 8) then Fault EFAULT
+    else if not (slice_index (to_le_bytes w64 word) 1 == internet) then Fault EINVAL
+    else Text (address_text (to_le_bytes w64 word))
+
+abbrev pub space : ℕ
+space = 32
+
+-- what the next word of an argv belongs to
+pub data Reading : Type 0 where
+  -- it is the next pointer
+  Pointer : Reading
+  -- it is a word of the part that this pointer leads to, of which so many words and these bytes were read
+  Part : ℕ → ℕ → List ℕ → Reading
+
+-- how many bytes of a word stand in front of a part that begins in it
+abbrev pub before_part : ℕ → ℕ → ℕ
+before_part pointer zero = pointer % 8
+before_part pointer (suc words) = 0
+
+-- The rest of an argv whose pointers begin at this place, behind these parts: a pointer, the words of its text up to its first
+-- zero byte, the next pointer, and so on up to a pointer that is zero. The seventeenth part and the 1,025th byte are too many.
+abbrev pub spell_parts : ℕ → List (List ℕ) → Reading → List ℕ → Spelled
+spell_parts place parts Pointer [] = next_word (place + length parts)
+spell_parts place parts (Part pointer count taken) [] = next_word (pointer / 8 + count)
+spell_parts place parts Pointer (word ∷ words) =
+    if word == 0 then Text (join_with_byte space parts)
+    else if nat_le most_parts (length parts) then Fault E2BIG
+    else spell_parts place parts (Part word 0 []) words
+spell_parts place parts (Part pointer count taken) (word ∷ words) =
+    let bytes = drop (before_part pointer count) (to_le_bytes w64 word) in
+    let part = taken ++ take_while (λ byte. not (is_zero byte)) bytes in
+    if nat_lt longest_argv (length (concat parts) + length part) then Fault E2BIG
+    else if list_any is_zero bytes then spell_parts place (parts ++ part ∷ []) Pointer words
+    else spell_parts place parts (Part pointer (count + 1) part) words
+
+abbrev pub spell_argv : ℕ → List ℕ → Spelled
+spell_argv at words = if not (at % 8 == 0) then Fault EFAULT else spell_parts (at / 8) [] Pointer words
+
+-- the domain and the type of a socket, as policies write them
+abbrev pub domain_text : ℕ → List ℕ
+domain_text n = if n == 1 then codes "AF_UNIX" else if n == 2 then codes "AF_INET" else decimal n
+
+abbrev pub type_text : ℕ → List ℕ
+type_text n = if n == 1 then codes "SOCK_STREAM" else if n == 2 then codes "SOCK_DGRAM" else decimal n
+
+-- the low nine bits in octal digits, without leading zeros
+abbrev pub mode_text : ℕ → List ℕ
+mode_text n = radix_digits 8 false (n % 512)
+
+-- An argument of this kind, by its register and the words that were copied for it: texts, addresses and argv lie in memory,
+-- from the byte on that the register has; a number lies in the register.
+abbrev pub spell : PartKind → ℕ → List ℕ → Spelled
+spell kind.Name at words = spell_name at words
+spell kind.Plain at words = spell_text longest_text at words
+spell kind.Addr at words = spell_address at words
+spell kind.Argv at words = spell_argv at words
+spell kind.Decimal n words = Text (decimal n)
+spell kind.Octal n words = Text (mode_text n)
+spell kind.Domain n words = Text (domain_text n)
+spell kind.SockType n words = Text (type_text n)

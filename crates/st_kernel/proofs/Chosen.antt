@@ -4,6 +4,8 @@ use Rattle.std.proofs.Common.{◌≡◌, ◌≢◌, ◌≤◌, ◌<◌, ℕ, zer
 use Rattle.st_base.specs.declared.errno.Errno.{Errno}
 use Rattle.st_calls.specs.declared.argument.ArgText.{ArgText}
 use Rattle.st_calls.specs.declared.call.SysCall.{SysCall}
+use Rattle.st_calls.specs.declared.call.SysCall.TheVariants as fork
+use Rattle.st_trace.specs.Instructions.{no_registers}
 use Rattle.st_calls.specs.declared.judged.Snapshot.{Snapshot}
 use Rattle.st_calls.specs.declared.judged.Verdict.{Verdict}
 use Rattle.st_calls.specs.declared.rule.Rule.TheVariants.{FsRead}
@@ -12,8 +14,9 @@ use Rattle.st_names.specs.Name.{Components}
 use Rattle.st_names.specs.Tree.{look}
 use Rattle.st_names.specs.declared.seen.SeenText.{SeenText}
 use Rattle.st_memory.specs.Memory.{word_of}
-use Rattle.st_trace.specs.Effect.{Setting}
-use Rattle.st_trace.specs.Progress.{Progress, Word, Look, Stuck, Ready, progress_from}
+use Rattle.st_trace.specs.Served.{Setting}
+use Rattle.st_trace.specs.Progress.{Progress, Word, Look, Stuck, Ready}
+use Rattle.st_trace.specs.Served.{served_progress}
 use Rattle.st_trace.specs.Served.{is_open}
 use Rattle.st_trace.specs.declared.entry.Choice.TheVariants as choices
 use Rattle.st_trace.specs.declared.entry.Cause.TheVariants as cause
@@ -21,10 +24,10 @@ use Rattle.st_trace.specs.declared.entry.Entry.{Entry}
 use Rattle.st_trace.specs.declared.entry.Entry.TheVariants as entry
 use Rattle.st_trace.specs.declared.entry.Way.TheVariants.{Fast, Barred, Held}
 use Rattle.st_trace.specs.declared.start.Instr.{Instr}
-use Rattle.st_trace.specs.declared.start.Instr.TheVariants.{Store, Call}
+use Rattle.st_trace.specs.declared.start.Instr.TheVariants.{Store, Call, Fork}
 use Rattle.st_law.specs.declared.input.Input.{Input}
 use Rattle.st_law.specs.History.{History, Head, Pending, process, process_in, owner, owner_in, row_of, left, pending, has_ended, is_dying, byte_at, descriptors_at, posted, head, head_of, is_claimed, is_answered, fault_of, words, seens, turn, progress, progress_by, snapshot_by, judged, is_live, served, is_ready, worker_at, is_worker, tree_of, message_at, space_in}
-use Rattle.st_law.specs.Machine.{State, state, entry_of, thread_entry, proceeds, goes_on, finished, released, decides, decided, denied_by, used, answer_for, way_by, works, claims, least_waiting, waits, serves, answers_by}
+use Rattle.st_law.specs.Machine.{State, state, entry_of, thread_entry, proceeds, goes_on, enters, finished, released, decides, decided, denied_by, used, answer_for, way_by, works, claims, least_waiting, waits, serves, answers_by}
 use Rattle.st_law.specs.Lawful.{IsLawfulBack}
 use Rattle.st_law.proofs.Ties.{seen, state-is}
 use Rattle.st_law.proofs.Held.{IsOpen, IfPending, Fine, invariant}
@@ -46,7 +49,7 @@ owner_one i one = (λ k. owner_in (row_of (one.threads k) 1)) ∙ (λ k. unwrap_
 
 -- ---- progress by the copies
 
-first_by : (opening : Bool) (regs : List ℕ) (ws : ℕ → List ℕ) (ss : ℕ → List SeenText) → progress_from 0 (cond opening (args_of FsRead) []) regs [] ws ss ≡ progress_from 0 (cond opening (args_of FsRead) []) regs [] (λ j. ws 0) (λ j. ss 0)
+first_by : (opening : Bool) (regs : List ℕ) (ws : ℕ → List ℕ) (ss : ℕ → List SeenText) → served_progress 0 (cond opening (args_of FsRead) []) regs [] ws ss ≡ served_progress 0 (cond opening (args_of FsRead) []) regs [] (λ j. ws 0) (λ j. ss 0)
 first_by true regs ws ss = refl
 first_by false regs ws ss = refl
 
@@ -365,15 +368,19 @@ module _ (i : Input) (one : IsOneThread i) (h : History) (lawful : IsLawfulBack 
 -- ---- a thread goes on where no call is pending
 
 traced_one : (i : Input) → IsOneThread i → (process i 1).traced ≡ true
-traced_one i one = (λ k. (process_in (row_of (one.processes k) 1)).traced) ∙ one.traced
+traced_one i one = (λ k. (process_in 1 (row_of (one.processes k) 1)).traced) ∙ one.traced
+
+enters_some : (i : Input) → IsOneThread i → (n : ℕ) (call : SysCall) (regs : List ℕ) → (y : Entry) × (enters i (process i 1) n 1 call regs ≡ Some y)
+enters_some i one n call regs = (
+  entry.Entered 1 call regs (way_by n (answer_for i (process i 1) call)),
+  λ k. option_map (λ way. entry.Entered 1 call regs way) (cond (traced_one i one k) (Some (way_by n (answer_for i (process i 1) call))) None),
+)
 
 pub goes_some : (i : Input) → IsOneThread i → (n : ℕ) (rest : List Instr) → (y : Entry) × (goes_on i (process i 1) n 1 rest ≡ Some y)
 goes_some i one n [] = (entry.Ended 1, refl)
 goes_some i one n (Store place word ∷ later) = (entry.Stored 1 place word, refl)
-goes_some i one n (Call call regs ∷ later) = (
-  entry.Entered 1 call regs (way_by n (answer_for i (process i 1) call)),
-  λ k. option_map (λ way. entry.Entered 1 call regs way) (cond (traced_one i one k) (Some (way_by n (answer_for i (process i 1) call))) None),
-)
+goes_some i one n (Call call regs ∷ later) = enters_some i one n call regs
+goes_some i one n (Fork child ∷ later) = enters_some i one n fork.Fork no_registers
 
 -- ---- no others move
 

@@ -15,13 +15,16 @@ use Rattle.st_names.specs.declared.seen.SeenText.{SeenText}
 use Rattle.st_names.specs.Tree.{Tree, root_only, add_object}
 use Rattle.st_names.proofs.Endings.{AreWithin, AreWithin-push, link_length}
 use Rattle.st_names.proofs.Looks.{AreNoLinks, AreNoLinks-push, is_link, look-no_link, few_looks}
-use Rattle.st_trace.specs.Progress.{Progress, Word, Look, Stuck, Ready, progress_from, by_spelling, by_walk}
-use Rattle.st_trace.specs.Served.{is_open}
-use Rattle.st_trace.specs.declared.entry.Entry.TheVariants.{Stored, Entered, Claimed, Copied, Looked, Faulted, Answered, Used, Denied, Ended}
+use Rattle.st_trace.specs.Progress.{Progress, Word, Look, Stuck, Ready}
+use Rattle.st_trace.specs.Served.{served_progress, by_spelling, by_walk}
+use Rattle.st_calls.specs.declared.call.SysCall.{SysCall}
+use Rattle.st_trace.specs.Instructions.{Makes}
+use Rattle.st_trace.specs.Served.{is_open, is_link_row, HaveNoLinks}
+use Rattle.st_trace.specs.declared.entry.Entry.TheVariants.{Stored, Entered, Claimed, Copied, Looked, Faulted, Answered, Used, Denied, Ended, Replied, Learned}
 use Rattle.st_trace.specs.declared.entry.Way.{Way}
-use Rattle.st_trace.specs.declared.entry.Way.TheVariants.{Fast, Barred, Held}
+use Rattle.st_trace.specs.declared.entry.Way.TheVariants.{Fast, Barred, Held, Untraced}
 use Rattle.st_trace.specs.declared.start.Instr.{Instr}
-use Rattle.st_trace.specs.declared.start.Instr.TheVariants.{Store, Call}
+use Rattle.st_trace.specs.declared.start.Instr.TheVariants.{Store, Call, Fork}
 use Rattle.st_trace.specs.declared.start.RowKind.{RowKind}
 use Rattle.st_trace.specs.declared.start.RowKind.TheVariants as row_kind
 use Rattle.st_trace.specs.declared.start.TreeRow.{TreeRow}
@@ -51,7 +54,7 @@ spelled at cwd words seens none (spelling.Fault errno) e = tt
 spelled at cwd words seens none (spelling.Text text) e =
     walking text cwd words seens (short_text at words text e) none (walk.start_walk text cwd true seens) refl
 
-by_args : (opening : Bool) (regs : List ℕ) (cwd : Components) (words : ℕ → List ℕ) (seens : ℕ → List SeenText) → AreWithin 0 (seens 0) → Bounded 0 (words 0) (seens 0) (progress_from 0 (cond opening (args_of FsRead) []) regs cwd words seens)
+by_args : (opening : Bool) (regs : List ℕ) (cwd : Components) (words : ℕ → List ℕ) (seens : ℕ → List SeenText) → AreWithin 0 (seens 0) → Bounded 0 (words 0) (seens 0) (served_progress 0 (cond opening (args_of FsRead) []) regs cwd words seens)
 by_args false regs cwd words seens none = tt
 by_args true regs cwd words seens none = spelled (slice_index regs 0) cwd (words 0) (seens 0) none (spelling.spell_name (slice_index regs 0) (words 0)) refl
 
@@ -61,43 +64,53 @@ bounded (Some hd) words seens none = by_args (is_open hd.call) hd.regs hd.cwd wo
 
 -- ---- a script's tree has no links
 
-row_kind-no_link : (kind : RowKind) (uid gid mode : ℕ) → is_link (node_by kind uid gid mode).kind ≡ false
-row_kind-no_link row_kind.Dir uid gid mode = refl
-row_kind-no_link (row_kind.File content) uid gid mode = refl
+row_kind-no_link : (kind : RowKind) (uid gid mode : ℕ) → is_link_row kind ≡ false → is_link (node_by kind uid gid mode).kind ≡ false
+row_kind-no_link row_kind.Dir uid gid mode plain = refl
+row_kind-no_link (row_kind.File content) uid gid mode plain = refl
+row_kind-no_link (row_kind.Link target) uid gid mode plain = plain
 
-tree_from-no_links : (tree : Tree) (rows : List TreeRow) → AreNoLinks tree.objects → AreNoLinks (tree_from tree rows).objects
-tree_from-no_links tree [] all = all
-tree_from-no_links tree (row ∷ rows) all =
-    tree_from-no_links (add_object tree row.name (node_of_row row.new)) rows
-    (AreNoLinks-push tree.objects (node_of_row row.new) all (row_kind-no_link row.new.kind row.new.uid row.new.gid row.new.mode))
+tree_from-no_links : (tree : Tree) (rows : List TreeRow) → HaveNoLinks rows → AreNoLinks tree.objects → AreNoLinks (tree_from tree rows).objects
+tree_from-no_links tree [] plain all = all
+tree_from-no_links tree (row ∷ rows) plain all =
+    tree_from-no_links (add_object tree row.name (node_of_row row.new)) rows plain.1
+    (AreNoLinks-push tree.objects (node_of_row row.new) all (row_kind-no_link row.new.kind row.new.uid row.new.gid row.new.mode plain.0))
 
 grow_within : (b : Bool) (before : List SeenText) (seen : SeenText) → AreWithin 0 before → link_length seen ≤ 0 → AreWithin 0 (cond b (before ++ seen ∷ []) before)
 grow_within true before seen all here = AreWithin-push 0 before seen all here
 grow_within false before seen all here = all
 
-seens-within : (i : Input) (h : History) (q j : ℕ) → IsLawfulBack i h → AreWithin 0 (seens h q j)
-seens-within i [] q j l = tt
-seens-within i (Stored t place word ∷ h) q j l = seens-within i h q j l.1
-seens-within i (Entered t call regs way ∷ h) q j l = seens-within i h q j l.1
-seens-within i (Claimed w p ∷ h) q j l = seens-within i h q j l.1
-seens-within i (Copied p part place word ∷ h) q j l = seens-within i h q j l.1
-seens-within i (Looked p part name seen ∷ h) q j l =
-    grow_within (p == q && part == j) (seens h q j) seen (seens-within i h q j l.1)
-    (subst (λ s. link_length s ≤ 0) (sym l.0.seen_is) (look-no_link (tree_of i) name (tree_from-no_links root_only i.start.tree (refl, tt))))
-seens-within i (Faulted p errno ∷ h) q j l = seens-within i h q j l.1
-seens-within i (Answered w s v applied ∷ h) q j l = seens-within i h q j l.1
-seens-within i (Used t seq call regs args ids result changes ∷ h) q j l = seens-within i h q j l.1
-seens-within i (Denied t seq errno cause ∷ h) q j l = seens-within i h q j l.1
-seens-within i (Ended t ∷ h) q j l = seens-within i h q j l.1
+seens-within : (i : Input) → HaveNoLinks i.start.tree → (h : History) (q j : ℕ) → IsLawfulBack i h → AreWithin 0 (seens h q j)
+seens-within i plain [] q j l = tt
+seens-within i plain (Stored t place word ∷ h) q j l = seens-within i plain h q j l.1
+seens-within i plain (Entered t call regs way ∷ h) q j l = seens-within i plain h q j l.1
+seens-within i plain (Claimed w p ∷ h) q j l = seens-within i plain h q j l.1
+seens-within i plain (Copied p part place word ∷ h) q j l = seens-within i plain h q j l.1
+seens-within i plain (Looked p part name seen ∷ h) q j l =
+    grow_within (p == q && part == j) (seens h q j) seen (seens-within i plain h q j l.1)
+    (subst (λ s. link_length s ≤ 0) (sym l.0.seen_is) (look-no_link (tree_of i) name (tree_from-no_links root_only i.start.tree plain (refl, tt))))
+seens-within i plain (Faulted p errno ∷ h) q j l = seens-within i plain h q j l.1
+seens-within i plain (Answered w s v applied ∷ h) q j l = seens-within i plain h q j l.1
+seens-within i plain (Used t seq call regs args ids result changes ∷ h) q j l = seens-within i plain h q j l.1
+seens-within i plain (Denied t seq errno cause ∷ h) q j l = seens-within i plain h q j l.1
+seens-within i plain (Ended t ∷ h) q j l = seens-within i plain h q j l.1
+seens-within i plain (Replied p reply n ∷ h) q j l = absurd l.0
+seens-within i plain (Learned p n ∷ h) q j l = absurd l.0
 
-pub due : (i : Input) (h : History) (q : ℕ) → IsLawfulBack i h → Bounded 0 (words h q 0) (seens h q 0) (progress i h q)
-due i h q l = bounded (head i h q) (words h q) (seens h q) (seens-within i h q 0 l)
+pub due : (i : Input) → HaveNoLinks i.start.tree → (h : History) (q : ℕ) → IsLawfulBack i h → Bounded 0 (words h q 0) (seens h q 0) (progress i h q)
+due i plain h q l = bounded (head i h q) (words h q) (seens h q) (seens-within i plain h q 0 l)
 
 -- ---- what a run has left to do
 
 abbrev pub cost_of : Instr → ℕ
 cost_of (Store place word) = 1
 cost_of (Call call regs) = 2000
+cost_of (Fork child) = 2000
+
+-- an instruction that makes a call
+pub makes_cost : (x : Instr) (call : SysCall) (regs : List ℕ) → Makes x call regs → cost_of x ≡ 2000
+makes_cost (Store place word) call regs makes = absurd makes
+makes_cost (Call own own_regs) call regs makes = refl
+makes_cost (Fork child) call regs makes = refl
 
 abbrev pub left_cost : List Instr → ℕ
 left_cost [] = 0
@@ -111,6 +124,7 @@ message_cost claimed None false w s = 1 + cond claimed 0 1 + (129 - w) + (1024 -
 abbrev pub way_cost : History → Way → ℕ
 way_cost h Fast = 1
 way_cost h (Barred n) = 1
+way_cost h Untraced = 1
 way_cost h (Held q) = 1 + message_cost (is_claimed h q) (fault_of h q) (is_answered h q) (length (words h q 0)) (length (seens h q 0))
 
 abbrev pub pending_cost : History → Option Pending → ℕ
@@ -133,11 +147,13 @@ message_small claimed None false w s = let small = claimed_small claimed in omeg
 pub way_small : (h : History) (way : Way) → way_cost h way ≤ 1156
 way_small h Fast = omega arith
 way_small h (Barred n) = omega arith
+way_small h Untraced = omega arith
 way_small h (Held q) = let small = message_small (is_claimed h q) (fault_of h q) (is_answered h q) (length (words h q 0)) (length (seens h q 0)) in omega (arith, small)
 
 pub way_some : (h : History) (way : Way) → 1 ≤ way_cost h way
 way_some h Fast = omega arith
 way_some h (Barred n) = omega arith
+way_some h Untraced = omega arith
 way_some h (Held q) = omega arith
 
 pub pending_small : (h : History) (o : Option Pending) → pending_cost h o ≤ 1156

@@ -4,9 +4,9 @@ use Rattle.std.proofs.Common.{◌≡◌, ◌≤◌, ℕ, zero, suc, ◌+◌, ◌
 use Rattle.st_trace.specs.declared.entry.Choice.{Choice}
 use Rattle.st_trace.specs.declared.entry.Choice.TheVariants.{Thread, Worker}
 use Rattle.st_trace.specs.declared.entry.Entry.{Entry}
-use Rattle.st_trace.specs.declared.entry.Entry.TheVariants.{Stored, Entered, Claimed, Copied, Looked, Faulted, Answered, Used, Denied, Ended}
+use Rattle.st_trace.specs.declared.entry.Entry.TheVariants.{Stored, Entered, Claimed, Copied, Looked, Faulted, Answered, Used, Denied, Ended, Replied, Learned}
 use Rattle.st_trace.specs.declared.start.Instr.{Instr}
-use Rattle.st_trace.specs.declared.start.Instr.TheVariants.{Store, Call}
+use Rattle.st_trace.specs.declared.start.Instr.TheVariants.{Store, Call, Fork}
 use Rattle.st_law.specs.declared.input.Input.{Input}
 use Rattle.st_law.specs.History.{History, body, body_in, row_of, left, pending, has_ended}
 use Rattle.st_law.specs.Machine.{State, after, state, entry_of, Move, move_or, first_from, first_enabled, rest, most_steps}
@@ -22,6 +22,7 @@ use Rattle.st_kernel.proofs.Lowering.{lowers}
 one_cost : (x : Instr) → cost_of x ≤ 2000
 one_cost (Store place word) = omega arith
 one_cost (Call call regs) = omega arith
+one_cost (Fork child) = omega arith
 
 all_cost : (xs : List Instr) → left_cost xs ≤ 2000 * length xs
 all_cost [] = omega arith
@@ -36,6 +37,8 @@ left_cheaper : (i : Input) (h : History) (t : ℕ) → left_cost (left i h t) �
 left_cheaper i [] t = omega arith
 left_cheaper i (Stored u place word ∷ h) t = drop_cheaper (u == t) (left i h t) _ (left_cheaper i h t)
 left_cheaper i (Entered u call regs way ∷ h) t = drop_cheaper (u == t) (left i h t) _ (left_cheaper i h t)
+left_cheaper i (Replied q reply n ∷ h) t = left_cheaper i h t
+left_cheaper i (Learned q n ∷ h) t = left_cheaper i h t
 left_cheaper i (Claimed w q ∷ h) t = left_cheaper i h t
 left_cheaper i (Copied q part place word ∷ h) t = left_cheaper i h t
 left_cheaper i (Looked q part name seen ∷ h) t = left_cheaper i h t

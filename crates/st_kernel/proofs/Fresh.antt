@@ -7,9 +7,9 @@ use Rattle.st_trace.specs.declared.entry.CallResult.{CallResult}
 use Rattle.st_trace.specs.declared.entry.CallResult.TheVariants.{Value, Failed}
 use Rattle.st_calls.specs.declared.call.SysCall.TheVariants.{Open}
 use Rattle.st_trace.specs.declared.entry.Entry.{Entry}
-use Rattle.st_trace.specs.declared.entry.Entry.TheVariants.{Stored, Entered, Claimed, Copied, Looked, Faulted, Answered, Used, Denied, Ended}
+use Rattle.st_trace.specs.declared.entry.Entry.TheVariants.{Stored, Entered, Claimed, Copied, Looked, Faulted, Answered, Used, Denied, Ended, Replied, Learned}
 use Rattle.st_trace.specs.declared.entry.Way.{Way}
-use Rattle.st_trace.specs.declared.entry.Way.TheVariants.{Fast, Barred, Held}
+use Rattle.st_trace.specs.declared.entry.Way.TheVariants.{Fast, Barred, Held, Untraced}
 use Rattle.st_law.specs.declared.input.Input.{Input}
 use Rattle.st_law.specs.History.{History, Pending, owner, pending, posted, is_claimed, words, seens, descriptors_at, opens_one}
 use Rattle.st_law.specs.Lawful.{IsServed, IsLawful, IsLawfulBack}
@@ -27,6 +27,7 @@ held_low i h lawful q x =
 abbrev NumberedWay : Way → Type 0
 NumberedWay Fast = Unit {0}
 NumberedWay (Barred n) = Unit {0}
+NumberedWay Untraced = Unit {0}
 NumberedWay (Held q) = 1 ≤ q
 
 abbrev Numbered : Pending → Type 0
@@ -43,12 +44,15 @@ if_closed false o x = x
 way_numbered : (i : Input) (h : History) (t : ℕ) (call : SysCall) (regs : List ℕ) (way : Way) → IsLawful i h (Entered t call regs way) → NumberedWay way
 way_numbered i h t call regs Fast l = tt
 way_numbered i h t call regs (Barred n) l = tt
+way_numbered i h t call regs Untraced l = tt
 way_numbered i h t call regs (Held q) l = omega (arith, l.way_is.0)
 
 numbered : (i : Input) (h : History) → IsLawfulBack i h → (t : ℕ) → IfPending Numbered (pending h t)
 numbered i [] lawful t = tt
 numbered i (Stored u place word ∷ h) lawful t = numbered i h lawful.1 t
 numbered i (Entered u call regs way ∷ h) lawful t = if_entered (u == t) (record { call = call; regs = regs; way = way }) (pending h t) (way_numbered i h u call regs way lawful.0) (numbered i h lawful.1 t)
+numbered i (Replied q reply n ∷ h) lawful t = numbered i h lawful.1 t
+numbered i (Learned q n ∷ h) lawful t = numbered i h lawful.1 t
 numbered i (Claimed w q ∷ h) lawful t = numbered i h lawful.1 t
 numbered i (Copied q part place word ∷ h) lawful t = numbered i h lawful.1 t
 numbered i (Looked q part name seen ∷ h) lawful t = numbered i h lawful.1 t
@@ -76,6 +80,7 @@ other_number p q n false e low high = refl
 posted_more : (h : History) (t : ℕ) (call : SysCall) (regs : List ℕ) (way : Way) → posted h ≤ posted (Entered t call regs way ∷ h)
 posted_more h t call regs Fast = omega arith
 posted_more h t call regs (Barred n) = omega arith
+posted_more h t call regs Untraced = omega arith
 posted_more h t call regs (Held q) = omega arith
 
 module _ (i : Input) (one : IsOneThread i) where
@@ -87,6 +92,8 @@ module _ (i : Input) (one : IsOneThread i) where
         unread = λ q j high. f.unread q j (omega (arith, more, high));
         unseen = λ q j high. f.unseen q j (omega (arith, more, high));
       }
+  fresh_after h lawful f (Replied q reply n) l = absurd l
+  fresh_after h lawful f (Learned q n) l = absurd l
   fresh_after h lawful f (Claimed w p) l =
       let low = held_low i h lawful p ((one_run i one h lawful).live_held p l.live) in record {
         unclaimed = λ q high. (λ k. other_number p q (posted h) (p == q) refl low high k || is_claimed h q) ∙ f.unclaimed q high;
@@ -122,7 +129,10 @@ posted_small [] = omega arith
 posted_small (Stored t place word ∷ h) = let less = posted_small h in omega (arith, less)
 posted_small (Entered t call regs Fast ∷ h) = let less = posted_small h in omega (arith, less)
 posted_small (Entered t call regs (Barred n) ∷ h) = let less = posted_small h in omega (arith, less)
+posted_small (Entered t call regs Untraced ∷ h) = let less = posted_small h in omega (arith, less)
 posted_small (Entered t call regs (Held q) ∷ h) = let less = posted_small h in omega (arith, less)
+posted_small (Replied q reply n ∷ h) = let less = posted_small h in omega (arith, less)
+posted_small (Learned q n ∷ h) = let less = posted_small h in omega (arith, less)
 posted_small (Claimed w q ∷ h) = let less = posted_small h in omega (arith, less)
 posted_small (Copied q part place word ∷ h) = let less = posted_small h in omega (arith, less)
 posted_small (Looked q part name seen ∷ h) = let less = posted_small h in omega (arith, less)
@@ -145,6 +155,8 @@ pub descriptors_small : (i : Input) (h : History) (p : ℕ) → descriptors_at i
 descriptors_small i [] p = omega arith
 descriptors_small i (Stored t place word ∷ h) p = let less = descriptors_small i h p in omega (arith, less)
 descriptors_small i (Entered t call regs way ∷ h) p = let less = descriptors_small i h p in omega (arith, less)
+descriptors_small i (Replied q reply n ∷ h) p = let less = descriptors_small i h p in omega (arith, less)
+descriptors_small i (Learned q n ∷ h) p = let less = descriptors_small i h p in omega (arith, less)
 descriptors_small i (Claimed w q ∷ h) p = let less = descriptors_small i h p in omega (arith, less)
 descriptors_small i (Copied q part place word ∷ h) p = let less = descriptors_small i h p in omega (arith, less)
 descriptors_small i (Looked q part name seen ∷ h) p = let less = descriptors_small i h p in omega (arith, less)

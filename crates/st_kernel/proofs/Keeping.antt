@@ -6,7 +6,7 @@ use Rattle.std.specs.Int.{w64, to_le_bytes, from_le_bytes}
 use Rattle.std.specs.List.{range_with_len}
 use Rattle.st_memory.specs.Memory.{byte_in, stored_in, word_of}
 use Rattle.st_trace.specs.declared.entry.Entry.{Entry}
-use Rattle.st_trace.specs.declared.entry.Entry.TheVariants.{Stored, Entered, Claimed, Copied, Looked, Faulted, Answered, Used, Denied, Ended}
+use Rattle.st_trace.specs.declared.entry.Entry.TheVariants.{Stored, Entered, Claimed, Copied, Looked, Faulted, Answered, Used, Denied, Ended, Replied, Learned}
 use Rattle.st_law.specs.declared.input.Input.{Input}
 use Rattle.st_law.specs.History.{History, owner, pending, is_dying, byte_at, descriptors_at, opens_one, progress}
 use Rattle.st_law.specs.Machine.{thread_after}
@@ -48,6 +48,8 @@ module _ (i : Input) (one : IsOneThread i) (h : History) (lawful : IsLawfulBack 
     its : (b : ℕ) → byte_at i (Stored t place word ∷ h) 1 b ≡ stored_in (byte_at i h 1) place word b
     its b = λ k. cond (eq-eqb 1 (owner i t) (sym (owned t l.running)) k) (stored_in (byte_at i h 1) place word b) (byte_at i h 1 b)
   stores (Entered t call regs way) l spaces after m s = subst (IsMemory i (Entered t call regs way ∷ h)) (sym s) (record { one = m.one; bytes = m.bytes })
+  stores (Replied q reply n) l spaces after m s = absurd l
+  stores (Learned q n) l spaces after m s = absurd l
   stores (Claimed w q) l spaces after m s = subst (IsMemory i (Claimed w q ∷ h)) (sym s) (record { one = m.one; bytes = m.bytes })
   stores (Copied q part place word) l spaces after m s = subst (IsMemory i (Copied q part place word ∷ h)) (sym s) (record { one = m.one; bytes = m.bytes })
   stores (Looked q part name seen) l spaces after m s = subst (IsMemory i (Looked q part name seen ∷ h)) (sym s) (record { one = m.one; bytes = m.bytes })
@@ -62,6 +64,8 @@ module _ (i : Input) (one : IsOneThread i) (h : History) (lawful : IsLawfulBack 
   opened-is : (e : Entry) → IsLawful i h e → descriptors_at i (e ∷ h) 1 ≡ descriptors_at i h 1 + opened_by e
   opened-is (Stored t place word) l = omega arith
   opened-is (Entered t call regs way) l = omega arith
+  opened-is (Replied q reply n) l = absurd l
+  opened-is (Learned q n) l = absurd l
   opened-is (Claimed w q) l = omega arith
   opened-is (Copied q part place word) l = omega arith
   opened-is (Looked q part name seen) l = omega arith
@@ -83,6 +87,8 @@ module _ (i : Input) (one : IsOneThread i) (h : History) (lawful : IsLawfulBack 
   pub is_due : (e : Entry) → IsLawful i h e → (spaces : List (List ℕ)) (thread : machine.Thread) (standing : Standing) (kept : held.Held) → IsKept i h spaces thread standing kept → IsDue kept.copies e
   is_due (Stored t place word) l spaces thread standing kept k = tt
   is_due (Entered t call regs way) l spaces thread standing kept k = tt
+  is_due (Replied q reply n) l spaces thread standing kept k = absurd l
+  is_due (Learned q n) l spaces thread standing kept k = absurd l
   is_due (Claimed w q) l spaces thread standing kept k = tt
   is_due (Copied q part place word) l spaces thread standing kept k = sym (served_progress spaces thread standing kept k q l.served) ∙ l.due
   is_due (Looked q part name seen) l spaces thread standing kept k = sym (served_progress spaces thread standing kept k q l.served) ∙ l.due

@@ -14,10 +14,10 @@ use Rattle.st_trace.specs.declared.entry.CallResult.{CallResult}
 use Rattle.st_trace.specs.declared.entry.Cause.{Cause}
 use Rattle.st_trace.specs.declared.entry.Change.{Change}
 use Rattle.st_trace.specs.declared.entry.Entry.{Entry}
-use Rattle.st_trace.specs.declared.entry.Entry.TheVariants.{Stored, Entered, Claimed, Copied, Looked, Faulted, Answered, Used, Denied, Ended}
+use Rattle.st_trace.specs.declared.entry.Entry.TheVariants.{Stored, Entered, Claimed, Copied, Looked, Faulted, Answered, Used, Denied, Ended, Replied, Learned}
 use Rattle.st_trace.specs.declared.entry.Way.{Way}
 use Rattle.st_trace.specs.declared.start.Instr.{Instr}
-use Rattle.st_trace.specs.declared.start.Instr.TheVariants.{Store, Call}
+use Rattle.st_trace.specs.declared.start.Instr.TheVariants.{Store}
 use Rattle.st_law.specs.declared.input.Input.{Input}
 use Rattle.st_law.specs.History.{History, Pending, owner, left, pending, has_ended, is_dying, is_live, lives, is_claimed, is_answered, fault_of, words, seens, turn}
 use Rattle.st_law.specs.Lawful.{IsRunning, IsStored, IsEntered, IsClaimed, IsCopied, IsLooked, IsFaulted, IsAnswered, IsUsed, IsDenied, IsEnded, IsLawful, IsLawfulBack}
@@ -26,7 +26,7 @@ use Rattle.st_kernel.specs.Runs.{IsOneThread}
 use Rattle.st_kernel.specs.Kept.{is_held, HasHeld}
 use Rattle.st_kernel.proofs.One.{first_thread, at_turn, one_run}
 use Rattle.st_kernel.proofs.Quiet.{quiet}
-use Rattle.st_kernel.proofs.Ending.{Bounded, cost, left_cost, message_cost, way_cost, pending_cost, way_small, way_some, due}
+use Rattle.st_kernel.proofs.Ending.{Bounded, cost, cost_of, makes_cost, left_cost, message_cost, way_cost, pending_cost, way_small, way_some, due}
 
 cost_is : (i : Input) (h : History) (xs : List Instr) (o : Option Pending) → has_ended h 1 ≡ false → left i h 1 ≡ xs → pending h 1 ≡ o → cost i h ≡ 1 + left_cost xs + pending_cost h o
 cost_is i h xs o a b c = λ k. cond (a k) 0 (1 + left_cost (b k) + pending_cost h (c k))
@@ -66,13 +66,14 @@ module _ (i : Input) (one : IsOneThread i) (h : History) (lawful : IsLawfulBack 
   entered : (t : ℕ) (call : SysCall) (regs : List ℕ) (way : Way) → IsEntered i h t call regs way → cost i (Entered t call regs way ∷ h) < cost i h
   entered t call regs way l =
       let first = first_of t l.running in
-      let next : left i h 1 ≡ Call call regs ∷ l.later = subst (λ n. left i h n ≡ Call call regs ∷ l.later) first l.next in
+      let next : left i h 1 ≡ l.instruction ∷ l.later = subst (λ n. left i h n ≡ l.instruction ∷ l.later) first l.next in
       let idle : pending h 1 ≡ None = subst (λ n. pending h n ≡ None) first l.idle in
       let own : pending (Entered t call regs way ∷ h) 1 ≡ Some (record { call = call; regs = regs; way = way }) = (λ k. cond (eq-eqb t 1 first k) (Some (record { call = call; regs = regs; way = way })) (pending h 1)) in
-      let before : cost i h ≡ 1 + (2000 + left_cost l.later) + 0 = cost_is i h _ None (unended t l.running) next idle in
+      let before : cost i h ≡ 1 + (cost_of l.instruction + left_cost l.later) + 0 = cost_is i h _ None (unended t l.running) next idle in
+      let price = makes_cost l.instruction call regs l.makes in
       let behind : cost i (Entered t call regs way ∷ h) ≡ 1 + left_cost l.later + way_cost (Entered t call regs way ∷ h) way = cost_is i (Entered t call regs way ∷ h) l.later _ (unended t l.running) (left_rest i h t _ l.later first next) own in
       let small = way_small (Entered t call regs way ∷ h) way in
-      omega (arith, before, behind, small)
+      omega (arith, before, behind, small, price)
 
   -- an entry that closes the pending call
   closing : (e : Entry) (t : ℕ) (p : Pending) → IsRunning i h t → has_ended (e ∷ h) 1 ≡ has_ended h 1 → left i (e ∷ h) 1 ≡ left i h 1 → pending (e ∷ h) 1 ≡ cond (t == 1) None (pending h 1) → pending h t ≡ Some p → cost i (e ∷ h) < cost i h
@@ -123,7 +124,7 @@ module _ (i : Input) (one : IsOneThread i) (h : History) (lawful : IsLawfulBack 
       let at : turn h l.served.number ≡ Some q = at_turn i h l.served.number q l.served.at in
       let run = one_run i one h lawful in
       let kept = run.turn_open l.served.number q at in
-      let bound : (part ≡ 0) × (length (words h q 0) ≤ 128) = subst (Bounded 0 (words h q 0) (seens h q 0)) l.due (due i h q lawful) in
+      let bound : (part ≡ 0) × (length (words h q 0) ≤ 128) = subst (Bounded 0 (words h q 0) (seens h q 0)) l.due (due i one.plain h q lawful) in
       let grown : cond (q == q && part == 0) (words h q 0 ++ word ∷ []) (words h q 0) ≡ words h q 0 ++ word ∷ [] = (λ k. cond (eq-eqb q q refl k && eq-eqb part 0 bound.0 k) (words h q 0 ++ word ∷ []) (words h q 0)) in
       let longer : length (words h q 0 ++ word ∷ []) ≡ length (words h q 0) + 1 = length-append (words h q 0) (word ∷ []) in
       let before : message h q ≡ 1 + 0 + (129 - length (words h q 0)) + (1024 - length (seens h q 0)) = (λ k. message_cost (kept.0 k) (kept.1 k) (kept.2 k) (length (words h q 0)) (length (seens h q 0))) in
@@ -135,7 +136,7 @@ module _ (i : Input) (one : IsOneThread i) (h : History) (lawful : IsLawfulBack 
       let at : turn h l.served.number ≡ Some q = at_turn i h l.served.number q l.served.at in
       let run = one_run i one h lawful in
       let kept = run.turn_open l.served.number q at in
-      let bound : (part ≡ 0) × (length (seens h q 0) < 1024) = subst (Bounded 0 (words h q 0) (seens h q 0)) l.due (due i h q lawful) in
+      let bound : (part ≡ 0) × (length (seens h q 0) < 1024) = subst (Bounded 0 (words h q 0) (seens h q 0)) l.due (due i one.plain h q lawful) in
       let grown : cond (q == q && part == 0) (seens h q 0 ++ seen ∷ []) (seens h q 0) ≡ seens h q 0 ++ seen ∷ [] = (λ k. cond (eq-eqb q q refl k && eq-eqb part 0 bound.0 k) (seens h q 0 ++ seen ∷ []) (seens h q 0)) in
       let longer : length (seens h q 0 ++ seen ∷ []) ≡ length (seens h q 0) + 1 = length-append (seens h q 0) (seen ∷ []) in
       let before : message h q ≡ 1 + 0 + (129 - length (words h q 0)) + (1024 - length (seens h q 0)) = (λ k. message_cost (kept.0 k) (kept.1 k) (kept.2 k) (length (words h q 0)) (length (seens h q 0))) in
@@ -172,6 +173,8 @@ module _ (i : Input) (one : IsOneThread i) (h : History) (lawful : IsLawfulBack 
   pub lowers : (e : Entry) → IsLawful i h e → cost i (e ∷ h) < cost i h
   lowers (Stored t place word) l = stored t place word l
   lowers (Entered t call regs way) l = entered t call regs way l
+  lowers (Replied q reply n) l = absurd l
+  lowers (Learned q n) l = absurd l
   lowers (Claimed w q) l = claimed w q l
   lowers (Copied q part place word) l = copied q part place word l
   lowers (Looked q part name seen) l = looked q part name seen l

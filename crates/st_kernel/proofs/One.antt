@@ -12,12 +12,12 @@ use Rattle.st_calls.specs.declared.judged.Verdict.{Verdict}
 use Rattle.st_trace.specs.Progress.{Progress}
 use Rattle.st_trace.specs.declared.entry.CallResult.{CallResult}
 use Rattle.st_trace.specs.declared.entry.Cause.{Cause}
-use Rattle.st_trace.specs.declared.entry.Cause.TheVariants.{Filter, NoFilter, Fault}
+use Rattle.st_trace.specs.declared.entry.Cause.TheVariants.{Filter, NoFilter, Fault, Link}
 use Rattle.st_trace.specs.declared.entry.Change.{Change}
 use Rattle.st_trace.specs.declared.entry.Entry.{Entry}
-use Rattle.st_trace.specs.declared.entry.Entry.TheVariants.{Stored, Entered, Claimed, Copied, Looked, Faulted, Answered, Used, Denied, Ended}
+use Rattle.st_trace.specs.declared.entry.Entry.TheVariants.{Stored, Entered, Claimed, Copied, Looked, Faulted, Answered, Used, Denied, Ended, Replied, Learned}
 use Rattle.st_trace.specs.declared.entry.Way.{Way}
-use Rattle.st_trace.specs.declared.entry.Way.TheVariants.{Fast, Barred, Held}
+use Rattle.st_trace.specs.declared.entry.Way.TheVariants.{Fast, Barred, Held, Untraced}
 use Rattle.st_trace.specs.declared.start.ThreadRow.{ThreadRow}
 use Rattle.st_law.specs.declared.input.Input.{Input}
 use Rattle.st_law.specs.History.{History, Pending, Head, owner, owner_in, row_of, pending, head, is_closed, is_dying, is_live, lives, is_claimed, is_answered, fault_of, turn, worker_at, served, is_ready, progress, is_worker, unless_at, head_of, ends_process}
@@ -44,6 +44,7 @@ first_thread i one t owned = first_by i one t owned (t == 1) refl
 abbrev pub number_of : Way → ℕ
 number_of Fast = 0
 number_of (Barred n) = 0
+number_of Untraced = 0
 number_of (Held q) = q
 
 abbrev pub number_in : Option Pending → ℕ
@@ -215,6 +216,7 @@ module _ (i : Input) (one : IsOneThread i) (h : History) (inv : IsOneRun i h) wh
     live : (y : Way) (q : ℕ) → is_live i (Entered t call regs y ∷ h) q ≡ true → HasHeld q (pending (Entered t call regs y ∷ h) 1)
     live Fast q is = absurd (none_live idle q is)
     live (Barred n) q is = absurd (none_live idle q is)
+    live Untraced q is = absurd (none_live idle q is)
     live (Held p) q is = one_head p q (p == q) (head_of i t call regs) (pending (Entered t call regs (Held p) ∷ h)) refl
         (call, regs, λ k. cond (eq-eqb t 1 first k) (Some (record { call = call; regs = regs; way = Held p })) (pending h 1)) idle is
 
@@ -254,6 +256,7 @@ module _ (i : Input) (one : IsOneThread i) (h : History) (inv : IsOneRun i h) wh
   cause_turn r x errno Fault c = faulted_turn r errno x c
   cause_turn r x errno (Filter n) c = answered_turn r x c.1.answered
   cause_turn r x errno NoFilter c = answered_turn r x c.1.answered
+  cause_turn r x errno (Link name) c = absurd c
 
   used : (t : ℕ) (seq : Option ℕ) (call : SysCall) (regs : List ℕ) (args : List ArgText) (ids : Ids) (result : CallResult) (changes : List Change) → IsUsed i h t seq call regs args ids result changes → IsOneRun i (Used t seq call regs args ids result changes ∷ h)
   used t None call regs args ids result changes l =
@@ -297,6 +300,8 @@ module _ (i : Input) (one : IsOneThread i) (h : History) (inv : IsOneRun i h) wh
   behind : (e : Entry) → IsLawful i h e → IsOneRun i (e ∷ h)
   behind (Stored t place word) l = record { live_held = inv.live_held; turn_held = inv.turn_held; turn_open = inv.turn_open; turn_first = inv.turn_first; unclaimed_open = inv.unclaimed_open }
   behind (Entered t call regs way) l = entered t call regs way (first_of t l.running) (idle_first t (first_of t l.running) l.idle)
+  behind (Replied q reply n) l = absurd l
+  behind (Learned q n) l = absurd l
   behind (Claimed w q) l = claimed w q l
   behind (Copied q part place word) l = record { live_held = inv.live_held; turn_held = inv.turn_held; turn_open = inv.turn_open; turn_first = inv.turn_first; unclaimed_open = inv.unclaimed_open }
   behind (Looked q part name seen) l = record { live_held = inv.live_held; turn_held = inv.turn_held; turn_open = inv.turn_open; turn_first = inv.turn_first; unclaimed_open = inv.unclaimed_open }

@@ -6,7 +6,9 @@ use Rattle.st_base.specs.declared.errno.Errno.TheVariants.{ENOTDIR, EACCES}
 use Rattle.st_base.specs.declared.ids.Ids.{Ids}
 use Rattle.st_names.specs.Name.{Components}
 use Rattle.st_names.specs.Tree.{Tree, Node, node_of, is_directory}
-use Rattle.st_trace.specs.Permission.{Search, allowed, passes, walk_error, walk_error_from}
+use Rattle.st_names.specs.Permission.{allowed}
+use Rattle.st_names.specs.declared.permission.Want.TheVariants.{Search}
+use Rattle.st_trace.specs.Permission.{passes, walk_error, walk_error_from}
 
 abbrev pub or_else : Option Errno → Option Errno → Option Errno
 or_else None rest = rest

@@ -9,7 +9,7 @@ use Rattle.st_trace.specs.declared.entry.CallResult.{CallResult}
 use Rattle.st_trace.specs.declared.entry.Cause.{Cause}
 use Rattle.st_trace.specs.declared.entry.Change.{Change}
 use Rattle.st_trace.specs.declared.entry.Entry.{Entry}
-use Rattle.st_trace.specs.declared.entry.Entry.TheVariants.{Stored, Entered, Claimed, Copied, Looked, Faulted, Answered, Used, Denied, Ended}
+use Rattle.st_trace.specs.declared.entry.Entry.TheVariants.{Stored, Entered, Claimed, Copied, Looked, Faulted, Answered, Used, Denied, Ended, Replied, Learned}
 use Rattle.st_law.specs.declared.input.Input.{Input}
 use Rattle.st_law.specs.History.{History, Pending, owner, left, pending, has_ended, is_dying}
 use Rattle.st_law.specs.Lawful.{IsRunning, IsUsed, IsDenied, IsEnded, IsLawful, IsLawfulBack}
@@ -60,6 +60,8 @@ module _ (i : Input) (one : IsOneThread i) (h : History) (q : IsQuiet i h) where
     dying_idle = λ d. clash (is_dying h (owner i 1)) _ d (undying t l.running);
     ended_idle = λ d. clash (has_ended h 1) _ d (unended t l.running);
   }
+  behind (Replied q reply n) l = absurd l
+  behind (Learned q n) l = absurd l
   behind (Claimed w p) l = record { dying_idle = q.dying_idle; ended_idle = q.ended_idle }
   behind (Copied p part place word) l = record { dying_idle = q.dying_idle; ended_idle = q.ended_idle }
   behind (Looked p part name seen) l = record { dying_idle = q.dying_idle; ended_idle = q.ended_idle }

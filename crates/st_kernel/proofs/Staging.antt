@@ -14,9 +14,9 @@ use Rattle.st_trace.specs.declared.entry.CallResult.{CallResult}
 use Rattle.st_trace.specs.declared.entry.Cause.{Cause}
 use Rattle.st_trace.specs.declared.entry.Change.{Change}
 use Rattle.st_trace.specs.declared.entry.Entry.{Entry}
-use Rattle.st_trace.specs.declared.entry.Entry.TheVariants.{Stored, Entered, Claimed, Copied, Looked, Faulted, Answered, Used, Denied, Ended}
+use Rattle.st_trace.specs.declared.entry.Entry.TheVariants.{Stored, Entered, Claimed, Copied, Looked, Faulted, Answered, Used, Denied, Ended, Replied, Learned}
 use Rattle.st_trace.specs.declared.entry.Way.{Way}
-use Rattle.st_trace.specs.declared.entry.Way.TheVariants.{Fast, Barred, Held}
+use Rattle.st_trace.specs.declared.entry.Way.TheVariants.{Fast, Barred, Held, Untraced}
 use Rattle.st_law.specs.declared.input.Input.{Input}
 use Rattle.st_law.specs.History.{History, Pending, pending, posted, is_claimed, is_answered, fault_of, words, seens, turn, snapshot}
 use Rattle.st_law.specs.Lawful.{IsRunning, IsEntered, IsUsed, IsDenied, IsLawful, IsLawfulBack}
@@ -77,6 +77,7 @@ module _ (i : Input) (one : IsOneThread i) (h : History) (lawful : IsLawfulBack 
       closed_stays i h (Entered t call regs Fast ∷ h) s k (idle_at t (first_of t l.running) l.idle) (ap is_held (now_pending t call regs Fast (first_of t l.running)))
   entered t call regs (Barred n) s l k =
       closed_stays i h (Entered t call regs (Barred n) ∷ h) s k (idle_at t (first_of t l.running) l.idle) (ap is_held (now_pending t call regs (Barred n) (first_of t l.running)))
+  entered t call regs Untraced s l k = absurd l.way_is
   entered t call regs (Held q) s l k = (
     (call, regs, (now_pending t call regs (Held q) (first_of t l.running) ∙ (λ j. Some (record { call = call; regs = regs; way = Held (l.way_is.0 j) })))),
     (fresh i one h lawful).unclaimed (suc (posted h)) (omega arith),
@@ -159,6 +160,8 @@ module _ (i : Input) (one : IsOneThread i) (h : History) (lawful : IsLawfulBack 
   pub staged : (e : Entry) → IsLawful i h e → (s : Stage) → IsStage i h s → IsStage i (e ∷ h) (stage_after e s)
   staged (Stored t place word) l s k = stored t place word s k
   staged (Entered t call regs way) l s k = entered t call regs way s l k
+  staged (Replied q reply n) l s k = absurd l
+  staged (Learned q n) l s k = absurd l
   staged (Claimed w q) l s k = claimed w q s l k
   staged (Copied q part place word) l s k = copied q part place word s l k
   staged (Looked q part name seen) l s k = looked q part name seen s l k
@@ -176,6 +179,7 @@ module _ (i : Input) (one : IsOneThread i) (h : History) (lawful : IsLawfulBack 
   entered_way : (t : ℕ) (call : SysCall) (regs : List ℕ) (way : Way) (c : Copies) → IsEntered i h t call regs way → WayCopies (Entered t call regs way ∷ h) call regs way (copies_after (Entered t call regs way) c)
   entered_way t call regs Fast c l = tt
   entered_way t call regs (Barred n) c l = tt
+  entered_way t call regs Untraced c l = tt
   entered_way t call regs (Held q) c l =
       let new : posted h < q = omega (arith, l.way_is.0) in
       let f = fresh i one h lawful in
@@ -188,6 +192,7 @@ module _ (i : Input) (one : IsOneThread i) (h : History) (lawful : IsLawfulBack 
     by_way : (way : Way) → WayCopies h p.call p.regs way c → WayCopies (e ∷ h) p.call p.regs way c
     by_way Fast k = tt
     by_way (Barred n) k = tt
+    by_way Untraced k = tt
     by_way (Held q) k = k ∙ (λ j. record { call = p.call; regs = p.regs; words = sym (sw q) j; seens = sym (ss q) j })
 
   copied_more : (q part place word : ℕ) (o : Option Pending) (c : Copies) → ((r : ℕ) → HasHeld r o → q ≡ r) → part ≡ 0 → AreCopies h o c → AreCopies (Copied q part place word ∷ h) o (with_word c word)
@@ -196,6 +201,7 @@ module _ (i : Input) (one : IsOneThread i) (h : History) (lawful : IsLawfulBack 
     by_way : (way : Way) → ((r : ℕ) → way ≡ Held r → q ≡ r) → WayCopies h p.call p.regs way c → WayCopies (Copied q part place word ∷ h) p.call p.regs way (with_word c word)
     by_way Fast same k = tt
     by_way (Barred n) same k = tt
+    by_way Untraced same k = tt
     by_way (Held r) same k =
         (λ j. with_word (k j) word) ∙
         (λ j. record { call = p.call; regs = p.regs; words = cond (sym (eq-eqb q r (same r refl)) j && sym (eq-eqb part 0 first) j) (words h r 0 ++ word ∷ []) (words h r 0); seens = seens h r 0 })
@@ -206,6 +212,7 @@ module _ (i : Input) (one : IsOneThread i) (h : History) (lawful : IsLawfulBack 
     by_way : (way : Way) → ((r : ℕ) → way ≡ Held r → q ≡ r) → WayCopies h p.call p.regs way c → WayCopies (Looked q part name seen ∷ h) p.call p.regs way (with_seen c seen)
     by_way Fast same k = tt
     by_way (Barred n) same k = tt
+    by_way Untraced same k = tt
     by_way (Held r) same k =
         (λ j. with_seen (k j) seen) ∙
         (λ j. record { call = p.call; regs = p.regs; words = words h r 0; seens = cond (sym (eq-eqb q r (same r refl)) j && sym (eq-eqb part 0 first) j) (seens h r 0 ++ seen ∷ []) (seens h r 0) })
@@ -217,12 +224,14 @@ module _ (i : Input) (one : IsOneThread i) (h : History) (lawful : IsLawfulBack 
   copies_stay (Stored t place word) l c k = same_copies (Stored t place word) (pending h 1) c (λ q. refl) (λ q. refl) k
   copies_stay (Entered t call regs way) l c k =
       subst (λ o. AreCopies (Entered t call regs way ∷ h) o (copies_after (Entered t call regs way) c)) (sym (now_pending t call regs way (first_of t l.running))) (entered_way t call regs way c l)
+  copies_stay (Replied q reply n) l c k = absurd l
+  copies_stay (Learned q n) l c k = absurd l
   copies_stay (Claimed w q) l c k = same_copies (Claimed w q) (pending h 1) c (λ r. refl) (λ r. refl) k
   copies_stay (Copied q part place word) l c k =
-      let bound : (part ≡ 0) × (length (words h q 0) ≤ 128) = subst (Bounded 0 (words h q 0) (seens h q 0)) l.due (due i h q lawful) in
+      let bound : (part ≡ 0) × (length (words h q 0) ≤ 128) = subst (Bounded 0 (words h q 0) (seens h q 0)) l.due (due i one.plain h q lawful) in
       copied_more q part place word (pending h 1) c (turn_is l.served.number q (at_turn i h l.served.number q l.served.at)) bound.0 k
   copies_stay (Looked q part name seen) l c k =
-      let bound : (part ≡ 0) × (length (seens h q 0) < 1024) = subst (Bounded 0 (words h q 0) (seens h q 0)) l.due (due i h q lawful) in
+      let bound : (part ≡ 0) × (length (seens h q 0) < 1024) = subst (Bounded 0 (words h q 0) (seens h q 0)) l.due (due i one.plain h q lawful) in
       looked_more q part name seen (pending h 1) c (turn_is l.served.number q (at_turn i h l.served.number q l.served.at)) bound.0 k
   copies_stay (Faulted q errno) l c k = same_copies (Faulted q errno) (pending h 1) c (λ r. refl) (λ r. refl) k
   copies_stay (Answered w s v applied) l c k = same_copies (Answered w s v applied) (pending h 1) c (λ r. refl) (λ r. refl) k

@@ -1,5 +1,6 @@
 -- The tree of a script's rows, by what the last row of a name makes.
-use Rattle.std.proofs.Common.{◌≡◌, ℕ, zero, suc, ◌<◌, ◌≤◌, Bool, true, false, if◌then◌else◌, List, [], ◌∷◌, ◌++◌, length, Option, Some, None, slice_get, refl, ◌∙◌, arith, length-append}
+use Rattle.std.proofs.Common.{◌≡◌, ℕ, zero, suc, ◌<◌, ◌≤◌, Bool, true, false, if◌then◌else◌, List, [], ◌∷◌, ◌++◌, length, Option, Some, None, slice_get, refl, sym, ap, subst, ◌∙◌, arith, length-append}
+use Rattle.st_names.proofs.Objects.{number-put}
 use Rattle.st_names.specs.Name.{Components}
 use Rattle.st_names.specs.Tree.{Tree, Node, root_node, root_only, same_name, number_under, node_at, node_of, add_object}
 use Rattle.st_trace.specs.declared.start.NewRow.{NewRow}
@@ -22,7 +23,9 @@ whole_if false objects node None h = tt
 whole_if false objects node (Some number) h = let l = length-append objects (node ∷ []) in omega (arith, l)
 
 whole-add : (tree : Tree) (name : Components) (node : Node) → IsWhole tree → IsWhole (add_object tree name node)
-whole-add tree name node whole other = whole_if (same_name name other) tree.objects node (number_under tree.names other) (whole other)
+whole-add tree name node whole other =
+    subst (AtMost (length (tree.objects ++ node ∷ []))) (sym (number-put name (suc (length tree.objects)) other tree.names))
+    (whole_if (same_name name other) tree.objects node (number_under tree.names other) (whole other))
 
 -- ---- objects
 
@@ -52,7 +55,8 @@ nodes_from [] tree part rest found whole e = e
 nodes_from (row ∷ rows) tree part rest found whole e =
     nodes_from rows (add_object tree row.name (node_of_row row.new)) part rest (if same_name row.name (part ∷ rest) then Some row.new else found)
     (whole-add tree row.name (node_of_row row.new) whole)
-    (node_add_if (same_name row.name (part ∷ rest)) tree row.name (node_of_row row.new) (number_under tree.names (part ∷ rest)) (whole (part ∷ rest)) ∙
+    (ap (node_at (add_object tree row.name (node_of_row row.new))) (number-put row.name (suc (length tree.objects)) (part ∷ rest) tree.names) ∙
+    node_add_if (same_name row.name (part ∷ rest)) tree row.name (node_of_row row.new) (number_under tree.names (part ∷ rest)) (whole (part ∷ rest)) ∙
     in_if (same_name row.name (part ∷ rest)) row.new found (node_of tree (part ∷ rest)) e)
 
 pub named_node : (rows : List TreeRow) (name : Components) → 0 < length name → node_of (tree_from root_only rows) name ≡ node_in (last_under None rows name)

@@ -7,7 +7,8 @@ use Rattle.st_calls.specs.declared.argument.ArgText.{ArgText}
 use Rattle.st_calls.specs.declared.call.SysCall.{SysCall}
 use Rattle.st_calls.specs.Spelling.{Spelled, Text, spell_name, space_words}
 use Rattle.st_names.specs.declared.seen.SeenText.{SeenText}
-use Rattle.st_trace.specs.Progress.{Progress, Word, Look, Stuck, Ready, progress_from, by_spelling}
+use Rattle.st_trace.specs.Progress.{Progress, Word, Look, Stuck, Ready}
+use Rattle.st_trace.specs.Served.{served_progress, by_spelling}
 use Rattle.st_trace.specs.Served.{served_args}
 use Rattle.st_kernel.specs.declared.copies.Need.{Need}
 use Rattle.st_kernel.specs.declared.copies.Need.TheVariants as need
@@ -32,7 +33,7 @@ with_seen copies seen = record { call = copies.call; regs = copies.regs; words =
 
 -- how far they have come
 abbrev pub progress_of : Copies → Progress
-progress_of copies = progress_from 0 (served_args copies.call) copies.regs [] (λ j. copies.words) (λ j. copies.seens)
+progress_of copies = served_progress 0 (served_args copies.call) copies.regs [] (λ j. copies.words) (λ j. copies.seens)
 
 -- what the name's words spell
 abbrev pub name_of : Copies → Spelled

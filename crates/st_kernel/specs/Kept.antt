@@ -7,7 +7,7 @@ use Rattle.st_trace.specs.declared.entry.Choice.{Choice}
 use Rattle.st_trace.specs.declared.entry.Entry.{Entry}
 use Rattle.st_trace.specs.declared.entry.Entry.TheVariants.{Stored}
 use Rattle.st_trace.specs.declared.entry.Way.{Way}
-use Rattle.st_trace.specs.declared.entry.Way.TheVariants.{Fast, Barred, Held}
+use Rattle.st_trace.specs.declared.entry.Way.TheVariants.{Fast, Barred, Held, Untraced}
 use Rattle.st_law.specs.declared.input.Input.{Input}
 use Rattle.st_law.specs.History.{History, Pending, owner, left, pending, has_ended, is_dying, byte_at, descriptors_at, posted, is_claimed, is_answered, fault_of, words, seens, turn, snapshot, judged}
 use Rattle.st_law.specs.Machine.{Thread, run}
@@ -25,6 +25,7 @@ HasHeld q o = (call : SysCall) × (regs : List ℕ) × (o ≡ Some (record { cal
 abbrev pub is_held_way : Way → Bool
 is_held_way Fast = false
 is_held_way (Barred n) = false
+is_held_way Untraced = false
 is_held_way (Held q) = true
 
 -- whether a held call is pending
@@ -45,6 +46,7 @@ IsStage i h (stage.Answered verdict) =
 abbrev pub WayCopies : History → SysCall → List ℕ → Way → Copies → Type 0
 WayCopies h call regs Fast copies = Unit {0}
 WayCopies h call regs (Barred n) copies = Unit {0}
+WayCopies h call regs Untraced copies = Unit {0}
 WayCopies h call regs (Held q) copies = copies ≡ record { call = call; regs = regs; words = words h q 0; seens = seens h q 0 }
 
 -- the copies are those of the pending call, where it is held

@@ -1,5 +1,6 @@
 -- A run of one traced thread: what it is of, its trace, and the schedule that gave it.
 use Rattle.std.specs.Prelude.{◌≡◌, true, List, [], ◌∷◌, ◌++◌, reverse, Option, Some, option_map}
+use Rattle.st_trace.specs.Served.{HaveNoLinks}
 use Rattle.st_trace.specs.declared.entry.Choice.{Choice}
 use Rattle.st_trace.specs.declared.entry.Entry.{Entry}
 use Rattle.st_trace.specs.declared.start.ProcessRow.{ProcessRow}
@@ -14,7 +15,7 @@ pub record Run : Type 0 where
   pub trace : List Entry
   pub schedule : List Choice
 
--- one traced process, and one thread that starts in it
+-- one traced process, and one thread that starts in it, over a tree without links
 pub record IsOneThread (i : Input) : Type 0 where
   pub process : ProcessRow
   pub processes : i.start.processes ≡ process ∷ []
@@ -22,6 +23,7 @@ pub record IsOneThread (i : Input) : Type 0 where
   pub thread : ThreadRow
   pub threads : i.start.threads ≡ thread ∷ []
   pub starts : thread.process ≡ Some 1
+  pub plain : HaveNoLinks i.start.tree
 
 -- the machine's state behind a run
 abbrev pub state_of : Run → State

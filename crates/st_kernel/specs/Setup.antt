@@ -9,7 +9,7 @@ use Rattle.st_names.specs.Tree.{Tree}
 use Rattle.st_policy.specs.Formula.{FilterValue}
 use Rattle.st_policy.specs.Grammar.{most_filters}
 use Rattle.st_policy.specs.Policies.{policy_of}
-use Rattle.st_trace.specs.Effect.{Setting}
+use Rattle.st_trace.specs.Served.{Setting}
 use Rattle.st_trace.specs.declared.entry.Change.{Change}
 use Rattle.st_trace.specs.declared.entry.Change.TheVariants.{Dying}
 use Rattle.st_trace.specs.declared.start.ProcessRow.{ProcessRow}

@@ -1,6 +1,7 @@
 ghost use Rattle.std.specs.Prelude.{◌≡◌, true, [], ◌∷◌, IfOk, OnOk, OnErr};
 ghost use Rattle.st_calls.specs.Spelling as spelled;
-ghost use Rattle.st_trace.specs.Progress.{Ready, by_walk, named};
+ghost use Rattle.st_trace.specs.Progress.{Ready, named};
+ghost use Rattle.st_trace.specs.Served.{by_walk};
 ghost use Rattle.st_trace.specs.Served.{is_open};
 ghost use Rattle.st_kernel.specs.Copies.{AsksLook, AsksWord, IsInside, due, filename, name_of, name_progress, no_copies, parts_in, progress_of, with_seen, with_word};
 ghost use Rattle.st_kernel.specs.Copying.{state_of};

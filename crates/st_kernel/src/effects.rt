@@ -2,7 +2,7 @@ ghost use Rattle.std.specs.Prelude.{◌≡◌, ℕ, List, IfOk};
 ghost use Rattle.st_base.specs.declared.ids.Ids.{Ids};
 ghost use Rattle.st_calls.specs.declared.argument.ArgText.{ArgText};
 ghost use Rattle.st_names.specs.Name.{components_of};
-ghost use Rattle.st_trace.specs.Effect.{Setting, effect, opens};
+ghost use Rattle.st_trace.specs.Served.{Setting, served_effect, opens};
 ghost use Rattle.st_kernel.specs.Setup.{changes_made};
 
 use crate::files::Files;
@@ -41,7 +41,7 @@ pub fn result_of(
     ids: Ids,
     args: &[ArgText],
 ) -> Result<CallResult, AllocError>
-    ensures { IfOk result (λ given. given ≡ (effect (record { tree = files.now; descriptors = descriptors }) call pid ids args.now).result) }
+    ensures { IfOk result (λ given. given ≡ (served_effect (record { tree = files.now; descriptors = descriptors }) call pid ids args.now).result) }
 {
     match call {
         SysCall::GetPid => Ok(CallResult::Value(u64::from(pid))),
@@ -55,7 +55,7 @@ pub fn result_of(
 
 /// What a call of a process changes.
 pub fn changes_of(alloc: Global, call: SysCall, pid: Pid) -> Result<Sequence<Change>, AllocError>
-    ensures { IfOk result (λ changes. (setting : Setting) (ids : Ids) (args : List ArgText) → changes ≡ (effect setting call pid ids args).changes) }
+    ensures { IfOk result (λ changes. (setting : Setting) (ids : Ids) (args : List ArgText) → changes ≡ (served_effect setting call pid ids args).changes) }
 {
     let mut changes = Sequence::new(alloc);
     if call == SysCall::Exit {

@@ -29,13 +29,14 @@ impl<'a> Model for Files<'a> {
 }
 
 // What is seen of a row's object.
-fn seen_of_row(row: &NewRow) -> SeenText
-    ensures { result ≡ seen_of (Some (node_of_row row.now)) }
+fn seen_of_row(alloc: Global, row: &NewRow) -> Result<SeenText, AllocError>
+    ensures { IfOk result (λ seen. seen ≡ seen_of (Some (node_of_row row.now))) }
 {
-    match row.kind {
+    Ok(match &row.kind {
         RowKind::Dir => SeenText::Dir,
         RowKind::File(_) => SeenText::File,
-    }
+        RowKind::Link(target) => SeenText::Link(target.copy(alloc)?),
+    })
 }
 
 /// Whether a row makes a directory.
@@ -100,7 +101,7 @@ impl<'a> Files<'a> {
         }
         Ok(match self.node(alloc, name)? {
             None => SeenText::Missing,
-            Some(row) => seen_of_row(row),
+            Some(row) => seen_of_row(alloc, row)?,
         })
     }
 }

@@ -64,6 +64,8 @@ fn stage_after(entry: &Entry, before: Stage) -> Stage
         | Entry::Entered { .. }
         | Entry::Copied { .. }
         | Entry::Looked { .. }
+        | Entry::Replied { .. }
+        | Entry::Learned { .. }
         | Entry::Ended { .. } => before,
     }
 }

@@ -176,6 +176,7 @@ impl<'a> Kernel<'a> {
             }
             Way::Barred(number) => Ok(self.setup.barred(entered.call, number)),
             Way::Held(seq) => self.held_entry(alloc, entered, seq),
+            Way::Untraced => Ok(None),
         }
     }
 
@@ -283,6 +284,7 @@ impl<'a> Kernel<'a> {
                     Ok(None)
                 }
             }
+            Choice::Operator => Ok(None),
         }
     }
 
@@ -294,6 +296,7 @@ impl<'a> Kernel<'a> {
         match entered.way {
             Way::Fast => true,
             Way::Barred(_) => self.setup.refuses(entered.call),
+            Way::Untraced => false,
             Way::Held(_) => match self.held.stage() {
                 Stage::Faulted(_) => true,
                 Stage::Answered(_) => true,
@@ -325,6 +328,7 @@ impl<'a> Kernel<'a> {
         match choice {
             Choice::Thread(tid) => self.setup.is_thread(tid) && self.thread_moves(),
             Choice::Worker(worker) => worker == WORKER && self.held.stage().asks_worker(),
+            Choice::Operator => false,
         }
     }
 

@@ -1,6 +1,7 @@
 ghost use Rattle.std.specs.Prelude.{◌≡◌, None, option_copied, IfOk};
-ghost use Rattle.st_trace.specs.Effect.{opens_node};
-ghost use Rattle.st_trace.specs.Permission.{allowed, bit_of, bits_for, has_bit, passes, walk_error};
+ghost use Rattle.st_trace.specs.Served.{opens_node};
+ghost use Rattle.st_names.specs.Permission.{allowed, bit_of, bits_for, has_bit};
+ghost use Rattle.st_trace.specs.Permission.{passes, walk_error};
 ghost use Rattle.st_law.specs.History.{node_of_row};
 ghost use Rattle.st_kernel.specs.Files.{node_in};
 ghost use Rattle.st_kernel.specs.Opening.{wanted, opens_named};

@@ -1,7 +1,7 @@
 ghost use Rattle.std.specs.Prelude.{◌≡◌, ◌==◌, ℕ, true, is_some, Some, IfOk};
 ghost use Rattle.st_names.specs.Tree.{look};
 ghost use Rattle.st_law.specs.History.{judged, process, tree_of};
-ghost use Rattle.st_law.specs.Machine.{answer_for, decided, denied_by, goes_on, used, way_for};
+ghost use Rattle.st_law.specs.Machine.{answer_for, decided, denied_by, enters, goes_on, used, way_for};
 ghost use Rattle.st_kernel.specs.Runs.{IsOneThread};
 ghost use Rattle.st_kernel.specs.Setup.{copied_call, setting};
 ghost use Rattle.st_trace.specs.declared.entry.Entry.TheVariants.{Answered};
@@ -112,6 +112,19 @@ impl<'a> Setup<'a> {
         }
     }
 
+    // The entry of a call, where the next message has this number.
+    fn entered(&self, call: SysCall, regs: [u64; 6], next: Seq) -> Entry
+        ensures { enters self.now (process self.now 1) next 1 call regs ≡ Some result }
+    {
+        let way = self.way(call, next);
+        Entry::Entered {
+            tid: THREAD,
+            call,
+            regs,
+            way,
+        }
+    }
+
     /// The thread's step where no call is pending, these instructions are left, and the next message has this number.
     pub fn next(&self, left: &[Instr], next: Seq) -> Entry
         ensures { goes_on self.now (process self.now 1) next 1 left.now ≡ Some result }
@@ -123,15 +136,8 @@ impl<'a> Setup<'a> {
                 place: *place,
                 word: *word,
             },
-            [Instr::Call(call, regs), ..] => {
-                let way = self.way(*call, next);
-                Entry::Entered {
-                    tid: THREAD,
-                    call: *call,
-                    regs: *regs,
-                    way,
-                }
-            }
+            [Instr::Call(call, regs), ..] => self.entered(*call, *regs, next),
+            [Instr::Fork(_), ..] => self.entered(SysCall::Fork, [0; 6], next),
         }
     }
 

@@ -19,10 +19,11 @@ pub struct Standing {
 fn ends_process(changes: &[Change], pid: Pid) -> bool
     ensures { result ≡ ends_process changes.now pid }
 {
-    for &change in changes {
-        let Change::Dying(ended) = change;
-        if ended == pid {
-            return true;
+    for change in changes {
+        if let Change::Dying(ended) = change {
+            if *ended == pid {
+                return true;
+            }
         }
     }
     false

@@ -1,4 +1,5 @@
-ghost use Rattle.std.specs.Prelude.{IfOk, ◌<◌, ◌^◌, length};
+ghost use Rattle.std.specs.Prelude.{IfOk, ◌≡◌, ◌<◌, ◌^◌, length};
+ghost use Rattle.st_trace.specs.Served.{HaveNoLinks};
 ghost use Rattle.st_kernel.specs.Runs.{IsOneThread};
 
 use crate::{Kernel, StepFault};
@@ -29,7 +30,9 @@ fn name_of(alloc: Global, parts: &[&[u8]]) -> Result<AbsName, AllocError> {
     Ok(name)
 }
 
-fn row(name: AbsName, kind: RowKind, mode: u32) -> TreeRow {
+fn row(name: AbsName, kind: RowKind, mode: u32) -> TreeRow
+    ensures { result.new.kind ≡ kind }
+{
     TreeRow {
         name,
         new: NewRow {
@@ -42,7 +45,9 @@ fn row(name: AbsName, kind: RowKind, mode: u32) -> TreeRow {
 }
 
 // The directory /etc and the file /etc/passwd.
-fn tree_of(alloc: Global) -> Result<Sequence<TreeRow>, AllocError> {
+fn tree_of(alloc: Global) -> Result<Sequence<TreeRow>, AllocError>
+    ensures { IfOk result HaveNoLinks }
+{
     let mut tree = Sequence::new(alloc);
     tree.push(row(name_of(alloc, &[b"etc"])?, RowKind::Dir, 0o755))?;
     let passwd = name_of(alloc, &[b"etc", b"passwd"])?;
@@ -80,11 +85,14 @@ fn input_of(alloc: Global, policy: &[u8], instructions: &[Instr]) -> Result<Inpu
         binary,
         uid: 10,
         gid: 20,
+        cwd: AbsName::root(alloc),
     })?;
 
     Ok(Input {
         policies,
         start: Start {
+            users: Sequence::new(alloc),
+            groups: Sequence::new(alloc),
             tree: tree_of(alloc)?,
             processes,
             threads,
@@ -253,7 +261,7 @@ fn is_opened(entry: &Entry, text: &[u8], descriptor: u64) -> bool {
     is_filename(args.as_slice(), text)
 }
 
-fn is_used(entry: &Entry, wanted: SysCall, value: u64, ended: &[Change]) -> bool {
+fn is_used(entry: &Entry, wanted: SysCall, value: u64, ends: bool) -> bool {
     let Entry::Used {
         tid,
         seq,
@@ -273,10 +281,23 @@ fn is_used(entry: &Entry, wanted: SysCall, value: u64, ended: &[Change]) -> bool
     if *result != CallResult::Value(value) || !args.as_slice().is_empty() {
         return false;
     }
-    changes.as_slice() == ended
+    match changes.as_slice() {
+        [] => !ends,
+        [Change::Dying(pid)] => ends && *pid == 1,
+        _ => false,
+    }
 }
 
-fn is_denied(entry: &Entry, number: Option<u64>, error: Errno, why: Cause) -> bool {
+// The causes that the machine names.
+fn is_cause(cause: &Cause, why: &Cause) -> bool {
+    match (cause, why) {
+        (Cause::Filter(number), Cause::Filter(other)) => number == other,
+        (Cause::NoFilter, Cause::NoFilter) | (Cause::Fault, Cause::Fault) => true,
+        _ => false,
+    }
+}
+
+fn is_denied(entry: &Entry, number: Option<u64>, error: Errno, why: &Cause) -> bool {
     let Entry::Denied {
         tid,
         seq,
@@ -289,7 +310,7 @@ fn is_denied(entry: &Entry, number: Option<u64>, error: Errno, why: Cause) -> bo
     if *tid != 1 || *seq != number {
         return false;
     }
-    *errno == error && *cause == why
+    *errno == error && is_cause(cause, why)
 }
 
 // Traces are looked at here, so that no test has to know all of its entries at once.
@@ -343,25 +364,25 @@ fn is_held_and_denied(trace: &[Entry]) -> bool {
         return false;
     };
     is_entered(entered, SysCall::GetPid, Way::Held(1))
-        && is_denied(denied, Some(1), Errno::EPERM, Cause::NoFilter)
+        && is_denied(denied, Some(1), Errno::EPERM, &Cause::NoFilter)
 }
 
 // A call that was entered fast, and was made with this value and these changes.
-fn is_fast(trace: &[Entry], call: SysCall, value: u64, ended: &[Change]) -> bool {
+fn is_fast(trace: &[Entry], call: SysCall, value: u64, ends: bool) -> bool {
     let [entered, used] = trace else {
         return false;
     };
-    is_entered(entered, call, Way::Fast) && is_used(used, call, value, ended)
+    is_entered(entered, call, Way::Fast) && is_used(used, call, value, ends)
 }
 
 fn is_pid_and_exit(trace: &[Entry]) -> bool {
     if trace.len() != 5 {
         return false;
     }
-    if !is_fast(&trace[..2], SysCall::GetPid, 1, &[]) {
+    if !is_fast(&trace[..2], SysCall::GetPid, 1, false) {
         return false;
     }
-    is_fast(&trace[2..4], SysCall::Exit, 0, &[Change::Dying(1)]) && is_ended(&trace[4])
+    is_fast(&trace[2..4], SysCall::Exit, 0, true) && is_ended(&trace[4])
 }
 
 fn is_barred_and_fast(trace: &[Entry]) -> bool {
@@ -371,10 +392,10 @@ fn is_barred_and_fast(trace: &[Entry]) -> bool {
     if !is_entered(&trace[0], SysCall::GetUid, Way::Barred(1)) {
         return false;
     }
-    if !is_denied(&trace[1], None, Errno::EPERM, Cause::Filter(1)) {
+    if !is_denied(&trace[1], None, Errno::EPERM, &Cause::Filter(1)) {
         return false;
     }
-    is_fast(&trace[2..4], SysCall::GetEuid, 10, &[]) && is_ended(&trace[4])
+    is_fast(&trace[2..4], SysCall::GetEuid, 10, false) && is_ended(&trace[4])
 }
 
 const THREAD: Choice = Choice::Thread(1);

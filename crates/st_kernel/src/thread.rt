@@ -134,7 +134,9 @@ impl<'a> Thread<'a> {
             | Entry::Copied { .. }
             | Entry::Looked { .. }
             | Entry::Faulted { .. }
-            | Entry::Answered { .. } => {}
+            | Entry::Answered { .. }
+            | Entry::Replied { .. }
+            | Entry::Learned { .. } => {}
         }
     }
 }

@@ -11,9 +11,9 @@ use Rattle.st_trace.specs.declared.entry.CallResult.{CallResult}
 use Rattle.st_trace.specs.declared.entry.Cause.{Cause}
 use Rattle.st_trace.specs.declared.entry.Change.{Change}
 use Rattle.st_trace.specs.declared.entry.Entry.{Entry}
-use Rattle.st_trace.specs.declared.entry.Entry.TheVariants.{Stored, Entered, Claimed, Copied, Looked, Faulted, Answered, Used, Denied, Ended}
+use Rattle.st_trace.specs.declared.entry.Entry.TheVariants.{Stored, Entered, Claimed, Copied, Looked, Faulted, Answered, Used, Denied, Ended, Replied, Learned}
 use Rattle.st_trace.specs.declared.entry.Way.{Way}
-use Rattle.st_trace.specs.declared.entry.Way.TheVariants.{Fast, Barred, Held}
+use Rattle.st_trace.specs.declared.entry.Way.TheVariants.{Fast, Barred, Held, Untraced}
 use Rattle.st_law.specs.declared.input.Input.{Input}
 use Rattle.st_law.specs.History.{History, Pending, Head, pending, head, head_of, is_closed, posted}
 use Rattle.st_law.specs.Lawful.{IsWay, IsUsed, IsDenied, IsLawful, IsLawfulBack, answer_at}
@@ -26,6 +26,7 @@ abbrev pub IsFine : Input → History → ℕ → SysCall → List ℕ → Way �
 IsFine i h t call regs Fast = answer_at i t call ≡ answer.Permit
 IsFine i h t call regs (Barred n) = (n ≡ 1) × (errno : Errno) × (answer_at i t call ≡ answer.Refuse errno)
 IsFine i h t call regs (Held q) = IsOpen i h t call regs q
+IsFine i h t call regs Untraced = ⊥
 
 abbrev pub IfPending : (Pending → Type 0) → Option Pending → Type 0
 IfPending P None = Unit {0}
@@ -47,6 +48,7 @@ keep_way : (i : Input) (h h' : History) (t : ℕ) (call : SysCall) (regs : List 
 keep_way i h h' t call regs Fast f x = x
 keep_way i h h' t call regs (Barred n) f x = x
 keep_way i h h' t call regs (Held q) f x = f q x
+keep_way i h h' t call regs Untraced f x = x
 
 unclosed : (n q : ℕ) (b : Bool) → (b ≡ true → q ≤ n) → q ≡ suc n → b ≡ false
 unclosed n q true low e = let bound : q ≤ n = low refl in absurd (omega (arith, bound, e))
@@ -75,11 +77,13 @@ module _ (i : Input) (h : History) (inv : Invariant i h) where
   own : (t : ℕ) (call : SysCall) (regs : List ℕ) (way : Way) → IsWay (suc (posted h)) way (answer_at i t call) → IsFine i (Entered t call regs way ∷ h) t call regs way
   own t call regs Fast w = w
   own t call regs (Barred n) w = w
+  own t call regs Untraced w = w
   own t call regs (Held q) w = ((λ k. cond (eq-eqb q q refl k) (Some (head_of i t call regs)) (head i h q)), fresh q w.0, omega (arith, w.0))
 
   entering_keeps : (u : ℕ) (call : SysCall) (regs : List ℕ) (way : Way) → IsWay (suc (posted h)) way (answer_at i u call) → (t : ℕ) (c : SysCall) (r : List ℕ) (q : ℕ) → IsOpen i h t c r q → IsOpen i (Entered u call regs way ∷ h) t c r q
   entering_keeps u call regs Fast w t c r q x = x
   entering_keeps u call regs (Barred n) w t c r q x = x
+  entering_keeps u call regs Untraced w t c r q x = absurd w
   entering_keeps u call regs (Held p) w t c r q x =
       let new : (p == q) ≡ false = differs p q (p == q) (eqb-true p q) (λ e. omega (arith, w.0, x.2, e)) in
       (((λ k. cond (new k) (Some (head_of i u call regs)) (head i h q)) ∙ x.0), x.1, omega (arith, x.2))
@@ -134,9 +138,12 @@ module _ (i : Input) (h : History) (inv : Invariant i h) where
   entered_low : (u : ℕ) (call : SysCall) (regs : List ℕ) (way : Way) (q : ℕ) → is_closed h q ≡ true → q ≤ posted (Entered u call regs way ∷ h)
   entered_low u call regs Fast q e = inv.closed_low q e
   entered_low u call regs (Barred n) q e = inv.closed_low q e
+  entered_low u call regs Untraced q e = inv.closed_low q e
   entered_low u call regs (Held r) q e = let low : q ≤ posted h = inv.closed_low q e in omega (arith, low)
 
   behind : (e : Entry) → IsLawful i h e → Invariant i (e ∷ h)
+  behind (Replied q reply n) l = absurd l
+  behind (Learned q n) l = absurd l
   behind (Stored u place word) l = record { fine = inv.fine; closed_low = inv.closed_low }
   behind (Entered u call regs way) l = record { fine = λ t. entering u call regs way l.way_is t (u == t) (eqb-true u t); closed_low = entered_low u call regs way }
   behind (Claimed w q) l = record { fine = inv.fine; closed_low = inv.closed_low }

@@ -16,6 +16,7 @@ use Rattle.st_law.proofs.Works.{worker_step}
 lawful_seen : (i : Input) (h : History) (c : Choice) → IsLawfulBack i h → Says (IsLawful i h) (entry_of i (seen i h) c)
 lawful_seen i h (choice.Thread t) lawful = thread_step i h t (invariant i h lawful)
 lawful_seen i h (choice.Worker w) lawful = worker_step i h w
+lawful_seen i h choice.Operator lawful = tt
 
 pub lawful_choice : (i : Input) (h : History) (c : Choice) → IsLawfulBack i h → Says (IsLawful i h) (entry_of i (state i h) c)
 lawful_choice i h c lawful = subst (λ st. Says (IsLawful i h) (entry_of i st c)) (sym (state-is i h)) (lawful_seen i h c lawful)

@@ -54,8 +54,10 @@ abbrev input_of : List ThreadRow → Input
 input_of threads = record {
   policies = record { binary = codes "/bin/cat"; filters = only_passwd ∷ [] } ∷ [];
   start = record {
+    users = [];
+    groups = [];
     tree = files;
-    processes = record { traced = true; binary = codes "/bin/cat"; uid = 1000; gid = 1000 } ∷ [];
+    processes = record { traced = true; binary = codes "/bin/cat"; uid = 1000; gid = 1000; cwd = [] } ∷ [];
     threads = threads;
   };
   options = record { mode = Enforce };

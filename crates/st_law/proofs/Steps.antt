@@ -4,6 +4,7 @@ use Rattle.std.proofs.lemmas.Bool.{eq-eqb}
 use Rattle.st_base.specs.declared.errno.Errno.{Errno}
 use Rattle.st_calls.specs.declared.argument.ArgText.{ArgText}
 use Rattle.st_calls.specs.declared.call.SysCall.{SysCall}
+use Rattle.st_calls.specs.declared.call.SysCall.TheVariants as call
 use Rattle.st_calls.specs.declared.judged.Verdict.{Verdict}
 use Rattle.st_calls.specs.declared.judged.Verdict.TheVariants.{Permit, Refuse, Unmatched}
 use Rattle.st_calls.specs.declared.rule.FastAnswer.{FastAnswer}
@@ -12,9 +13,10 @@ use Rattle.st_trace.specs.Progress.{Progress, Word, Look, Stuck, Ready}
 use Rattle.st_trace.specs.declared.entry.Entry.{Entry}
 use Rattle.st_trace.specs.declared.entry.Entry.TheVariants.{Entered}
 use Rattle.st_trace.specs.declared.entry.Way.{Way}
-use Rattle.st_trace.specs.declared.entry.Way.TheVariants.{Fast, Barred, Held}
+use Rattle.st_trace.specs.declared.entry.Way.TheVariants.{Fast, Barred, Held, Untraced}
+use Rattle.st_trace.specs.Instructions.{Makes, no_registers}
 use Rattle.st_trace.specs.declared.start.Instr.{Instr}
-use Rattle.st_trace.specs.declared.start.Instr.TheVariants.{Store, Call}
+use Rattle.st_trace.specs.declared.start.Instr.TheVariants.{Store, Call, Fork}
 use Rattle.st_law.specs.declared.input.Input.{Input}
 use Rattle.st_law.specs.History.{History, Pending, process, owner, left, pending, has_ended, is_dying, head, head_of, posted, is_answered, fault_of, message_at, progress, snapshot_of, snapshot_by, judged, setting_at, lives}
 use Rattle.st_law.specs.Machine.{thread_entry, proceeds, goes_on, finished, released, decides, decided, denied_by, way_by}
@@ -51,19 +53,20 @@ module _ (i : Input) (h : History) (t : ℕ) where
   ended_by running over = record { started = running.started; unended = running.unended; over = over }
 
   -- a call that is entered goes the way that its policy says
-  entered_by : IsRunning i h t → pending h t ≡ None → (call : SysCall) (regs : List ℕ) (later : List Instr) → left i h t ≡ Call call regs ∷ later → (process i (owner i t)).traced ≡ true → (given : FastAnswer) → answer_at i t call ≡ given → IsLawful i h (Entered t call regs (way_by (suc (posted h)) given))
-  entered_by running idle call regs later next traced answer.Permit e = record { running = running; idle = idle; later = later; next = next; traced = traced; way_is = e }
-  entered_by running idle call regs later next traced (answer.Refuse errno) e = record { running = running; idle = idle; later = later; next = next; traced = traced; way_is = (refl, errno, e) }
-  entered_by running idle call regs later next traced answer.Ask e = record { running = running; idle = idle; later = later; next = next; traced = traced; way_is = (refl, e) }
+  entered_by : IsRunning i h t → pending h t ≡ None → (call : SysCall) (regs : List ℕ) (instruction : Instr) (later : List Instr) → left i h t ≡ instruction ∷ later → Makes instruction call regs → (process i (owner i t)).traced ≡ true → (given : FastAnswer) → answer_at i t call ≡ given → IsLawful i h (Entered t call regs (way_by (suc (posted h)) given))
+  entered_by running idle call regs instruction later next makes traced answer.Permit e = record { running = running; idle = idle; instruction = instruction; later = later; next = next; makes = makes; traced = traced; way_is = e }
+  entered_by running idle call regs instruction later next makes traced (answer.Refuse errno) e = record { running = running; idle = idle; instruction = instruction; later = later; next = next; makes = makes; traced = traced; way_is = (refl, errno, e) }
+  entered_by running idle call regs instruction later next makes traced answer.Ask e = record { running = running; idle = idle; instruction = instruction; later = later; next = next; makes = makes; traced = traced; way_is = (refl, e) }
 
-  traced_by : IsRunning i h t → pending h t ≡ None → (call : SysCall) (regs : List ℕ) (later : List Instr) → left i h t ≡ Call call regs ∷ later → (b : Bool) → (process i (owner i t)).traced ≡ b → Says (IsLawful i h) (option_map (λ way. Entered t call regs way) (cond b (Some (way_by (suc (posted h)) (answer_at i t call))) None))
-  traced_by running idle call regs later next true e = entered_by running idle call regs later next e (answer_at i t call) refl
-  traced_by running idle call regs later next false e = tt
+  traced_by : IsRunning i h t → pending h t ≡ None → (call : SysCall) (regs : List ℕ) (instruction : Instr) (later : List Instr) → left i h t ≡ instruction ∷ later → Makes instruction call regs → (b : Bool) → (process i (owner i t)).traced ≡ b → Says (IsLawful i h) (option_map (λ way. Entered t call regs way) (cond b (Some (way_by (suc (posted h)) (answer_at i t call))) None))
+  traced_by running idle call regs instruction later next makes true e = entered_by running idle call regs instruction later next makes e (answer_at i t call) refl
+  traced_by running idle call regs instruction later next makes false e = tt
 
   going_on : IsRunning i h t → pending h t ≡ None → (rest : List Instr) → left i h t ≡ rest → Says (IsLawful i h) (goes_on i (process i (owner i t)) (suc (posted h)) t rest)
   going_on running idle [] e = ended_by running (inr (e, idle))
   going_on running idle (Store place word ∷ later) e = record { running = running; idle = idle; later = later; next = e }
-  going_on running idle (Call call regs ∷ later) e = traced_by running idle call regs later e (process i (owner i t)).traced refl
+  going_on running idle (Fork child ∷ later) e = traced_by running idle call.Fork no_registers (Fork child) later e (refl, refl) (process i (owner i t)).traced refl
+  going_on running idle (Call call regs ∷ later) e = traced_by running idle call regs (Call call regs) later e (refl, refl) (process i (owner i t)).traced refl
 
   denying : IsRunning i h t → (call : SysCall) (regs : List ℕ) (n : ℕ) → pending h t ≡ Some (record { call = call; regs = regs; way = Barred n }) → n ≡ 1 → (given : FastAnswer) → answer_at i t call ≡ given → Says (IsLawful i h) (denied_by t n given)
   denying running call regs n entered first answer.Permit e = tt
@@ -113,6 +116,7 @@ module _ (i : Input) (h : History) (t : ℕ) where
   finishing running call regs Fast entered w =
       record { running = running; entered = entered; permitted = w; plain = refl; identity = refl; result_is = refl; changes_are = refl }
   finishing running call regs (Barred n) entered w = denying running call regs n entered w.0 (answer_at i t call) refl
+  finishing running call regs Untraced entered w = tt
   finishing running call regs (Held q) entered w = releasing running q call regs (held_by running q call regs entered w) w.0 (fault_of h q) refl
 
   proceeding : IsRunning i h t → Invariant i h → (o : Option Pending) → pending h t ≡ o → Says (IsLawful i h) (proceeds i (seen i h) t (owner i t) o (left i h t))

@@ -10,12 +10,14 @@ use Rattle.st_calls.specs.declared.judged.Snapshot.{Snapshot}
 use Rattle.st_calls.specs.declared.judged.Verdict.{Verdict}
 use Rattle.st_memory.specs.Memory.{stored, word_of}
 use Rattle.st_names.specs.Name.{Components}
-use Rattle.st_names.specs.Tree.{Tree, Node, Directory, Regular, root_only, add_object}
+pub use Rattle.st_names.specs.Process.{Process}
+use Rattle.st_names.specs.Tree.{Tree, Node, Directory, Regular, Symlink, root_only, add_object}
 use Rattle.st_names.specs.declared.seen.SeenText.{SeenText}
 use Rattle.st_policy.specs.Judging.{verdict}
 use Rattle.st_policy.specs.Policies.{read_filters}
-use Rattle.st_trace.specs.Effect.{Setting}
-use Rattle.st_trace.specs.Progress.{Progress, Word, Look, Stuck, Ready, progress_from}
+use Rattle.st_trace.specs.Served.{Setting}
+use Rattle.st_trace.specs.Progress.{Progress, Word, Look, Stuck, Ready}
+use Rattle.st_trace.specs.Served.{served_progress}
 use Rattle.st_trace.specs.Served.{machine_rule, served_args}
 use Rattle.st_trace.specs.declared.entry.CallResult.{CallResult}
 use Rattle.st_trace.specs.declared.entry.CallResult.TheVariants.{Value}
@@ -43,19 +45,14 @@ abbrev pub row_of : {X : Type 0} → List X → ℕ → Option X
 row_of rows zero = None
 row_of rows (suc n) = slice_get rows n
 
--- a process, as a run knows it
-pub record Process : Type 0 where
-  pub traced : Bool
-  pub policy : List ℕ
-  pub ids : Ids
-
-abbrev pub process_in : Option ProcessRow → Process
-process_in None = record { traced = false; policy = []; ids = identity 0 0 }
-process_in (Some row) = record { traced = row.traced; policy = row.binary; ids = identity row.uid row.gid }
+-- the process of a number and a row; its memory has its number
+abbrev pub process_in : ℕ → Option ProcessRow → Process
+process_in p None = record { traced = false; policy = []; ids = identity 0 0; cwd = []; space = p }
+process_in p (Some row) = record { traced = row.traced; policy = row.binary; ids = identity row.uid row.gid; cwd = row.cwd; space = p }
 
 -- the process of a number
 abbrev pub process : Input → ℕ → Process
-process i p = process_in (row_of i.start.processes p)
+process i p = process_in p (row_of i.start.processes p)
 
 abbrev pub owner_in : Option ThreadRow → ℕ
 owner_in None = 0
@@ -107,6 +104,7 @@ changes_of _ = []
 abbrev pub ends_process : List Change → ℕ → Bool
 ends_process [] p = false
 ends_process (Dying q ∷ changes) p = q == p || ends_process changes p
+ends_process (_ ∷ changes) p = ends_process changes p
 
 -- what an entry does to whether a process is dying
 abbrev pub dying_after : Entry → ℕ → Bool → Bool
@@ -308,7 +306,7 @@ is_live i h q = lives (head i h q) (is_closed h q) (is_dying h)
 
 abbrev pub progress_by : Option Head → (ℕ → List ℕ) → (ℕ → List SeenText) → Progress
 progress_by None words seens = Ready []
-progress_by (Some head) words seens = progress_from 0 (served_args head.call) head.regs head.cwd words seens
+progress_by (Some head) words seens = served_progress 0 (served_args head.call) head.regs head.cwd words seens
 
 -- how far a message's arguments have come
 abbrev pub progress : Input → History → ℕ → Progress
@@ -375,6 +373,7 @@ worker_at i h w = served (is_live i h) (progress i h) (turn h w)
 abbrev pub node_by : RowKind → ℕ → ℕ → ℕ → Node
 node_by row_kind.Dir uid gid mode = record { kind = Directory; uid = uid; gid = gid; mode = mode; content = [] }
 node_by (row_kind.File content) uid gid mode = record { kind = Regular; uid = uid; gid = gid; mode = mode; content = content }
+node_by (row_kind.Link target) uid gid mode = record { kind = Symlink; uid = uid; gid = gid; mode = mode; content = target }
 
 abbrev pub node_of_row : NewRow → Node
 node_of_row row = node_by row.kind row.uid row.gid row.mode

@@ -15,19 +15,20 @@ use Rattle.st_names.specs.Tree.{look}
 use Rattle.st_names.specs.declared.seen.SeenText.{SeenText}
 use Rattle.st_policy.specs.Fast.{fast}
 use Rattle.st_policy.specs.Policies.{read_filters}
-use Rattle.st_trace.specs.Effect.{effect}
+use Rattle.st_trace.specs.Instructions.{Makes}
+use Rattle.st_trace.specs.Served.{served_effect}
 use Rattle.st_trace.specs.Progress.{Word, Look, Stuck}
 use Rattle.st_trace.specs.Served.{machine_rule}
 use Rattle.st_trace.specs.declared.entry.Entry.{Entry}
-use Rattle.st_trace.specs.declared.entry.Entry.TheVariants.{Stored, Entered, Claimed, Copied, Looked, Faulted, Answered, Used, Denied, Ended}
+use Rattle.st_trace.specs.declared.entry.Entry.TheVariants.{Stored, Entered, Claimed, Copied, Looked, Faulted, Answered, Used, Denied, Ended, Replied, Learned}
 use Rattle.st_trace.specs.declared.entry.Way.{Way}
-use Rattle.st_trace.specs.declared.entry.Way.TheVariants.{Fast, Barred, Held}
+use Rattle.st_trace.specs.declared.entry.Way.TheVariants.{Fast, Barred, Held, Untraced}
 use Rattle.st_trace.specs.declared.entry.Cause.{Cause}
-use Rattle.st_trace.specs.declared.entry.Cause.TheVariants.{Filter, NoFilter, Fault}
+use Rattle.st_trace.specs.declared.entry.Cause.TheVariants.{Filter, NoFilter, Fault, Link}
 use Rattle.st_trace.specs.declared.entry.CallResult.{CallResult}
 use Rattle.st_trace.specs.declared.entry.Change.{Change}
 use Rattle.st_trace.specs.declared.start.Instr.{Instr}
-use Rattle.st_trace.specs.declared.start.Instr.TheVariants.{Store, Call}
+use Rattle.st_trace.specs.declared.start.Instr.TheVariants.{Store}
 use Rattle.st_law.specs.declared.input.Input.{Input}
 use Rattle.st_law.specs.History.{History, process, owner, left, pending, has_ended, is_dying, posted, is_claimed, is_live, is_answered, fault_of, progress, snapshot, space_of, word_at, worker_at, is_worker, judged, tree_of, setting_at}
 
@@ -47,6 +48,7 @@ abbrev pub IsWay : ℕ → Way → FastAnswer → Type 0
 IsWay next Fast given = given ≡ answer.Permit
 IsWay next (Barred n) given = (n ≡ 1) × (errno : Errno) × (given ≡ answer.Refuse errno)
 IsWay next (Held q) given = (q ≡ next) × (given ≡ answer.Ask)
+IsWay next Untraced given = ⊥
 
 -- a thread stores what its next instruction says, while no call is pending
 pub record IsStored (i : Input) (h : History) (t place word : ℕ) : Type 0 where
@@ -59,8 +61,10 @@ pub record IsStored (i : Input) (h : History) (t place word : ℕ) : Type 0 wher
 pub record IsEntered (i : Input) (h : History) (t : ℕ) (call : SysCall) (regs : List ℕ) (way : Way) : Type 0 where
   pub running : IsRunning i h t
   pub idle : pending h t ≡ None
+  pub instruction : Instr
   pub later : List Instr
-  pub next : left i h t ≡ Call call regs ∷ later
+  pub next : left i h t ≡ instruction ∷ later
+  pub makes : Makes instruction call regs
   pub traced : (process i (owner i t)).traced ≡ true
   pub way_is : IsWay (suc (posted h)) way (answer_at i t call)
 
@@ -110,8 +114,8 @@ pub record IsUsedFast (i : Input) (h : History) (t : ℕ) (call : SysCall) (regs
   pub permitted : answer_at i t call ≡ answer.Permit
   pub plain : args ≡ []
   pub identity : ids ≡ (process i (owner i t)).ids
-  pub result_is : result ≡ (effect (setting_at i h (owner i t)) call (owner i t) ids args).result
-  pub changes_are : changes ≡ (effect (setting_at i h (owner i t)) call (owner i t) ids args).changes
+  pub result_is : result ≡ (served_effect (setting_at i h (owner i t)) call (owner i t) ids args).result
+  pub changes_are : changes ≡ (served_effect (setting_at i h (owner i t)) call (owner i t) ids args).changes
 
 -- a pending call of this number that is held and lives
 pub record IsHeld (i : Input) (h : History) (t q : ℕ) (call : SysCall) (regs : List ℕ) : Type 0 where
@@ -136,8 +140,8 @@ pub record IsUsedHeld (i : Input) (h : History) (t q : ℕ) (call : SysCall) (re
   pub number : ℕ
   pub permitted : judged i copies ≡ Permit number ids
   pub identity : copies.ids ≡ (process i (owner i t)).ids
-  pub result_is : result ≡ (effect (setting_at i h (owner i t)) call (owner i t) ids args).result
-  pub changes_are : changes ≡ (effect (setting_at i h (owner i t)) call (owner i t) ids args).changes
+  pub result_is : result ≡ (served_effect (setting_at i h (owner i t)) call (owner i t) ids args).result
+  pub changes_are : changes ≡ (served_effect (setting_at i h (owner i t)) call (owner i t) ids args).changes
 
 abbrev pub IsUsed : Input → History → ℕ → Option ℕ → SysCall → List ℕ → List ArgText → Ids → CallResult → List Change → Type 0
 IsUsed i h t None call regs args ids result changes = IsUsedFast i h t call regs args ids result changes
@@ -154,10 +158,12 @@ pub record IsDeniedBarred (i : Input) (h : History) (t : ℕ) (errno : Errno) (c
   pub first : number ≡ 1
   pub cause_is : cause ≡ Filter number
 
--- why a held call is denied: its copying met this fault, the first filter that holds refuses its copies with this error, or none holds
+-- why a held call is denied: its copying met this fault, the first filter that holds refuses its copies with this error, or
+-- none holds; the machine's tree has no links
 abbrev pub IsCause : Input → History → ℕ → Errno → Cause → Type 0
 IsCause i h q errno Fault = fault_of h q ≡ Some errno
 IsCause i h q errno (Filter n) = (s : Snapshot) × IsDecided i h q s × (judged i s ≡ Refuse n errno)
+IsCause i h q errno (Link name) = ⊥
 IsCause i h q errno NoFilter = (s : Snapshot) × IsDecided i h q s × (judged i s ≡ Unmatched) × (errno ≡ EPERM)
 
 pub record IsDeniedHeld (i : Input) (h : History) (t q : ℕ) (errno : Errno) (cause : Cause) : Type 0 where
@@ -177,7 +183,7 @@ pub record IsEnded (i : Input) (h : History) (t : ℕ) : Type 0 where
   pub unended : has_ended h t ≡ false
   pub over : (is_dying h (owner i t) ≡ true) ⊎ ((left i h t ≡ []) × (pending h t ≡ None))
 
--- an entry is lawful behind the entries before it
+-- an entry is lawful behind the entries before it; the machine has no operator, so none is its
 abbrev pub IsLawful : Input → History → Entry → Type 0
 IsLawful i h (Stored t place word) = IsStored i h t place word
 IsLawful i h (Entered t call regs way) = IsEntered i h t call regs way
@@ -189,6 +195,8 @@ IsLawful i h (Answered w s v applied) = IsAnswered i h w s v applied
 IsLawful i h (Used t seq call regs args ids result changes) = IsUsed i h t seq call regs args ids result changes
 IsLawful i h (Denied t seq errno cause) = IsDenied i h t seq errno cause
 IsLawful i h (Ended t) = IsEnded i h t
+IsLawful i h (Replied q reply n) = ⊥
+IsLawful i h (Learned q n) = ⊥
 
 abbrev pub IsLawfulBack : Input → History → Type 0
 IsLawfulBack i [] = Unit {0}

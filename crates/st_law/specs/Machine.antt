@@ -5,6 +5,7 @@ use Rattle.st_base.specs.declared.errno.Errno.TheVariants.{EPERM}
 use Rattle.st_base.specs.declared.ids.Ids.{Ids}
 use Rattle.st_calls.specs.declared.argument.ArgText.{ArgText}
 use Rattle.st_calls.specs.declared.call.SysCall.{SysCall}
+use Rattle.st_calls.specs.declared.call.SysCall.TheVariants as fork
 use Rattle.st_calls.specs.declared.judged.Snapshot.{Snapshot}
 use Rattle.st_calls.specs.declared.judged.Verdict.{Verdict}
 use Rattle.st_calls.specs.declared.judged.Verdict.TheVariants.{Permit, Refuse, Unmatched}
@@ -15,7 +16,8 @@ use Rattle.st_names.specs.Tree.{Tree, look}
 use Rattle.st_policy.specs.Fast.{fast}
 use Rattle.st_policy.specs.Formula.{FilterValue}
 use Rattle.st_policy.specs.Policies.{read_filters}
-use Rattle.st_trace.specs.Effect.{Setting, effect}
+use Rattle.st_trace.specs.Instructions.{no_registers}
+use Rattle.st_trace.specs.Served.{Setting, served_effect}
 use Rattle.st_trace.specs.Progress.{Progress, Word, Look, Stuck, Ready}
 use Rattle.st_trace.specs.Served.{machine_rule}
 use Rattle.st_trace.specs.declared.entry.Choice.{Choice}
@@ -23,10 +25,10 @@ use Rattle.st_trace.specs.declared.entry.Choice.TheVariants as choice
 use Rattle.st_trace.specs.declared.entry.Entry.{Entry}
 use Rattle.st_trace.specs.declared.entry.Entry.TheVariants.{Stored, Entered, Claimed, Copied, Looked, Faulted, Answered, Used, Denied, Ended}
 use Rattle.st_trace.specs.declared.entry.Way.{Way}
-use Rattle.st_trace.specs.declared.entry.Way.TheVariants.{Fast, Barred, Held}
+use Rattle.st_trace.specs.declared.entry.Way.TheVariants.{Fast, Barred, Held, Untraced}
 use Rattle.st_trace.specs.declared.entry.Cause.TheVariants.{Filter, NoFilter, Fault}
 use Rattle.st_trace.specs.declared.start.Instr.{Instr}
-use Rattle.st_trace.specs.declared.start.Instr.TheVariants.{Store, Call}
+use Rattle.st_trace.specs.declared.start.Instr.TheVariants.{Store, Call, Fork}
 use Rattle.st_law.specs.declared.input.Input.{Input}
 use Rattle.st_law.specs.declared.input.Schedule.{Schedule}
 use Rattle.st_law.specs.declared.input.Schedule.TheVariants as schedule
@@ -154,7 +156,7 @@ denied_by t n answer.Ask = None
 
 abbrev pub used : ℕ → Option ℕ → SysCall → ℕ → List ℕ → List ArgText → Ids → Setting → Entry
 used t seq call pid regs args ids setting =
-    let done = effect setting call pid ids args in Used t seq call regs args ids done.result done.changes
+    let done = served_effect setting call pid ids args in Used t seq call regs args ids done.result done.changes
 
 -- a held call that was answered is made with its copies under the ids that its filter grants, or denied
 abbrev pub decided : ℕ → ℕ → Snapshot → Setting → Verdict → Entry
@@ -179,13 +181,19 @@ setting_in st p = record { tree = st.tree; descriptors = st.descriptors p }
 abbrev pub finished : Input → State → ℕ → ℕ → SysCall → List ℕ → Way → Option Entry
 finished i st t pid call regs Fast = Some (used t None call pid regs [] (st.processes pid).ids (setting_in st pid))
 finished i st t pid call regs (Barred n) = denied_by t n (answer_for i (st.processes pid) call)
+finished i st t pid call regs Untraced = None
 finished i st t pid call regs (Held q) = released i t q (setting_in st pid) (st.messages q) (progress_in st q) (st.messages q).faulted
+
+-- a thread enters a call
+abbrev pub enters : Input → Process → ℕ → ℕ → SysCall → List ℕ → Option Entry
+enters i p next t call regs = option_map (λ way. Entered t call regs way) (way_for i p next call)
 
 -- a thread without a pending call goes on to its next instruction, and ends behind the last
 abbrev pub goes_on : Input → Process → ℕ → ℕ → List Instr → Option Entry
 goes_on i p next t [] = Some (Ended t)
 goes_on i p next t (Store place word ∷ rest) = Some (Stored t place word)
-goes_on i p next t (Call call regs ∷ rest) = option_map (λ way. Entered t call regs way) (way_for i p next call)
+goes_on i p next t (Call call regs ∷ rest) = enters i p next t call regs
+goes_on i p next t (Fork child ∷ rest) = enters i p next t fork.Fork no_registers
 
 abbrev pub proceeds : Input → State → ℕ → ℕ → Option Pending → List Instr → Option Entry
 proceeds i st t pid None left = goes_on i (st.processes pid) (suc st.posted) t left
@@ -230,10 +238,11 @@ works i st w (Some q) = serves i st w q (progress_in st q)
 abbrev pub worker_entry : Input → State → ℕ → Option Entry
 worker_entry i st w = if is_worker w then works i st w (at_in st w) else None
 
--- the entry that a choice adds: none where it isn't enabled
+-- the entry that a choice adds: none where it isn't enabled, as the operator never is
 abbrev pub entry_of : Input → State → Choice → Option Entry
 entry_of i st (choice.Thread t) = thread_entry i st t (st.threads t)
 entry_of i st (choice.Worker w) = worker_entry i st w
+entry_of i st choice.Operator = None
 
 abbrev pub one_more : History → Option Entry → History
 one_more h None = h

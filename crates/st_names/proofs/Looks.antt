@@ -1,6 +1,6 @@
 -- A tree without links: no look sees a link, and a walk takes no more looks than its text has bytes.
 use native.Mathlib.Omega.{arith}
-use Rattle.std.proofs.Common.{◌≡◌, ◌<◌, ◌≤◌, ℕ, zero, suc, ◌+◌, Bool, true, false, cond, List, [], ◌∷◌, ◌++◌, length, Option, Some, None, slice_get, refl}
+use Rattle.std.proofs.Common.{◌≡◌, ◌<◌, ◌≤◌, ℕ, zero, suc, Bool, true, false, cond, List, [], ◌∷◌, ◌++◌, length, Option, Some, None, slice_get}
 use Rattle.st_names.specs.Name.{Components}
 use Rattle.st_names.specs.Tree.{Tree, Node, Kind, Directory, Regular, Symlink, is_directory, root_only, seen_of, seen_of_kind, seen_behind, look, look_behind, node_of, node_at, node_numbered, object_of}
 use Rattle.st_names.specs.Walk.{asks, start_walk}

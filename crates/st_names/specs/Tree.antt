@@ -1,8 +1,14 @@
 -- The file tree as a map of whole names: which object each absolute name has, and what each object is.
-use Rattle.std.specs.Prelude.{ℕ, zero, suc, Bool, true, false, if◌then◌else◌, List, [], ◌∷◌, ◌++◌, length, slice_get, Option, Some, None}
+use Rattle.std.specs.Prelude.{◌≢◌, ℕ, zero, suc, ◌+◌, ◌-◌, nat_eq, Bool, true, false, if◌then◌else◌, List, [], ◌∷◌, ◌++◌, length, map, take, drop, replicate, slice_get, slice_index_or, slice_set, Option, Some, None}
+use Rattle.std.specs.declared.cmp.Ordering.{Ordering}
+use Rattle.std.specs.BTreeMap.{insert_entry}
+use Rattle.std.specs.Cmp.Lexicographic.{pointwise, slice_cmp}
+use Rattle.std.specs.List.{All, filter, fold, starts_with}
+use Rattle.std.specs.List.Sorted.{IsStrictlySortedBy}
+use Rattle.std.specs.Map.{keys_of, lookup, remove_entry}
+use Rattle.std.specs.Ordering.{nat_cmp}
 use Rattle.std.specs.Str.{bytes_eq}
-use Rattle.std.specs.Cmp.Lexicographic.{pointwise}
-use Rattle.st_names.specs.Name.{Components}
+use Rattle.st_names.specs.Name.{Components, parent}
 use Rattle.st_names.specs.declared.seen.SeenText.{SeenText}
 use Rattle.st_names.specs.declared.seen.SeenText.TheVariants.{Missing, NotDir, Dir, File, Link}
 
@@ -20,7 +26,8 @@ pub record Node : Type 0 where
   pub mode : ℕ
   pub content : List ℕ
 
--- the names that were given, but for the root's, with the numbers of their objects; and the objects, from number 1
+-- the names that were given, each once and in their order, but for the root's, with the numbers of their objects; and the
+-- objects that were ever made, from number 1
 pub record Tree : Type 0 where
   pub names : List (Components × ℕ)
   pub objects : List Node
@@ -36,10 +43,21 @@ root_only = record { names = []; objects = root_node ∷ [] }
 abbrev pub same_name : Components → Components → Bool
 same_name name other = pointwise bytes_eq name other
 
--- the number that the newest pair of this name gives
+-- how names are ordered: component by component, each by its bytes
+abbrev pub compare_names : Components → Components → Ordering
+compare_names = slice_cmp (slice_cmp nat_cmp)
+
+-- the names stand in their order, each once
+abbrev pub IsOrdered : List (Components × ℕ) → Type 0
+IsOrdered names = IsStrictlySortedBy compare_names (keys_of names)
+
+-- none of the names is the root's
+abbrev pub IsBelowRoot : List (Components × ℕ) → Type 0
+IsBelowRoot names = All (λ name. name ≢ []) (keys_of names)
+
+-- the number that a name has
 abbrev pub number_under : List (Components × ℕ) → Components → Option ℕ
-number_under [] name = None
-number_under (pair ∷ pairs) name = if same_name pair.0 name then Some pair.1 else number_under pairs name
+number_under names name = lookup (λ other. same_name other name) names
 
 -- the number of a name's object; the root is always there
 abbrev pub object_of : Tree → Components → Option ℕ
@@ -90,9 +108,103 @@ look_behind tree done (part ∷ rest) = seen_behind (node_of tree done) (look_be
 abbrev pub look : Tree → Components → SeenText
 look tree name = look_behind tree [] name
 
+-- how many objects may ever be made
+abbrev pub most_objects : ℕ
+most_objects = 4096
+
+-- the most bytes of a file
+abbrev pub longest_file : ℕ
+longest_file = 65536
+
+-- the object of a number that was made
+abbrev pub node_made : Tree → ℕ → Node
+node_made tree number = slice_index_or tree.objects (number - 1) root_node
+
+abbrev pub is_numbered : ℕ → Option ℕ → Bool
+is_numbered number None = false
+is_numbered number (Some other) = nat_eq other number
+
+-- how many names an object's directory has: those whose parent has this object
+abbrev pub entries_in : Tree → ℕ → ℕ
+entries_in tree number = length (filter (λ named. is_numbered number (object_of tree (parent named.0))) tree.names)
+
+-- how large an object is: entries of a directory, bytes of a file, bytes of a link's target
+abbrev pub size_by : Kind → ℕ → List ℕ → ℕ
+size_by Directory entries content = entries
+size_by Regular entries content = length content
+size_by Symlink entries content = length content
+
+abbrev pub size_of : Tree → ℕ → ℕ
+size_of tree number = size_by (node_made tree number).kind (entries_in tree number) (node_made tree number).content
+
+-- the names with this one, which has this number
+abbrev pub with_name : List (Components × ℕ) → Components → ℕ → List (Components × ℕ)
+with_name names name number = insert_entry compare_names names name number
+
+-- the names without this one
+abbrev pub without_name : List (Components × ℕ) → Components → List (Components × ℕ)
+without_name names name = remove_entry (λ other. same_name other name) names
+
 -- the tree with one more object, under this name
 abbrev pub add_object : Tree → Components → Node → Tree
 add_object tree name node = record {
-  names = (name, suc (length tree.objects)) ∷ tree.names;
+  names = with_name tree.names name (suc (length tree.objects));
   objects = tree.objects ++ node ∷ [];
 }
+
+-- an object has one more name
+abbrev pub link_object : Tree → Components → ℕ → Tree
+link_object tree name number = record { names = with_name tree.names name number; objects = tree.objects }
+
+-- a name is gone; its object stays
+abbrev pub remove_name : Tree → Components → Tree
+remove_name tree name = record { names = without_name tree.names name; objects = tree.objects }
+
+-- whether a name is this one or leads on from it
+abbrev pub begins : Components → Components → Bool
+begins name other = starts_with bytes_eq other name
+
+-- what becomes of a name: the new prefix takes the place of the old one
+abbrev pub moved : Components → Components → Components → Components
+moved old new name = if begins old name then new ++ drop (length old) name else name
+
+-- the pairs in the order of their names
+abbrev pub in_order : List (Components × ℕ) → List (Components × ℕ)
+in_order pairs = fold (λ names named. with_name names named.0 named.1) [] pairs
+
+-- each name with the old prefix has the new one
+abbrev pub rename : Tree → Components → Components → Tree
+rename tree old new = record {
+  names = in_order (map (λ named. (moved old new named.0, named.1)) tree.names);
+  objects = tree.objects;
+}
+
+-- an object is this one now, under all its names
+abbrev pub with_node : Tree → ℕ → Node → Tree
+with_node tree number node = record { names = tree.names; objects = slice_set tree.objects (number - 1) node }
+
+-- bytes with others in their place from byte at on; a gap is zeros, and no bytes change nothing
+abbrev pub overwritten : List ℕ → ℕ → List ℕ → List ℕ
+overwritten before at [] = before
+overwritten before at (byte ∷ bytes) =
+    take at (before ++ replicate (at - length before) 0) ++ (byte ∷ bytes) ++ drop (at + length (byte ∷ bytes)) before
+
+-- bytes cut to a length, or filled up to it with zeros
+abbrev pub resized : List ℕ → ℕ → List ℕ
+resized before len = take len before ++ replicate (len - length before) 0
+
+-- a file's bytes are written from byte at on
+abbrev pub write_object : Tree → ℕ → ℕ → List ℕ → Tree
+write_object tree number at bytes =
+    with_node tree number (record (node_made tree number) { content = overwritten (node_made tree number).content at bytes })
+
+-- a file has this length
+abbrev pub cut_object : Tree → ℕ → ℕ → Tree
+cut_object tree number len =
+    with_node tree number (record (node_made tree number) { content = resized (node_made tree number).content len })
+
+abbrev pub set_mode : Tree → ℕ → ℕ → Tree
+set_mode tree number mode = with_node tree number (record (node_made tree number) { mode = mode })
+
+abbrev pub set_owner : Tree → ℕ → ℕ → ℕ → Tree
+set_owner tree number uid gid = with_node tree number (record (node_made tree number) { uid = uid; gid = gid })

@@ -1,2 +1,3 @@
 mod Placing
 mod Stores
+pub mod Plain

@@ -23,7 +23,7 @@ is_root text token = is_quoted token.kind && bytes_eq (text_of_token text token)
 abbrev pub traced_process : List ℕ → List Token → Option ProcessRow
 traced_process text (binary ∷ uid ∷ gid ∷ directory ∷ []) =
     if is_root text directory then
-    option_and_then (λ b. option_and_then (λ u. option_map (λ g. record { traced = true; binary = b; uid = u; gid = g })
+    option_and_then (λ b. option_and_then (λ u. option_map (λ g. record { traced = true; binary = b; uid = u; gid = g; cwd = [] })
     (id_at text gid)) (id_at text uid)) (name_at text binary)
     else None
 traced_process text _ = None
@@ -47,7 +47,13 @@ is_thread_row text owner _ = false
 
 -- one process and one thread of it
 abbrev pub one_thread : List TreeRow → ProcessRow → List Instr → Start
-one_thread tree process body = record { tree = tree; processes = process ∷ []; threads = record { process = Some 1; body = body } ∷ [] }
+one_thread tree process body = record {
+  users = [];
+  groups = [];
+  tree = tree;
+  processes = process ∷ [];
+  threads = record { process = Some 1; body = body } ∷ [];
+}
 
 -- a start of one traced process, and one thread of it
 pub record StartsOneThread (start : Start) : Type 0 where

@@ -4,7 +4,7 @@ use Rattle.st_lex.specs.declared.token.Token.{Token}
 use Rattle.st_lex.specs.Text.{is_keyword, plain_quoted}
 use Rattle.st_trace.specs.declared.start.NewRow.{NewRow}
 use Rattle.st_trace.specs.declared.start.RowKind.{RowKind}
-use Rattle.st_trace.specs.declared.start.RowKind.TheVariants.{Dir, File}
+use Rattle.st_trace.specs.declared.start.RowKind.TheVariants.{Dir, File, Link}
 use Rattle.st_script.specs.Path.{parts, slash}
 use Rattle.st_script.specs.Places.{is_taken, is_directory}
 use Rattle.st_script.specs.Values.{id_at, mode_at, name_at}
@@ -75,6 +75,7 @@ is_tree_row text (keyword ∷ row) = is_keyword text (codes "dir") keyword || is
 abbrev pub is_dir : RowKind → Bool
 is_dir Dir = true
 is_dir (File content) = false
+is_dir (Link target) = false
 
 -- the tree with one more row, whose name are the components of the path
 abbrev pub with_row : TreeSoFar → List ℕ → NewRow → TreeSoFar

@@ -1,6 +1,7 @@
 ghost use Rattle.std.specs.Prelude.{◌≡◌, ◌≢◌, ◌^◌, ◌<◌, length, true, IfOk, IfSome};
 ghost use Rattle.st_lex.specs.Rows.{rows};
 ghost use Rattle.st_script.specs.Tree.{root_alone};
+ghost use Rattle.st_trace.specs.Served.{HaveNoLinks};
 ghost use Rattle.st_script.specs.Script.{is_root, traced_process, process_row, is_thread_row, one_thread, thread_rows, process_rows, script_rows, script_in, StartsOneThread};
 
 use crate::body::body_rows;
@@ -8,6 +9,7 @@ use crate::tree::{grown, is_tree_row, root_alone};
 use crate::values::{id_at, name_at};
 use st_base::{Sequence, Text};
 use st_lex::{Token, next_row, plain_tokens};
+use st_names::AbsName;
 use st_trace::{Instr, ProcessRow, Start, ThreadRow, TreeRow};
 use std::alloc::{AllocError, Global};
 
@@ -65,6 +67,7 @@ fn traced_process(
             binary: Text::of(alloc, binary)?,
             uid,
             gid,
+            cwd: AbsName::root(alloc),
         })),
         _ => Ok(None),
     }
@@ -156,6 +159,8 @@ fn one_thread(
         body,
     })?;
     Ok(Start {
+        users: Sequence::new(alloc),
+        groups: Sequence::new(alloc),
         tree,
         processes,
         threads,
@@ -200,12 +205,13 @@ fn script_rows(alloc: Global, text: &[u8], tokens: &[Token]) -> Result<Start, Sc
     Err(ScriptFault::NotBuilt)
 }
 
-/// Where a script's run starts: a file tree, one traced process, and one thread of it.
+/// Where a script's run starts: a file tree without links, one traced process, and one thread of it.
 pub fn read_script(alloc: Global, text: &[u8]) -> Result<Start, ScriptFault>
     requires { length text.now < 2 ^ 32 }
     ensures ok { IfOk result (λ start. script_in text.now ≡ Some start) }
     ensures not_built { result ≡ Err ScriptFault.NotBuilt → script_in text.now ≡ None }
     ensures shape { IfOk result StartsOneThread }
+    ensures plain { IfOk result (λ start. HaveNoLinks start.tree) }
 {
     match plain_tokens(alloc, text)? {
         Some(tokens) => script_rows(alloc, text, tokens.as_slice()),

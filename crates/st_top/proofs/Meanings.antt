@@ -1,12 +1,11 @@
 -- Words over files that are told mean one thing.
-use Rattle.std.proofs.Common.{◌≡◌, ℕ, ◌≤◌, ◌<◌, ◌⊎◌, inl, inr, Bool, true, false, List, [], length, Option, Some, None, sym, ap, ◌∙◌, subst, arith}
+use Rattle.std.proofs.Common.{◌≡◌, ℕ, ◌≤◌, ◌<◌, inl, inr, Bool, true, false, List, [], length, Option, Some, None, sym, ap, ◌∙◌, subst, arith}
 use Rattle.st_outside.specs.Files.{Held, Untold, Absent, Holds}
 use Rattle.st_outside.specs.declared.files.TheConstants.{FILE_LIMIT}
 use Rattle.st_policy.specs.declared.set.BinaryPolicy.{BinaryPolicy}
 use Rattle.st_policy.specs.declared.env.Env.{Env}
 use Rattle.st_policy.specs.declared.fault.PolicyFault.{PolicyFault}
 use Rattle.st_policy.specs.Canon.{canon}
-use Rattle.st_policy.specs.Diagram.{fault_in}
 use Rattle.st_policy.specs.Form.{is_in_form}
 use Rattle.st_policy.proofs.Complete.{reads-once, reads-faultless}
 use Rattle.st_trace.specs.declared.start.Start.{Start}

@@ -1,15 +1,13 @@
 -- How the reading of a policy file's text ends.
 use Rattle.std.specs.Prelude.{◌≡◌, ℕ, true, false, List, [], Some, Result, Ok, Err}
 use Rattle.st_policy.specs.declared.env.Env.{Env}
-use Rattle.st_policy.specs.declared.fault.PolicyFault.{PolicyFault}
 use Rattle.st_policy.specs.declared.set.BinaryPolicy.{BinaryPolicy}
 use Rattle.st_policy.specs.Canon.{canon}
 use Rattle.st_policy.specs.Diagram.{fault_in}
 use Rattle.st_policy.specs.Form.{is_in_form}
 use Rattle.st_policy.specs.Grammar.{Reads}
 use Rattle.st_top.specs.declared.status.Status.{Status}
-use Rattle.st_top.specs.declared.status.Status.TheVariants.{Policy, NoMemory, NotBuilt, Done, Missing, Usage, ReadFault, WriteFault, TooLong}
-use Rattle.st_top.specs.declared.status.Which.{Which}
+use Rattle.st_top.specs.declared.status.Status.TheVariants.{Policy, NoMemory, NotBuilt}
 use Rattle.st_top.specs.declared.status.Which.TheVariants as which
 
 -- a status for a text that isn't read: its first fault, or want of memory

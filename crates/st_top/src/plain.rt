@@ -4,6 +4,7 @@ ghost use Rattle.st_outside.specs.Files.{CanHold};
 ghost use Rattle.st_outside.specs.declared.files.TheConstants.{FILE_LIMIT};
 ghost use Rattle.st_kernel.specs.Runs.{IsOneThread};
 ghost use Rattle.st_script.specs.Script.{StartsOneThread};
+ghost use Rattle.st_trace.specs.Served.{HaveNoLinks};
 ghost use Rattle.st_law.specs.Machine.{run, played};
 ghost use Rattle.st_audit.specs.Audit.{audit};
 ghost use Rattle.st_top.specs.declared.status.Which.{Which};
@@ -109,7 +110,8 @@ fn run_start<F: Files>(
     files: &mut F,
     start: Start,
 ) -> Result<Text, Status>
-    requires { StartsOneThread start }
+    requires shape { StartsOneThread start }
+    requires plain { HaveNoLinks start.tree }
     ensures held { F.held files.new ≡ F.held files.old }
     ensures prepares { Prepares (MeansStart step.now (F.held files.old) (Some start)) (F.faults files.old) (F.faults files.new) result }
     ensures quiet { result ≢ Err Status.ReadFault → F.faults files.new ≡ F.faults files.old }

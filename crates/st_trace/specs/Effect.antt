@@ -1,62 +1,45 @@
 -- What each call gives its thread, and what it changes.
-use Rattle.std.specs.Prelude.{ℕ, ◌+◌, nat_le, if◌then◌else◌, Bool, true, false, List, [], ◌∷◌, Option, Some, None}
-use Rattle.st_base.specs.declared.errno.Errno.{Errno}
-use Rattle.st_base.specs.declared.errno.Errno.TheVariants.{EMFILE, ENOENT, EACCES, ENOSYS}
-use Rattle.st_base.specs.declared.ids.Ids.{Ids}
-use Rattle.st_calls.specs.declared.argument.ArgText.{ArgText}
+use Rattle.std.specs.Prelude.{[]}
 use Rattle.st_calls.specs.declared.call.SysCall.{SysCall}
-use Rattle.st_calls.specs.declared.call.SysCall.TheVariants.{GetPid, GetUid, GetEuid, Exit, Open}
-use Rattle.st_names.specs.Name.{Components, components_of}
-use Rattle.st_names.specs.Tree.{Tree, Node, node_of}
-use Rattle.st_trace.specs.Permission.{Read, allowed, walk_error}
-use Rattle.st_trace.specs.declared.entry.CallResult.{CallResult}
-use Rattle.st_trace.specs.declared.entry.CallResult.TheVariants.{Value, Failed}
-use Rattle.st_trace.specs.declared.entry.Change.{Change}
-use Rattle.st_trace.specs.declared.entry.Change.TheVariants.{Dying}
+use Rattle.st_calls.specs.declared.call.SysCall.TheVariants.{Open, Close, Read, Write, Lseek, Dup, Stat, Lstat, Access, Readlink, Unlink, Link, Symlink, Rename, Mkdir, Rmdir, Chdir, Chmod, Chown, Truncate, Fork, Execve, Exit, Kill, GetPid, GetUid, GetEuid, SetUid, SetEuid, SetGid, SetEgid, Socket, Bind, Connect}
+use Rattle.st_trace.specs.Names.{stat_outcome, access_outcome, readlink_outcome, unlink_outcome, link_outcome, symlink_outcome, rename_outcome, mkdir_outcome, rmdir_outcome, chdir_outcome, chmod_outcome, chown_outcome, truncate_outcome}
+use Rattle.st_trace.specs.Opens.{open_outcome, close_outcome, read_outcome, write_outcome, lseek_outcome, dup_outcome}
+use Rattle.st_trace.specs.Processes.{fork_outcome, execve_outcome, exit_outcome, kill_outcome, set_outcome, socket_outcome, bind_outcome, connect_outcome}
+use Rattle.st_trace.specs.System.{System, Request, Outcome, gives}
 
--- a call's result and changes
-pub record Outcome : Type 0 where
-  pub result : CallResult
-  pub changes : List Change
-
--- what a call is made over
-pub record Setting : Type 0 where
-  pub tree : Tree
-  -- how many descriptors the process has open, which are those from 0 on
-  pub descriptors : ℕ
-
--- a call that answers a number and changes nothing
-abbrev pub answers : ℕ → Outcome
-answers n = record { result = Value n; changes = [] }
-
-abbrev pub fails : Errno → Outcome
-fails errno = record { result = Failed errno; changes = [] }
-
--- how many descriptors a process may have open
-abbrev pub most_descriptors : ℕ
-most_descriptors = 64
-
-abbrev pub opens_node : ℕ → Ids → Option Node → Outcome
-opens_node descriptor ids None = fails ENOENT
-opens_node descriptor ids (Some node) = if allowed node ids.euid ids.egid Read then answers descriptor else fails EACCES
-
-abbrev pub opens_walked : Tree → ℕ → Ids → Components → Option Errno → Outcome
-opens_walked tree descriptor ids name (Some errno) = fails errno
-opens_walked tree descriptor ids name None = opens_node descriptor ids (node_of tree name)
-
--- open for reading: no descriptor is free; the walk to the name; no such name; no leave to read
-abbrev pub opens : Setting → Ids → List ArgText → Outcome
-opens setting ids [] = fails ENOENT
-opens setting ids (name ∷ more) =
-    if nat_le most_descriptors setting.descriptors then fails EMFILE
-    else opens_walked setting.tree setting.descriptors ids (components_of name.text) (walk_error setting.tree ids (components_of name.text))
-
--- each call's result and changes, for the calling process, the ids that it is made under, its arguments and its setting;
--- a call that the machine doesn't make yet fails, as a kernel answers for what it doesn't have
-abbrev pub effect : Setting → SysCall → ℕ → Ids → List ArgText → Outcome
-effect setting GetPid pid ids args = answers pid
-effect setting GetUid pid ids args = answers ids.ruid
-effect setting GetEuid pid ids args = answers ids.euid
-effect setting Exit pid ids args = record { result = Value 0; changes = Dying pid ∷ [] }
-effect setting Open pid ids args = opens setting ids args
-effect setting call pid ids args = fails ENOSYS
+-- a call, as this process makes it over this system
+abbrev pub effect : System → SysCall → Request → Outcome
+effect system Open request = open_outcome system request
+effect system Close request = close_outcome system request
+effect system Read request = read_outcome system request
+effect system Write request = write_outcome system request
+effect system Lseek request = lseek_outcome system request
+effect system Dup request = dup_outcome system request
+effect system Stat request = stat_outcome system request
+effect system Lstat request = stat_outcome system request
+effect system Access request = access_outcome system request
+effect system Readlink request = readlink_outcome system request
+effect system Unlink request = unlink_outcome system request
+effect system Link request = link_outcome system request
+effect system Symlink request = symlink_outcome system request
+effect system Rename request = rename_outcome system request
+effect system Mkdir request = mkdir_outcome system request
+effect system Rmdir request = rmdir_outcome system request
+effect system Chdir request = chdir_outcome system request
+effect system Chmod request = chmod_outcome system request
+effect system Chown request = chown_outcome system request
+effect system Truncate request = truncate_outcome system request
+effect system Fork request = fork_outcome system request
+effect system Execve request = execve_outcome system request
+effect system Exit request = exit_outcome system request
+effect system Kill request = kill_outcome system request
+effect system GetPid request = gives system request.pid []
+effect system GetUid request = gives system request.ids.ruid []
+effect system GetEuid request = gives system request.ids.euid []
+effect system SetUid request = set_outcome SetUid system request
+effect system SetEuid request = set_outcome SetEuid system request
+effect system SetGid request = set_outcome SetGid system request
+effect system SetEgid request = set_outcome SetEgid system request
+effect system Socket request = socket_outcome system request
+effect system Bind request = bind_outcome system request
+effect system Connect request = connect_outcome system request

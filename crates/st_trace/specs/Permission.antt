@@ -1,36 +1,14 @@
--- Who may do what with an object.
-use Rattle.std.specs.Prelude.{ℕ, ◌+◌, ◌/◌, ◌%◌, ◌==◌, if◌then◌else◌, Bool, true, false, List, [], ◌∷◌, ◌++◌, Option, Some, None}
+-- The tests that calls on names share, each with its reason for refusal.
+use Rattle.std.specs.Prelude.{ℕ, nat_le, not, if◌then◌else◌, Bool, [], ◌∷◌, ◌++◌, length, Option, Some, None, is_none, unwrap_or}
+use Rattle.st_base.specs.Errno.{when}
 use Rattle.st_base.specs.declared.errno.Errno.{Errno}
-use Rattle.st_base.specs.declared.errno.Errno.TheVariants.{ENOENT, ENOTDIR, EACCES}
+use Rattle.st_base.specs.declared.errno.Errno.TheVariants.{ENOENT, ENOTDIR, EACCES, ENOSPC}
 use Rattle.st_base.specs.declared.ids.Ids.{Ids}
-use Rattle.st_names.specs.Name.{Components}
-use Rattle.st_names.specs.Tree.{Tree, Node, node_of, is_directory}
-
-pub data Want : Type 0 where
-  Read : Want
-  Write : Want
-  Search : Want
-
--- the bit of three that a want asks for
-abbrev pub bit_of : Want → ℕ
-bit_of Read = 4
-bit_of Write = 2
-bit_of Search = 1
-
--- the three bits that stand for a user and a group: the owner's, else the group's, else the others'
-abbrev pub bits_for : Node → ℕ → ℕ → ℕ
-bits_for node uid gid =
-    if uid == node.uid then node.mode / 64 % 8
-    else if gid == node.gid then node.mode / 8 % 8
-    else node.mode % 8
-
--- whether the three bits have this one
-abbrev pub has_bit : ℕ → ℕ → Bool
-has_bit bits bit = (bits / bit) % 2 == 1
-
--- whether a user and a group may do this with an object; the user 0 may
-abbrev pub allowed : Node → ℕ → ℕ → Want → Bool
-allowed node uid gid want = if uid == 0 then true else has_bit (bits_for node uid gid) (bit_of want)
+use Rattle.st_names.specs.Name.{Components, parent}
+use Rattle.st_names.specs.Permission.{allowed}
+use Rattle.st_names.specs.Tree.{Tree, Node, root_node, object_of, node_of, is_directory, most_objects}
+use Rattle.st_names.specs.declared.permission.Want.{Want}
+use Rattle.st_names.specs.declared.permission.Want.TheVariants.{Search, Write}
 
 abbrev pub passes : Option Node → Ids → Option Errno → Option Errno
 passes None ids rest = Some ENOENT
@@ -44,3 +22,32 @@ walk_error_from tree ids done (part ∷ rest) = passes (node_of tree done) ids (
 -- the error of walking to a name: of its proper prefixes from the root on, the first that is missing, no directory, or can't be searched
 abbrev pub walk_error : Tree → Ids → Components → Option Errno
 walk_error tree ids name = walk_error_from tree ids [] name
+
+-- what a name has, where it has something
+abbrev pub node_at_name : Tree → Components → Node
+node_at_name tree name = unwrap_or (node_of tree name) root_node
+
+-- the number of what a name has, where it has something
+abbrev pub number_at_name : Tree → Components → ℕ
+number_at_name tree name = unwrap_or (object_of tree name) 0
+
+-- the effective ids may do this with what the name has
+abbrev pub may : Tree → Ids → Components → Want → Bool
+may tree ids name want = allowed (node_at_name tree name) ids.euid ids.egid want
+
+-- the name has a directory
+abbrev pub is_directory_at : Tree → Components → Bool
+is_directory_at tree name = is_directory (node_at_name tree name).kind
+
+-- nothing has the name
+abbrev pub missing : Tree → Components → Option Errno
+missing tree name = when (is_none (node_of tree name)) ENOENT
+
+-- the directory of the name may not be written; the root has none
+abbrev pub parent_error : Tree → Ids → Components → Option Errno
+parent_error tree ids [] = None
+parent_error tree ids (part ∷ rest) = when (not (may tree ids (parent (part ∷ rest)) Write)) EACCES
+
+-- no object can be made any more
+abbrev pub full : Tree → Option Errno
+full tree = when (nat_le most_objects (length tree.objects)) ENOSPC

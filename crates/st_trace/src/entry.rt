@@ -1,4 +1,4 @@
-use st_base::{Errno, Ids, Pid, Seq, Sequence, Tid, Worker};
+use st_base::{Errno, Ids, Obj, Pid, Seq, Sequence, Space, Text, Tid, Worker};
 use st_calls::{ArgText, Snapshot, SysCall, Verdict};
 use st_names::{AbsName, SeenText};
 
@@ -7,6 +7,8 @@ use st_names::{AbsName, SeenText};
 pub enum Choice {
     Thread(Tid),
     Worker(Worker),
+    /// Whoever answers what no policy covers.
+    Operator,
 }
 
 /// One step of a run. A choice that is enabled adds exactly one entry.
@@ -57,6 +59,19 @@ pub enum Entry {
         /// Whether the message still waited for it.
         applied: bool,
     },
+    /// The question of this number is answered by the script's reply of this number, counted from 1, which is kept as a filter.
+    Replied {
+        seq: Seq,
+        reply: u32,
+        /// The filter's number among those of its policy and rule.
+        number: u32,
+    },
+    /// The question of this number is answered by the filter that its snapshot teaches, which is kept.
+    Learned {
+        seq: Seq,
+        /// The filter's number among those of its policy and rule.
+        number: u32,
+    },
     /// The entered call is made, under these ids.
     Used {
         tid: Tid,
@@ -92,10 +107,12 @@ pub enum Way {
     Barred(u32),
     /// The filters are asked, by the message of this number.
     Held(Seq),
+    /// No policy applies to its process.
+    Untraced,
 }
 
 /// Why a call was denied.
-#[derive(Clone, Copy, Debug, PartialEq, Eq)]
+#[derive(Debug, Drop)]
 pub enum Cause {
     /// By the filter of this number, counted from 1 among those of its policy and rule.
     Filter(u32),
@@ -103,6 +120,8 @@ pub enum Cause {
     NoFilter,
     /// Copying or looking up met a fault.
     Fault,
+    /// This name of the call, or a directory on the way to it, is a link now.
+    Link(AbsName),
 }
 
 /// What a call gives its thread.
@@ -112,9 +131,86 @@ pub enum CallResult {
     Failed(Errno),
 }
 
-/// What a call changes.
-#[derive(Clone, Copy, Debug, PartialEq, Eq)]
+/// What a call changes, beside its process's descriptors.
+#[derive(Debug, Drop)]
 pub enum Change {
+    /// A new object has this name.
+    Made {
+        name: AbsName,
+        obj: Obj,
+        kind: MadeKind,
+        uid: u32,
+        gid: u32,
+        mode: u32,
+    },
+    /// The object has this name too.
+    Linked {
+        name: AbsName,
+        obj: Obj,
+    },
+    /// The name is gone.
+    Removed(AbsName),
+    /// Each name that begins with the old one begins with the new one.
+    Renamed {
+        old: AbsName,
+        new: AbsName,
+    },
+    /// The file has these bytes from this byte on.
+    Written {
+        obj: Obj,
+        at: u64,
+        bytes: Text,
+    },
+    /// The file has this length.
+    Cut {
+        obj: Obj,
+        len: u64,
+    },
+    Moded {
+        obj: Obj,
+        mode: u32,
+    },
+    Owned {
+        obj: Obj,
+        uid: u32,
+        gid: u32,
+    },
+    /// The memory has these bytes from this byte on.
+    Put {
+        space: Space,
+        at: u64,
+        bytes: Text,
+    },
+    /// The process has a child, with a copy of its memory and this thread.
+    Forked {
+        pid: Pid,
+        space: Space,
+        tid: Tid,
+    },
+    /// The process runs this binary in new memory, and of its threads only the caller goes on.
+    Execed {
+        binary: Text,
+        space: Space,
+    },
+    /// The process has these ids.
+    SetIds(Ids),
+    /// The process has this directory.
+    Cwd(AbsName),
     /// The threads of this process have nothing left but to end.
     Dying(Pid),
+    /// The message of the old number waits again, under the new one.
+    Renewed {
+        old: Seq,
+        new: Seq,
+    },
+    /// The policy of this binary applies to the process.
+    Policy(Text),
+}
+
+/// What kind of object a call makes; a link with its target.
+#[derive(Debug, Drop)]
+pub enum MadeKind {
+    Dir,
+    File,
+    Link(Text),
 }

@@ -4,5 +4,5 @@
 pub mod entry;
 pub mod start;
 
-pub use entry::{CallResult, Cause, Change, Choice, Entry, Way};
-pub use start::{Instr, NewRow, ProcessRow, RowKind, Start, ThreadRow, TreeRow};
+pub use entry::{CallResult, Cause, Change, Choice, Entry, MadeKind, Way};
+pub use start::{GroupRow, Instr, NewRow, ProcessRow, RowKind, Start, ThreadRow, TreeRow, UserRow};

@@ -1,17 +1,35 @@
-use st_base::{Pid, Sequence, Text};
+use st_base::{Pid, Sequence, Text, Tid};
 use st_calls::SysCall;
 use st_names::AbsName;
 
 /// Where a run starts: the rows of a script, in order.
 #[derive(Debug, Drop)]
 pub struct Start {
+    pub users: Sequence<UserRow>,
+    pub groups: Sequence<GroupRow>,
     /// What the file tree has beside the root; an object's number is the row's place, from 2.
     pub tree: Sequence<TreeRow>,
     pub processes: Sequence<ProcessRow>,
     pub threads: Sequence<ThreadRow>,
 }
 
-/// A directory or a file that is there from the start.
+/// A user, whom policies may name.
+#[derive(Debug, Drop)]
+pub struct UserRow {
+    pub name: Text,
+    pub uid: u32,
+    pub gid: u32,
+    pub home: Text,
+}
+
+/// A group, which policies may name.
+#[derive(Debug, Drop)]
+pub struct GroupRow {
+    pub name: Text,
+    pub gid: u32,
+}
+
+/// A directory, a file or a link that is there from the start.
 #[derive(Debug, Drop)]
 pub struct TreeRow {
     pub name: AbsName,
@@ -31,7 +49,10 @@ pub struct NewRow {
 #[derive(Debug, Drop)]
 pub enum RowKind {
     Dir,
+    /// A file, with its content.
     File(Text),
+    /// A link, with its target.
+    Link(Text),
 }
 
 /// A process that is there from the start; its number is the row's place, from 1.
@@ -43,6 +64,8 @@ pub struct ProcessRow {
     pub binary: Text,
     pub uid: u32,
     pub gid: u32,
+    /// Where its names begin that aren't absolute.
+    pub cwd: AbsName,
 }
 
 /// A thread; its number is the row's place, from 1.
@@ -60,4 +83,6 @@ pub enum Instr {
     Store(u32, u64),
     /// A system call with its six registers.
     Call(SysCall, [u64; 6]),
+    /// The call fork, whose child is this thread.
+    Fork(Tid),
 }

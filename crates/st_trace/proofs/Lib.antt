@@ -1,0 +1,5 @@
+pub mod DescriptorRows
+pub mod Example
+pub mod NameRows
+pub mod ProcessRows
+pub mod ProgressRows

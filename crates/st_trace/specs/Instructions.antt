@@ -1,0 +1,16 @@
+-- What the instructions of a thread's body are.
+use Rattle.std.specs.Prelude.{◌≡◌, ℕ, List, replicate}
+use Rattle.st_calls.specs.declared.call.SysCall.{SysCall}
+use Rattle.st_calls.specs.declared.call.SysCall.TheVariants as call
+use Rattle.st_trace.specs.declared.start.Instr.{Instr}
+use Rattle.st_trace.specs.declared.start.Instr.TheVariants.{Store, Call, Fork}
+
+-- the registers of a call without arguments
+abbrev pub no_registers : List ℕ
+no_registers = replicate 6 0
+
+-- an instruction makes this call with these registers
+abbrev pub Makes : Instr → SysCall → List ℕ → Type 0
+Makes (Store place word) made regs = ⊥
+Makes (Call own own_regs) made regs = (made ≡ own) × (regs ≡ own_regs)
+Makes (Fork child) made regs = (made ≡ call.Fork) × (regs ≡ no_registers)
