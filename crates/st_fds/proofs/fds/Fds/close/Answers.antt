@@ -1,0 +1,9 @@
+use Rattle.std.proofs.Common.{refl, length, arith}
+use Rattle.st_fds.proofs.Whole.{one_place, fields_have}
+use Rattle.st_fds.proofs.fds.Fds.close.Goals as goal
+
+pub invariant_of-self : goal.invariant_of-self
+invariant_of-self c =
+    let count = length c.self.inside.files.items in
+    one_place count count c.self.inside.processes.entries _ _ _ _ _
+    c.self.invariant (fields_have _ _ c.args.pid c.self.view_is c.requires) refl c.set_place.ensures.entries (omega arith) tt

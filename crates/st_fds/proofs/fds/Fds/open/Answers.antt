@@ -1,0 +1,10 @@
+use Rattle.std.proofs.Common.{refl, Some, length, arith}
+use Rattle.st_fds.proofs.Whole.{one_place, fields_have}
+use Rattle.st_fds.proofs.fds.Fds.open.Goals as goal
+
+pub invariant_of-self-2 : goal.invariant_of-self-2
+invariant_of-self-2 c =
+    one_place (length c.self.inside.files.items) (length c.push_reserved.new.self.items) c.self.inside.processes.entries _ _ _ (Some c.len-fresh.result) _
+    c.self.invariant (fields_have _ _ c.args.pid c.self.view_is c.requires) refl c.set_place.ensures.entries
+    (omega (arith, c.push_reserved.ensures.len, c.in_ok-reserve.ensures.len))
+    (omega (arith, c.push_reserved.ensures.len, c.in_ok-reserve.ensures.len, c.len-fresh.ensures))

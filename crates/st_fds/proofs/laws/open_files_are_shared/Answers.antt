@@ -1,0 +1,14 @@
+use Rattle.st_fds.proofs.Shared as shared
+use Rattle.st_fds.proofs.laws.open_files_are_shared.Goals as goal
+
+pub returns-clause-duplicates : goal.returns-clause-duplicates
+returns-clause-duplicates c = shared.duplicates
+
+pub returns-clause-children : goal.returns-clause-children
+returns-clause-children c = shared.children
+
+pub returns-clause-offsets : goal.returns-clause-offsets
+returns-clause-offsets c = shared.offsets
+
+pub returns-clause-others : goal.returns-clause-others
+returns-clause-others c = shared.others

@@ -1,0 +1,36 @@
+-- What every table of descriptors keeps to.
+use Rattle.std.specs.Prelude.{◌≡◌, ℕ, ◌<◌, length, All, Bool, true, if◌then◌else◌, ◌==◌, List, Option, Some, None, is_some}
+use Rattle.std.specs.Map.{values_of}
+use Rattle.st_base.specs.Descriptors.{Table, has_table, file_at}
+use Rattle.st_base.specs.declared.open_file.TheConstants.{DESCRIPTORS}
+
+-- a place is free, or leads to one of so many open files
+abbrev pub IsPlace : ℕ → Option ℕ → Type 0
+IsPlace count None = Unit {0}
+IsPlace count (Some number) = number < count
+
+-- a process has 64 places
+abbrev pub ArePlaces : ℕ → List (Option ℕ) → Type 0
+ArePlaces count places = (length places ≡ DESCRIPTORS) × All (IsPlace count) places
+
+-- the same of each process
+abbrev pub IsWhole : List (ℕ × List (Option ℕ)) → ℕ → Type 0
+IsWhole processes count = All (ArePlaces count) (values_of processes)
+
+-- the same processes have a table
+abbrev pub KeepsTables : Table → Table → Type 0
+KeepsTables old new = (pid : ℕ) → has_table new pid ≡ has_table old pid
+
+-- this process has a table now, or has none, and of the others the same have one
+abbrev pub ChangesTable : Table → ℕ → Bool → Table → Type 0
+ChangesTable old pid has new = (other : ℕ) → has_table new other ≡ (if other == pid then has else has_table old other)
+
+-- each descriptor below this one is open
+abbrev pub AreOpenBelow : Table → ℕ → ℕ → Type 0
+AreOpenBelow t pid fd = (other : ℕ) → other < fd → is_some (file_at t pid other) ≡ true
+
+-- the descriptor is the least that isn't open, and one that a process may have
+pub record IsLeastFree (t : Table) (pid fd : ℕ) : Type 0 where
+  pub within : fd < DESCRIPTORS
+  pub free : file_at t pid fd ≡ None
+  pub least : AreOpenBelow t pid fd

@@ -1,0 +1,307 @@
+ghost use Rattle.std.specs.Prelude.{◌≡◌, ◌≢◌, [], ℕ, ◌<◌, ◌↔◌, Some, None, true, false, length, IsErrOf, IsNone, IfNone, IfSome, IfOk, IfErr, OnOk, OnErr};
+ghost use Rattle.st_base.specs.declared.errno.Errno.TheVariants.{EBADF, EMFILE};
+ghost use Rattle.st_base.specs.declared.open_file.TheConstants.{DESCRIPTORS};
+ghost use Rattle.st_fds.specs.declared.fds.FdFault.TheVariants.{Os, NoMemory};
+ghost use Rattle.st_base.specs.Descriptors.{Table, file_at, has_table, least_free, number_at, is_taken};
+ghost use Rattle.st_fds.specs.Table.{AreOpenBelow, ChangesTable, IsLeastFree, KeepsTables};
+ghost use Rattle.st_base.specs.Opening.{bind_refused, bound, close_refused, closed, connect_refused, connected, copied, dupped, emptied, opened, seek_refused, sought, started, uncopied};
+ghost use Rattle.st_fds.specs.Calls.{answer, dup_answer};
+
+use crate::places::{self, Places};
+use st_base::{DESCRIPTORS, Errno, FileKind, OpenFile, Pid};
+use std::alloc::{AllocError, Global};
+use std::collections::BTreeMap;
+use std::marker::Model;
+
+/// Why a descriptor could not be given.
+#[derive(Clone, Copy, Debug, PartialEq, Eq)]
+pub enum FdFault {
+    /// The call fails with this error.
+    Os(Errno),
+    /// There is no memory for the open file.
+    NoMemory,
+}
+
+impl From<AllocError> for FdFault {
+    ghost use Rattle.st_fds.specs.declared.fds.FdFault.TheVariants.{NoMemory};
+
+    ghost from_gives = { λ _ fault. fault ≡ NoMemory };
+
+    fn from(_error: AllocError) -> Self {
+        FdFault::NoMemory
+    }
+}
+
+/// The descriptors of every process, from 0 to 63, and the open files that they share. A port is held while some descriptor of
+/// some process leads to the socket that is bound to it.
+#[derive(Debug, Drop)]
+pub struct Fds {
+    processes: BTreeMap<Pid, Places>,
+    // Those that were ever opened: a descriptor's number is a place here.
+    files: Vec<OpenFile>,
+}
+
+impl Model for Fds {
+    ghost use Rattle.st_base.specs.Descriptors.{Table};
+
+    ghost Value = { Table };
+
+    ghost view = { λ f. record { processes = f.processes.entries; files = f.files.items } };
+
+    ghost use Rattle.std.specs.Prelude.{length};
+    ghost use Rattle.st_fds.specs.Table.{IsWhole};
+
+    ghost invariant = { λ f. IsWhole f.processes.entries (length f.files.items) };
+}
+
+impl Fds {
+    /// No process has a table, which takes no memory.
+    pub fn new(alloc: Global) -> Self
+        ensures processes { result.processes ≡ [] }
+        ensures files { result.files ≡ [] }
+    {
+        Fds {
+            processes: BTreeMap::new(alloc),
+            files: Vec::new(alloc),
+        }
+    }
+
+    /// The open file of a descriptor, as it is now; none exactly where it isn't open.
+    pub fn get(&self, pid: Pid, fd: u64) -> Option<OpenFile>
+        requires { has_table self.now pid ≡ true }
+        ensures file { result ≡ file_at self.now pid fd }
+        ensures none { IsNone result ↔ (number_at self.now pid fd ≡ None) }
+    {
+        match self.number(pid, fd) {
+            Some(number) => Some(self.files[number]),
+            None => None,
+        }
+    }
+
+    // The number of the open file that a descriptor leads to.
+    fn number(&self, pid: Pid, fd: u64) -> Option<usize>
+        requires { has_table self.now pid ≡ true }
+        ensures number { result ≡ number_at self.now pid fd }
+        ensures within { IfSome result (λ number. number < length self.now.files) }
+        ensures below { IfSome result (λ _. fd < DESCRIPTORS) }
+    {
+        let places = places::places_of(&self.processes, pid);
+        if fd < DESCRIPTORS as u64 {
+            places[fd as usize]
+        } else {
+            None
+        }
+    }
+
+    // The open file of a descriptor and its number; that it isn't open.
+    fn find(&self, pid: Pid, fd: u64) -> Result<(usize, OpenFile), Errno>
+        requires { has_table self.now pid ≡ true }
+        ensures number { IfOk result (λ found. number_at self.now pid fd ≡ Some found.0) }
+        ensures file { IfOk result (λ found. file_at self.now pid fd ≡ Some found.1) }
+        ensures within { IfOk result (λ found. found.0 < length self.now.files) }
+        ensures fault { IfErr result (λ errno. (errno ≡ EBADF) × (file_at self.now pid fd ≡ None)) }
+    {
+        match self.number(pid, fd) {
+            Some(number) => Ok((number, self.files[number])),
+            None => Err(Errno::EBADF),
+        }
+    }
+
+    // The least descriptor that is free; none where all are open.
+    fn least_free(&self, pid: Pid) -> Option<usize>
+        requires { has_table self.now pid ≡ true }
+        ensures value { result ≡ least_free self.now pid }
+        ensures least { IfSome result (λ fd. IsLeastFree self.now pid fd) }
+        ensures full { IfNone result (AreOpenBelow self.now pid DESCRIPTORS) }
+    {
+        places::least_free(places::places_of(&self.processes, pid))
+    }
+
+    /// Gives a process without a table the console as its descriptors 0, 1 and 2, each an open file of its own. Without memory
+    /// nothing changes.
+    pub fn start(&mut self, pid: Pid) -> Result<(), AllocError>
+        requires { has_table self.old pid ≡ false }
+        ensures ok { OnOk result (self.new ≡ started self.old pid) }
+        ensures tables { OnOk result (ChangesTable self.old pid true self.new) }
+        ensures err { OnErr result (self.new ≡ self.old) }
+    {
+        let first = self.files.len();
+        let mut places = [None; DESCRIPTORS];
+        places[0] = Some(first);
+        places[1] = Some(first + 1);
+        places[2] = Some(first + 2);
+        self.files.reserve(3)?;
+        self.processes.insert(pid, places)?;
+        self.files.push_reserved(OpenFile::CONSOLE);
+        self.files.push_reserved(OpenFile::CONSOLE);
+        self.files.push_reserved(OpenFile::CONSOLE);
+        Ok(())
+    }
+
+    /// Gives a process without a table the descriptors of another, which share their open files, as fork(2) does. Without
+    /// memory nothing changes.
+    pub fn copy(&mut self, from: Pid, to: Pid) -> Result<(), AllocError>
+        requires from { has_table self.old from ≡ true }
+        requires to { has_table self.old to ≡ false }
+        ensures ok { OnOk result (self.new ≡ copied self.old from to) }
+        ensures tables { OnOk result (ChangesTable self.old to true self.new) }
+        ensures err { OnErr result (self.new ≡ self.old) }
+    {
+        let places = *places::places_of(&self.processes, from);
+        self.processes.insert(to, places)?;
+        Ok(())
+    }
+
+    /// Takes back the table that `copy` made, where nothing was changed since: all is then as before.
+    pub fn uncopy(&mut self, to: Pid)
+        requires { has_table self.old to ≡ true }
+        ensures table { self.new ≡ uncopied self.old to }
+        ensures tables { ChangesTable self.old to false self.new }
+        ensures undoes { (t : Table) (from : ℕ) → has_table t to ≡ false → self.old ≡ copied t from to → self.new ≡ t }
+    {
+        self.processes.remove(&to);
+    }
+
+    /// Leads the least free descriptor to a new open file, and gives its number. EMFILE where all 64 are open, and then
+    /// NoMemory; after either nothing changes.
+    pub fn open(&mut self, pid: Pid, file: OpenFile) -> Result<u32, FdFault>
+        requires { has_table self.old pid ≡ true }
+        ensures descriptor { IfOk result (λ fd. least_free self.old pid ≡ Some fd) }
+        ensures least { IfOk result (λ fd. IsLeastFree self.old pid fd) }
+        ensures ok { OnOk result (self.new ≡ opened self.old pid file) }
+        ensures tables { KeepsTables self.old self.new }
+        ensures full { IsErrOf result (Os EMFILE) ↔ AreOpenBelow self.old pid DESCRIPTORS }
+        ensures fault { IfErr result (λ fault. (fault ≢ NoMemory) → fault ≡ Os EMFILE) }
+        ensures err { OnErr result (self.new ≡ self.old) }
+    {
+        let Some(least) = self.least_free(pid) else {
+            return Err(FdFault::Os(Errno::EMFILE));
+        };
+        let fresh = self.files.len();
+        self.files.reserve(1)?;
+        self.files.push_reserved(file);
+        places::set_place(&mut self.processes, pid, least, Some(fresh));
+        Ok(least as u32)
+    }
+
+    /// Leads the least free descriptor to the open file of this one too, and gives its number, as dup(2) does. It
+    /// takes no memory. EBADF where this one isn't open, then EMFILE where all 64 are.
+    pub fn dup(&mut self, pid: Pid, fd: u64) -> Result<u32, FdFault>
+        requires { has_table self.old pid ≡ true }
+        ensures answer { result ≡ dup_answer self.old pid fd }
+        ensures least { IfOk result (λ least. IsLeastFree self.old pid least) }
+        ensures full { IsErrOf result (Os EMFILE) → AreOpenBelow self.old pid DESCRIPTORS }
+        ensures table { self.new ≡ dupped self.old pid fd }
+        ensures tables { KeepsTables self.old self.new }
+    {
+        let Ok((number, _)) = self.find(pid, fd) else {
+            return Err(FdFault::Os(Errno::EBADF));
+        };
+        let Some(least) = self.least_free(pid) else {
+            return Err(FdFault::Os(Errno::EMFILE));
+        };
+        places::set_place(&mut self.processes, pid, least, Some(number));
+        Ok(least as u32)
+    }
+
+    /// Frees a descriptor, as close(2) does. EBADF where it isn't open.
+    pub fn close(&mut self, pid: Pid, fd: u64) -> Result<(), Errno>
+        requires { has_table self.old pid ≡ true }
+        ensures answer { result ≡ answer (close_refused self.old pid fd) }
+        ensures table { self.new ≡ closed self.old pid fd }
+        ensures tables { KeepsTables self.old self.new }
+    {
+        let Some(_) = self.number(pid, fd) else {
+            return Err(Errno::EBADF);
+        };
+        places::set_place(&mut self.processes, pid, fd as usize, None);
+        Ok(())
+    }
+
+    /// Frees all descriptors of a process, which keeps its table.
+    pub fn close_all(&mut self, pid: Pid)
+        requires { has_table self.old pid ≡ true }
+        ensures table { self.new ≡ emptied self.old pid }
+        ensures tables { KeepsTables self.old self.new }
+    {
+        places::put(&mut self.processes, pid, [None; DESCRIPTORS]);
+    }
+
+    /// Sets the offset of a descriptor's open file, in bytes, for all that share it. EBADF where it isn't open.
+    pub fn seek(&mut self, pid: Pid, fd: u64, offset: u64) -> Result<(), Errno>
+        requires { has_table self.old pid ≡ true }
+        ensures answer { result ≡ answer (seek_refused self.old pid fd) }
+        ensures table { self.new ≡ sought self.old pid fd offset }
+        ensures tables { KeepsTables self.old self.new }
+    {
+        let (number, file) = self.find(pid, fd)?;
+        self.files[number] = OpenFile { offset, ..file };
+        Ok(())
+    }
+
+    /// Gives the socket of a descriptor a port, as bind(2) does. EBADF where it isn't open, then EINVAL where it is no socket,
+    /// has a port already or the port is 0, then EADDRINUSE where an open socket has the port.
+    pub fn bind(&mut self, pid: Pid, fd: u64, port: u16) -> Result<(), Errno>
+        requires { has_table self.old pid ≡ true }
+        ensures answer { result ≡ answer (bind_refused self.old pid fd port) }
+        ensures table { self.new ≡ bound self.old pid fd port }
+        ensures tables { KeepsTables self.old self.new }
+    {
+        let (number, file) = self.find(pid, fd)?;
+        let FileKind::Socket {
+            port: None,
+            connected,
+        } = file.kind
+        else {
+            return Err(Errno::EINVAL);
+        };
+        if port == 0 {
+            return Err(Errno::EINVAL);
+        }
+        if self.is_taken(port) {
+            return Err(Errno::EADDRINUSE);
+        }
+        let kind = FileKind::Socket {
+            port: Some(port),
+            connected,
+        };
+        self.files[number] = OpenFile { kind, ..file };
+        Ok(())
+    }
+
+    /// Connects the socket of a descriptor to a port, as connect(2) does. EBADF where it isn't open, then EINVAL where it is no
+    /// socket or is connected, then ECONNREFUSED where no open socket has the port.
+    pub fn connect(&mut self, pid: Pid, fd: u64, port: u16) -> Result<(), Errno>
+        requires { has_table self.old pid ≡ true }
+        ensures answer { result ≡ answer (connect_refused self.old pid fd port) }
+        ensures table { self.new ≡ connected self.old pid fd port }
+        ensures tables { KeepsTables self.old self.new }
+    {
+        let (number, file) = self.find(pid, fd)?;
+        let FileKind::Socket {
+            port: own,
+            connected: false,
+        } = file.kind
+        else {
+            return Err(Errno::EINVAL);
+        };
+        if !self.is_taken(port) {
+            return Err(Errno::ECONNREFUSED);
+        }
+        let kind = FileKind::Socket {
+            port: own,
+            connected: true,
+        };
+        self.files[number] = OpenFile { kind, ..file };
+        Ok(())
+    }
+
+    // Whether an open socket of some process has this port.
+    fn is_taken(&self, port: u16) -> bool
+        ensures { result ≡ is_taken self.now port }
+    {
+        self.processes
+            .values()
+            .any(|places| places::is_held(&self.files, port, places))
+    }
+}
