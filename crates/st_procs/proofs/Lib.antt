@@ -1,0 +1,5 @@
+mod Counts
+mod Kept
+mod Live
+mod Lookups
+mod Numbered

@@ -1,0 +1,21 @@
+-- What the calls that set ids answer.
+use Rattle.std.specs.Prelude.{Option, Some, None}
+use Rattle.std.specs.declared.result.Result.{Result}
+use Rattle.std.specs.declared.result.Result.TheVariants.{Ok, Err}
+use Rattle.st_base.specs.declared.errno.Errno.{Errno}
+use Rattle.st_base.specs.declared.ids.Ids.{Ids}
+use Rattle.st_calls.specs.declared.call.SysCall.{SysCall}
+use Rattle.st_calls.specs.declared.call.SysCall.TheVariants.{SetUid, SetEuid, SetGid, SetEgid}
+
+-- a call that sets ids
+abbrev pub SetsIds : SysCall → Type 0
+SetsIds SetUid = Unit {0}
+SetsIds SetEuid = Unit {0}
+SetsIds SetGid = Unit {0}
+SetsIds SetEgid = Unit {0}
+SetsIds _ = ⊥
+
+-- a call that is refused for a reason, or gives ids
+abbrev pub ids_answer : Option Errno → Ids → Result Ids Errno
+ids_answer None ids = Ok ids
+ids_answer (Some errno) ids = Err errno

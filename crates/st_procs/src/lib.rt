@@ -1,0 +1,15 @@
+//! The rows of modelled processes and threads: who a process is, where it is, which policy applies to it, and when it ends.
+#![tactic(auto)]
+
+mod identity;
+pub mod laws;
+pub mod procs;
+mod rows;
+mod threads;
+
+pub use laws::rows_stay_apart;
+pub use procs::Procs;
+pub use rows::ProcRow;
+
+#[cfg(test)]
+mod tests;

@@ -1,0 +1,244 @@
+ghost use Rattle.std.specs.Prelude.{◌≡◌, suc, ◌^◌, ◌-◌, ◌<◌, ◌↔◌, Some, None, true, false, [], not, IsTrue, IfSome, IfOk, OnOk, OnErr};
+ghost use Rattle.st_calls.specs.Identity.{ids_set, set_refused};
+ghost use Rattle.st_names.specs.Processes.{IsPid, begun, execed, forked, is_live, is_running, next_pid, pid_of, process_at, started, thread_ended, with_cwd, with_ids};
+ghost use Rattle.st_procs.specs.Calls.{SetsIds, ids_answer};
+ghost use Rattle.st_procs.specs.Laws.{AreOrdered, HasEnded, IsLast, ThreadEnds, ThreadStarts};
+ghost use Rattle.st_procs.specs.Rows.{process_of};
+
+use crate::identity;
+use crate::rows::{self, ProcRow, Row, ThreadCounts};
+use crate::threads::{self, Thread};
+use st_base::{Errno, Ids, Pid, Space, Text, Tid};
+use st_calls::SysCall;
+use st_names::AbsName;
+use std::alloc::{AllocError, Global};
+use std::collections::BTreeMap;
+use std::marker::Model;
+
+/// The processes, numbered from 1 in the order in which they started, and the threads that have started.
+#[derive(Debug, Drop)]
+pub struct Procs {
+    // Process p stands at p - 1.
+    rows: Vec<Row>,
+    threads: BTreeMap<Tid, Thread>,
+}
+
+impl Model for Procs {
+    ghost use Rattle.st_names.specs.Processes.{Processes};
+
+    ghost Value = { Processes };
+
+    ghost use Rattle.st_procs.specs.Rows.{AreCounted, counts_of, processes_of};
+
+    ghost view = { λ p. record { rows = processes_of p.rows.items; threads = p.threads.entries } };
+
+    ghost invariant = { λ p. AreCounted (counts_of p.rows.items) p.threads.entries };
+}
+
+impl Procs {
+    /// No process and no thread, which takes no memory.
+    pub fn new(alloc: Global) -> Self
+        ensures rows { result.rows ≡ [] }
+        ensures threads { result.threads ≡ [] }
+    {
+        Procs {
+            rows: Vec::new(alloc),
+            threads: BTreeMap::new(alloc),
+        }
+    }
+
+    /// The number that the next process has.
+    pub fn next_pid(&self) -> Pid
+        ensures { result ≡ next_pid self.now }
+    {
+        self.rows.len() as Pid + 1
+    }
+
+    /// Starts a process without threads, and gives its number. Without memory nothing changes.
+    pub fn start(&mut self, row: ProcRow) -> Result<Pid, AllocError>
+        requires { next_pid self.old < 2 ^ 32 - 1 }
+        ensures pid { IfOk result (λ pid. pid ≡ next_pid self.old) }
+        ensures ok { OnOk result (self.new ≡ started self.old (process_of row)) }
+        ensures pids { OnOk result (next_pid self.new ≡ suc (next_pid self.old)) }
+        ensures err { OnErr result (self.new ≡ self.old) }
+    {
+        let pid = self.rows.len() as Pid + 1;
+        let threads = ThreadCounts {
+            begun: 0,
+            running: 0,
+        };
+        self.rows.push(Row {
+            process: row,
+            threads,
+        })?;
+        Ok(pid)
+    }
+
+    /// The process of a thread; none exactly where it hasn't started.
+    pub fn pid_of(&self, tid: Tid) -> Option<Pid>
+        ensures pid { result ≡ pid_of self.now tid }
+        ensures there { IfSome result (λ pid. IsPid self.now pid) }
+    {
+        match self.threads.get(&tid) {
+            Some(thread) => Some(thread.pid),
+            None => None,
+        }
+    }
+
+    /// Who a process is.
+    pub fn ids(&self, pid: Pid) -> Ids
+        requires { IsPid self.now pid }
+        ensures { result ≡ (process_at self.now pid).ids }
+    {
+        rows::process(&self.rows, pid).ids
+    }
+
+    /// Where a process's names begin that aren't absolute.
+    pub fn cwd(&self, pid: Pid) -> &AbsName
+        requires { IsPid self.now pid }
+        ensures { result.now ≡ (process_at self.now pid).cwd }
+    {
+        &rows::process(&self.rows, pid).cwd
+    }
+
+    /// The binary whose policy applies to a process.
+    pub fn policy(&self, pid: Pid) -> &Text
+        requires { IsPid self.now pid }
+        ensures { result.now ≡ (process_at self.now pid).policy }
+    {
+        &rows::process(&self.rows, pid).binary
+    }
+
+    /// The number of a process's memory.
+    pub fn space(&self, pid: Pid) -> Space
+        requires { IsPid self.now pid }
+        ensures { result ≡ (process_at self.now pid).space }
+    {
+        rows::process(&self.rows, pid).space
+    }
+
+    /// Whether policies apply to a process.
+    pub fn traced(&self, pid: Pid) -> bool
+        requires { IsPid self.now pid }
+        ensures { result ≡ (process_at self.now pid).traced }
+    {
+        rows::process(&self.rows, pid).traced
+    }
+
+    /// Whether a process hasn't ended: it never had a thread, or has one that hasn't ended.
+    pub fn alive(&self, pid: Pid) -> bool
+        requires { IsPid self.now pid }
+        ensures live { result ≡ is_live self.now pid }
+        ensures ended { (result ≡ false) ↔ HasEnded self.now pid }
+    {
+        let counts = rows::counts(&self.rows, pid);
+        counts.begun == 0 || counts.running > 0
+    }
+
+    /// Starts a thread of a process. Without memory nothing changes.
+    pub fn begin(&mut self, tid: Tid, pid: Pid) -> Result<(), AllocError>
+        requires process { IsPid self.old pid }
+        requires thread { pid_of self.old tid ≡ None }
+        ensures ok { OnOk result (self.new ≡ begun self.old tid pid) }
+        ensures threads { OnOk result (ThreadStarts self.old tid pid self.new) }
+        ensures pids { next_pid self.new ≡ next_pid self.old }
+        ensures err { OnErr result (self.new ≡ self.old) }
+    {
+        let counts = rows::counts(&self.rows, pid);
+        threads::begin(&mut self.threads, tid, pid)?;
+        let more = ThreadCounts {
+            begun: counts.begun + 1,
+            running: counts.running + 1,
+        };
+        rows::set_count(&mut self.rows, pid, more);
+        Ok(())
+    }
+
+    /// Starts a process that is like this one but for its memory, and a thread of it, as fork(2) does, and gives its number.
+    /// Without memory nothing changes.
+    pub fn fork(&mut self, pid: Pid, tid: Tid, space: Space) -> Result<Pid, AllocError>
+        requires parent { IsPid self.old pid }
+        requires thread { pid_of self.old tid ≡ None }
+        requires room { next_pid self.old < 2 ^ 32 - 1 }
+        ensures pid { IfOk result (λ child. child ≡ next_pid self.old) }
+        ensures ok { OnOk result (self.new ≡ forked self.old pid tid space) }
+        ensures threads { OnOk result (ThreadStarts self.old tid (next_pid self.old) self.new) }
+        ensures pids { OnOk result (next_pid self.new ≡ suc (next_pid self.old)) }
+        ensures err { OnErr result (self.new ≡ self.old) }
+    {
+        let child = self.rows.len() as Pid + 1;
+        let process = rows::process(&self.rows, pid).child(*self.rows.allocator(), space)?;
+        self.rows.reserve(1)?;
+        threads::begin(&mut self.threads, tid, child)?;
+        let threads = ThreadCounts {
+            begun: 1,
+            running: 1,
+        };
+        self.rows.push_reserved(Row { process, threads });
+        Ok(child)
+    }
+
+    /// Gives a process another memory, and the policy of the binary that it executes unless it keeps its own, as execve(2)
+    /// does. It takes no memory.
+    pub fn exec(&mut self, pid: Pid, binary: Text, space: Space, inherit: bool)
+        requires { IsPid self.old pid }
+        ensures rows { self.new ≡ execed self.old pid binary space inherit }
+        ensures pids { next_pid self.new ≡ next_pid self.old }
+    {
+        rows::execute(&mut self.rows, pid, binary, space, inherit);
+    }
+
+    /// Sets ids of a process by one of the four calls that do, and gives all that it has then. It takes no memory. EINVAL
+    /// where the value is no id, then EPERM; after either nothing changes.
+    pub fn set_ids(&mut self, pid: Pid, call: SysCall, value: u64) -> Result<Ids, Errno>
+        requires process { IsPid self.old pid }
+        requires call { SetsIds call }
+        ensures answer { result ≡ ids_answer (set_refused call (process_at self.old pid).ids value) (ids_set call (process_at self.old pid).ids value) }
+        ensures ok { IfOk result (λ ids. self.new ≡ with_ids self.old pid ids) }
+        ensures pids { next_pid self.new ≡ next_pid self.old }
+        ensures err { OnErr result (self.new ≡ self.old) }
+    {
+        let before = rows::process(&self.rows, pid).ids;
+        let ids = identity::ids_after(call, before, value)?;
+        rows::set_ids(&mut self.rows, pid, ids);
+        Ok(ids)
+    }
+
+    /// Gives a process another directory. It takes no memory.
+    pub fn set_cwd(&mut self, pid: Pid, cwd: AbsName)
+        requires { IsPid self.old pid }
+        ensures rows { self.new ≡ with_cwd self.old pid cwd }
+        ensures pids { next_pid self.new ≡ next_pid self.old }
+    {
+        rows::set_cwd(&mut self.rows, pid, cwd);
+    }
+
+    /// Ends a thread, and says whether its process ends with it: whether it was the last that hadn't ended.
+    pub fn end_thread(&mut self, tid: Tid) -> bool
+        requires { is_running self.old tid ≡ true }
+        ensures ended { self.new ≡ thread_ended self.old tid }
+        ensures threads { ThreadEnds self.old tid self.new }
+        ensures pids { next_pid self.new ≡ next_pid self.old }
+        ensures last { IsTrue result ↔ IsLast self.old tid }
+        ensures live { IfSome (pid_of self.old tid) (λ pid. result ≡ not (is_live self.new pid)) }
+    {
+        let pid = self.finish(tid);
+        !self.alive(pid)
+    }
+
+    // Ends a thread, and gives its process.
+    fn finish(&mut self, tid: Tid) -> Pid
+        requires { is_running self.old tid ≡ true }
+        ensures ended { self.new ≡ thread_ended self.old tid }
+        ensures pid { pid_of self.old tid ≡ Some result }
+        ensures there { IsPid self.old result }
+        ensures pids { next_pid self.new ≡ next_pid self.old }
+        ensures ordered { AreOrdered self.old }
+    {
+        let pid = threads::end(&mut self.threads, tid);
+        let counts = rows::counts(&self.rows, pid);
+        let running = counts.running - 1;
+        rows::set_count(&mut self.rows, pid, ThreadCounts { running, ..counts });
+        pid
+    }
+}

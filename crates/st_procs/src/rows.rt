@@ -1,0 +1,112 @@
+ghost use Rattle.std.specs.Prelude.{◌≡◌, ◌<◌, ◌≤◌, length, IfOk};
+ghost use Rattle.st_names.specs.Processes.{at_number, executing, nobody, put_number};
+ghost use Rattle.st_procs.specs.Rows.{counts_of, no_threads, process_of, processes_of};
+
+use st_base::{Ids, Pid, Space, Text};
+use st_names::AbsName;
+use std::alloc::{AllocError, Global};
+
+/// A process, as it starts.
+#[derive(Debug, Drop)]
+pub struct ProcRow {
+    /// Whether policies apply to it.
+    pub traced: bool,
+    /// The binary whose policy applies to it.
+    pub binary: Text,
+    pub ids: Ids,
+    /// Where its names begin that aren't absolute.
+    pub cwd: AbsName,
+    /// The number of its memory.
+    pub space: Space,
+}
+
+impl ProcRow {
+    /// A process like this one but for its memory.
+    pub fn child(&self, alloc: Global, space: Space) -> Result<Self, AllocError>
+        ensures { IfOk result (λ child. process_of child ≡ record (process_of self.now) { space = space }) }
+    {
+        Ok(ProcRow {
+            traced: self.traced,
+            binary: self.binary.copy(alloc)?,
+            ids: self.ids,
+            cwd: self.cwd.copy(alloc)?,
+            space,
+        })
+    }
+}
+
+/// How many threads of a process have started, and how many of them haven't ended.
+#[derive(Clone, Copy, Debug, PartialEq, Eq)]
+pub struct ThreadCounts {
+    pub begun: usize,
+    pub running: usize,
+}
+
+/// A process, and its threads.
+#[derive(Debug, Drop)]
+pub struct Row {
+    pub process: ProcRow,
+    pub threads: ThreadCounts,
+}
+
+/// The process of this number.
+pub fn process(rows: &[Row], pid: Pid) -> &ProcRow
+    requires from { 0 < pid }
+    requires to { pid ≤ length rows.now }
+    ensures { process_of result.now ≡ at_number nobody (processes_of rows.now) pid }
+{
+    &rows[pid as usize - 1].process
+}
+
+/// The counts of a process's threads.
+pub fn counts(rows: &[Row], pid: Pid) -> ThreadCounts
+    requires from { 0 < pid }
+    requires to { pid ≤ length rows.now }
+    ensures { result ≡ at_number no_threads (counts_of rows.now) pid }
+{
+    rows[pid as usize - 1].threads
+}
+
+/// Counts the threads of a process anew.
+pub fn set_count(rows: &mut [Row], pid: Pid, threads: ThreadCounts)
+    requires from { 0 < pid }
+    requires to { pid ≤ length rows.old }
+    ensures counts { counts_of rows.new ≡ put_number (counts_of rows.old) pid threads }
+    ensures processes { processes_of rows.new ≡ processes_of rows.old }
+{
+    rows[pid as usize - 1].threads = threads;
+}
+
+/// Gives a process another memory, and the policy of the binary that it executes unless it keeps its own.
+pub fn execute(rows: &mut [Row], pid: Pid, binary: Text, space: Space, inherit: bool)
+    requires from { 0 < pid }
+    requires to { pid ≤ length rows.old }
+    ensures counts { counts_of rows.new ≡ counts_of rows.old }
+    ensures processes { processes_of rows.new ≡ put_number (processes_of rows.old) pid (executing (at_number nobody (processes_of rows.old) pid) binary space inherit) }
+{
+    let process = &mut rows[pid as usize - 1].process;
+    process.space = space;
+    if !inherit {
+        process.binary = binary;
+    }
+}
+
+/// Gives a process other ids.
+pub fn set_ids(rows: &mut [Row], pid: Pid, ids: Ids)
+    requires from { 0 < pid }
+    requires to { pid ≤ length rows.old }
+    ensures counts { counts_of rows.new ≡ counts_of rows.old }
+    ensures processes { processes_of rows.new ≡ put_number (processes_of rows.old) pid (record (at_number nobody (processes_of rows.old) pid) { ids = ids }) }
+{
+    rows[pid as usize - 1].process.ids = ids;
+}
+
+/// Gives a process another directory.
+pub fn set_cwd(rows: &mut [Row], pid: Pid, cwd: AbsName)
+    requires from { 0 < pid }
+    requires to { pid ≤ length rows.old }
+    ensures counts { counts_of rows.new ≡ counts_of rows.old }
+    ensures processes { processes_of rows.new ≡ put_number (processes_of rows.old) pid (record (at_number nobody (processes_of rows.old) pid) { cwd = cwd }) }
+{
+    rows[pid as usize - 1].process.cwd = cwd;
+}
