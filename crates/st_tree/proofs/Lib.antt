@@ -1,0 +1,16 @@
+pub mod Bytes
+pub mod Changes
+pub mod Entries
+pub mod Flat
+pub mod Kept
+pub mod Leads
+pub mod Moves
+pub mod Names
+pub mod Numbers
+pub mod Puts
+pub mod Reasons
+pub mod Renames
+pub mod Renamings
+pub mod Trees
+pub mod Updates
+pub mod Ways

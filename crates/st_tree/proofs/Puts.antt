@@ -1,0 +1,124 @@
+-- The entries of directories when one entry is put or taken.
+use Rattle.std.proofs.Common.{◌≡◌, ◌≢◌, ap, refl, sym, ◌∙◌, subst, ℕ, Bool, true, false, cond, if◌then◌else◌, ◌==◌, ◌&&◌, List, [], ◌∷◌, Option, Some, None, Decides, bytes_eq, eqb-true, eq-eqb, ne_eqb}
+use Rattle.std.proofs.lemmas.Bool.{cond-true, cond-false, and_parts, and_from, false_from_ne_true}
+use Rattle.std.proofs.lemmas.Cmp.{alike_right, nat_list_cmp_total, eq_by_cmp_equiv}
+use Rattle.std.proofs.lemmas.Map.{lookup-remove_entry}
+use Rattle.std.proofs.lemmas.Map.Keys.{IsDistinct-from_sorted}
+use Rattle.std.proofs.lemmas.Map.Text.{is_eq-slice_cmp}
+use Rattle.std.proofs.lemmas.Slice.Eq.{bytes_eq-Decides}
+use Rattle.std.specs.BTreeMap.{insert_entry, is_at}
+use Rattle.std.specs.Cmp.{IsTotalOrder, IsEquivalence}
+use Rattle.std.specs.Cmp.Lexicographic.{slice_cmp}
+use Rattle.std.specs.List.Sorted.{IsStrictlySortedBy}
+use Rattle.std.specs.Map.{keys_of, lookup, remove_entry}
+use Rattle.std.specs.Ordering.{nat_cmp, is_eq, match_ordering, eq_by_cmp}
+use Rattle.std.specs.declared.cmp.Ordering.{Ordering}
+use Rattle.std.specs.declared.cmp.Ordering.TheVariants.{Less, Equal, Greater}
+use Rattle.st_names.proofs.Ordered.{sorted-insert_entry, sorted-remove_entry}
+use Rattle.st_tree.specs.Paths.{Entries, entry, with_entry, without_entry}
+
+over : {X : Type 0} (b : Bool) (v w : X) (rest : Option X) → cond b (Some v) rest ≡ cond b (Some v) (cond b (Some w) rest)
+over true v w rest = refl
+over false v w rest = refl
+
+past : {X : Type 0} (b c : Bool) (v w : X) (rest : Option X) → (b ≡ true → c ≡ true → ⊥) → cond b (Some w) (cond c (Some v) rest) ≡ cond c (Some v) (cond b (Some w) rest)
+past false c v w rest apart = refl
+past true false v w rest apart = refl
+past true true v w rest apart = absurd (apart refl refl)
+
+module _ {K X : Type 0} {R : K → K → Ordering} (total : IsTotalOrder R) (k : K) (v : X) where
+  found_by : (q : K) (o : Ordering) (e : K × X) (es : List (K × X)) → R k e.0 ≡ o → lookup (is_at (R q)) (insert_entry R es k v) ≡ cond (is_eq (R q k)) (Some v) (lookup (is_at (R q)) es)
+      → lookup (is_at (R q)) (match_ordering o ((k, v) ∷ e ∷ es) ((e.0, v) ∷ es) (e ∷ insert_entry R es k v)) ≡ cond (is_eq (R q k)) (Some v) (lookup (is_at (R q)) (e ∷ es))
+  found_by q Less e es is more = refl
+  found_by q Equal e es is more =
+      subst (λ (o : Ordering). cond (is_eq (R q e.0)) (Some v) (lookup (is_at (R q)) es) ≡ cond (is_eq o) (Some v) (cond (is_eq (R q e.0)) (Some e.1) (lookup (is_at (R q)) es)))
+      (sym (alike_right total k e.0 q is)) (over (is_eq (R q e.0)) v e.1 (lookup (is_at (R q)) es))
+  found_by q Greater e es is more =
+      ap (cond (is_eq (R q e.0)) (Some e.1)) more
+      ∙ past (is_eq (R q e.0)) (is_eq (R q k)) v e.1 (lookup (is_at (R q)) es) (λ here there.
+      let same : is_eq (R q e.0) ≡ is_eq (R k e.0) = (eq_by_cmp_equiv total).congr q k e.0 there in
+      let wrong : is_eq Greater ≡ true = sym (ap is_eq is) ∙ sym same ∙ here in
+      cc)
+
+  -- what is found after an entry is put: the new value at its key, and what was found before at each other key
+  pub lookup-insert_entry : (q : K) (es : List (K × X)) → lookup (is_at (R q)) (insert_entry R es k v) ≡ cond (is_eq (R q k)) (Some v) (lookup (is_at (R q)) es)
+  lookup-insert_entry q [] = refl
+  lookup-insert_entry q (e ∷ es) = found_by q (R k e.0) e es refl (lookup-insert_entry q es)
+
+-- ---- one entry of one directory
+
+-- whether this is the entry in question
+abbrev pub is_here : ℕ → List ℕ → ℕ → List ℕ → Bool
+is_here holder part other q = (other == holder) && bytes_eq q part
+
+-- it tells whether it is
+pub is_here-Decides : (holder : ℕ) (part : List ℕ) (other : ℕ) (q : List ℕ) → Decides (is_here holder part other q) ((other ≡ holder) × (q ≡ part))
+is_here-Decides holder part other q = (
+  λ yes. let both = and_parts _ _ yes in (eqb-true other holder both.0, (bytes_eq-Decides q part).0 both.1),
+  λ same. and_from _ _ (eq-eqb other holder same.0) ((bytes_eq-Decides q part).1 same.1),
+)
+
+-- an entry of another directory or of another component is another
+pub not_here : (holder : ℕ) (part : List ℕ) (other : ℕ) (q : List ℕ) → (other ≡ holder → q ≡ part → ⊥) → is_here holder part other q ≡ false
+not_here holder part other q apart = false_from_ne_true _ (λ yes. let same = (is_here-Decides holder part other q).0 yes in apart same.0 same.1)
+
+module _ (dirs : ℕ → Entries) (holder : ℕ) (part : List ℕ) (number : ℕ) where
+  -- what each component has after an entry is put
+  pub entry-with_entry : (other : ℕ) (q : List ℕ) → entry (with_entry dirs holder part number) other q ≡ (if is_here holder part other q then Some number else entry dirs other q)
+  entry-with_entry other q = by (other == holder) where
+    by : (b : Bool) → lookup (is_at (slice_cmp nat_cmp q)) (if b then insert_entry (slice_cmp nat_cmp) (dirs other) part number else dirs other) ≡ (if b && bytes_eq q part then Some number else entry dirs other q)
+    by true =
+        lookup-insert_entry nat_list_cmp_total part number q (dirs other)
+        ∙ ap (λ (b : Bool). cond b (Some number) (entry dirs other q)) (is_eq-slice_cmp q part)
+    by false = refl
+
+  -- the entry that is put has its object
+  pub entry-with_here : entry (with_entry dirs holder part number) holder part ≡ Some number
+  entry-with_here = entry-with_entry holder part ∙ cond-true _ _ _ ((is_here-Decides holder part holder part).1 (refl, refl))
+
+  -- each other entry has what it had
+  pub entry-with_apart : (other : ℕ) (q : List ℕ) → (other ≡ holder → q ≡ part → ⊥) → entry (with_entry dirs holder part number) other q ≡ entry dirs other q
+  entry-with_apart other q apart = entry-with_entry other q ∙ cond-false _ _ _ (not_here holder part other q apart)
+
+  -- the other directories stay as they were
+  pub with_entry_apart : (other : ℕ) → other ≢ holder → with_entry dirs holder part number other ≡ dirs other
+  with_entry_apart other apart = cond-false _ _ _ (ne_eqb other holder apart)
+
+  -- entries stay in order
+  pub sorted-with_entry : (other : ℕ) → IsStrictlySortedBy (slice_cmp nat_cmp) (keys_of (dirs other)) → IsStrictlySortedBy (slice_cmp nat_cmp) (keys_of (with_entry dirs holder part number other))
+  sorted-with_entry other s = by (other == holder) where
+    by : (b : Bool) → IsStrictlySortedBy (slice_cmp nat_cmp) (keys_of (if b then insert_entry (slice_cmp nat_cmp) (dirs other) part number else dirs other))
+    by true = sorted-insert_entry (slice_cmp nat_cmp) nat_list_cmp_total (dirs other) part number s
+    by false = s
+
+module _ (dirs : ℕ → Entries) (holder : ℕ) (part : List ℕ) where
+  -- what each component has after an entry is taken
+  pub entry-without_entry : (other : ℕ) (q : List ℕ) → IsStrictlySortedBy (slice_cmp nat_cmp) (keys_of (dirs other)) → entry (without_entry dirs holder part) other q ≡ (if is_here holder part other q then None else entry dirs other q)
+  entry-without_entry other q s = by (other == holder) where
+    laws : IsEquivalence (eq_by_cmp (slice_cmp nat_cmp))
+    laws = eq_by_cmp_equiv nat_list_cmp_total
+
+    by : (b : Bool) → lookup (is_at (slice_cmp nat_cmp q)) (if b then remove_entry (is_at (slice_cmp nat_cmp part)) (dirs other) else dirs other) ≡ (if b && bytes_eq q part then None else entry dirs other q)
+    by true =
+        lookup-remove_entry laws (is_at (slice_cmp nat_cmp part)) (λ x y same. laws.congr part x y same) q (dirs other) (IsDistinct-from_sorted (slice_cmp nat_cmp) (keys_of (dirs other)) s)
+        ∙ ap (λ (b : Bool). cond b None (entry dirs other q)) (laws.symm part q ∙ is_eq-slice_cmp q part)
+    by false = refl
+
+  -- the entry that is taken has none
+  pub entry-without_here : IsStrictlySortedBy (slice_cmp nat_cmp) (keys_of (dirs holder)) → entry (without_entry dirs holder part) holder part ≡ None
+  entry-without_here s = entry-without_entry holder part s ∙ cond-true _ _ _ ((is_here-Decides holder part holder part).1 (refl, refl))
+
+  -- each other entry has what it had
+  pub entry-without_apart : (other : ℕ) (q : List ℕ) → IsStrictlySortedBy (slice_cmp nat_cmp) (keys_of (dirs other)) → (other ≡ holder → q ≡ part → ⊥) → entry (without_entry dirs holder part) other q ≡ entry dirs other q
+  entry-without_apart other q s apart = entry-without_entry other q s ∙ cond-false _ _ _ (not_here holder part other q apart)
+
+  -- the other directories stay as they were
+  pub without_entry_apart : (other : ℕ) → other ≢ holder → without_entry dirs holder part other ≡ dirs other
+  without_entry_apart other apart = cond-false _ _ _ (ne_eqb other holder apart)
+
+  -- entries stay in order
+  pub sorted-without_entry : (other : ℕ) → IsStrictlySortedBy (slice_cmp nat_cmp) (keys_of (dirs other)) → IsStrictlySortedBy (slice_cmp nat_cmp) (keys_of (without_entry dirs holder part other))
+  sorted-without_entry other s = by (other == holder) where
+    by : (b : Bool) → IsStrictlySortedBy (slice_cmp nat_cmp) (keys_of (if b then remove_entry (is_at (slice_cmp nat_cmp part)) (dirs other) else dirs other))
+    by true = sorted-remove_entry (slice_cmp nat_cmp) (is_at (slice_cmp nat_cmp part)) (dirs other) s
+    by false = s

@@ -1,0 +1,50 @@
+-- Directories that hold one another, and the names that they give.
+use Rattle.std.specs.Prelude.{◌≡◌, ◌≢◌, ◌≤◌, ◌<◌, ℕ, zero, suc, ◌==◌, Bool, true, if◌then◌else◌, List, [], ◌∷◌, map, flat_map, Option, Some}
+use Rattle.std.specs.List.Sorted.{IsStrictlySortedBy}
+use Rattle.std.specs.Map.{lookup, keys_of, remove_entry}
+use Rattle.std.specs.BTreeMap.{insert_entry, is_at}
+use Rattle.std.specs.Cmp.Lexicographic.{slice_cmp}
+use Rattle.std.specs.Option.{option_and_then}
+use Rattle.std.specs.Ordering.{nat_cmp}
+use Rattle.st_names.specs.Name.{Components}
+
+-- a directory's entries, in the order of their names: each component with the number of its object
+abbrev pub Entries : Type 0
+Entries = List (List ℕ × ℕ)
+
+-- the object that a component has in a directory
+abbrev pub entry : (ℕ → Entries) → ℕ → List ℕ → Option ℕ
+entry dirs number part = lookup (is_at (slice_cmp nat_cmp part)) (dirs number)
+
+-- the object that is reached from this one by a name
+abbrev pub leads : (ℕ → Entries) → ℕ → Components → Option ℕ
+leads dirs from [] = Some from
+leads dirs from (part ∷ rest) = option_and_then (λ number. leads dirs number rest) (entry dirs from part)
+
+-- the names that lead on from an object over at most so many directories, in their order, each with the object that it reaches
+abbrev pub names_under : ℕ → (ℕ → Entries) → ℕ → List (Components × ℕ)
+names_under zero dirs from = []
+names_under (suc depth) dirs from =
+    flat_map (λ held. (held.0 ∷ [], held.1) ∷ map (λ named. (held.0 ∷ named.0, named.1)) (names_under depth dirs held.1)) (dirs from)
+
+-- the directories with one more entry, or with another object in an entry's place
+abbrev pub with_entry : (ℕ → Entries) → ℕ → List ℕ → ℕ → ℕ → Entries
+with_entry dirs holder part number other =
+    if other == holder then insert_entry (slice_cmp nat_cmp) (dirs other) part number else dirs other
+
+-- the directories without an entry
+abbrev pub without_entry : (ℕ → Entries) → ℕ → List ℕ → ℕ → Entries
+without_entry dirs holder part other =
+    if other == holder then remove_entry (is_at (slice_cmp nat_cmp part)) (dirs other) else dirs other
+
+-- Of so many objects, of which some are directories: each entry has a number that was given, and not the root's; what isn't
+-- a directory has no entries; a directory is reached from the root by one name at most, and one that no name reaches has no
+-- entries.
+pub record AreDirectories (count : ℕ) (is_dir : ℕ → Bool) (dirs : ℕ → Entries) : Type 0 where
+  pub root : is_dir 1 ≡ true
+  pub made : 1 ≤ count
+  pub sorted : (number : ℕ) → IsStrictlySortedBy (slice_cmp nat_cmp) (keys_of (dirs number))
+  pub numbered : (number : ℕ) (part : List ℕ) (held : ℕ) → entry dirs number part ≡ Some held → (1 < held) × (held ≤ count)
+  pub only : (number : ℕ) → is_dir number ≢ true → dirs number ≡ []
+  pub single : (number : ℕ) (name other : Components) → is_dir number ≡ true → leads dirs 1 name ≡ Some number → leads dirs 1 other ≡ Some number → name ≡ other
+  pub lost : (number : ℕ) → ((name : Components) → leads dirs 1 name ≢ Some number) → dirs number ≡ []

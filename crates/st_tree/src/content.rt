@@ -1,0 +1,40 @@
+// The bytes of files.
+ghost use Rattle.std.specs.Prelude.{◌≡◌, ◌+◌, ◌≤◌, ◌++◌, drop, length, take, OnOk, OnErr};
+ghost use Rattle.st_names.specs.Tree.{longest_file, overwritten};
+
+use std::alloc::AllocError;
+
+// The most bytes of a file.
+pub(crate) const LONGEST_FILE: u64 = 65_536;
+
+// So many bytes, from this one on; fewer where they end before.
+pub(crate) fn part(bytes: &[u8], at: u64, count: u64) -> &[u8]
+    ensures { result.now ≡ take count (drop at bytes.now) }
+{
+    let start = bytes.len().min(at as usize);
+    let rest = &bytes[start..];
+    let end = rest.len().min(count as usize);
+    &rest[..end]
+}
+
+// Puts new bytes in the place of as many, from this one on.
+fn put(bytes: &mut [u8], at: usize, new: &[u8])
+    requires { at + length new.now ≤ length bytes.old }
+    ensures { bytes.new ≡ take at bytes.old ++ new.now ++ drop (at + length new.now) bytes.old }
+{
+    bytes[at..at + new.len()].copy_from_slice(new);
+}
+
+// Puts new bytes in the place of those from this one on, behind zeros where there is a gap.
+pub(crate) fn overwrite(bytes: &mut Vec<u8>, at: usize, new: &[u8]) -> Result<(), AllocError>
+    requires { at + length new.now ≤ longest_file }
+    ensures ok { OnOk result (bytes.new.items ≡ overwritten bytes.old.items at new.now) }
+    ensures err { OnErr result (bytes.new.items ≡ bytes.old.items) }
+{
+    if new.is_empty() {
+        return Ok(());
+    }
+    bytes.resize(bytes.len().max(at + new.len()), 0)?;
+    put(bytes, at, new);
+    Ok(())
+}

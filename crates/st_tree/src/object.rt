@@ -1,0 +1,279 @@
+ghost use Rattle.std.specs.Prelude.{◌≡◌, ◌+◌, ◌<◌, ◌≤◌, [], drop, length, take, true, IfOk, OnOk, OnErr};
+ghost use Rattle.std.specs.BTreeMap.{insert_entry, is_at};
+ghost use Rattle.std.specs.Cmp.Lexicographic.{slice_cmp};
+ghost use Rattle.std.specs.Map.{lookup, remove_entry};
+ghost use Rattle.std.specs.Ordering.{nat_cmp};
+ghost use Rattle.st_names.specs.Permission.{allowed, bit_of, has_bit};
+ghost use Rattle.st_names.specs.Tree.{Regular, is_directory, longest_file, overwritten, resized, seen_of_kind, size_by};
+ghost use Rattle.st_names.specs.Seen.{seen_text};
+ghost use Rattle.st_tree.specs.Objects.{content_of_body, entries_of_body, kind_of_body, node_of};
+ghost use Rattle.st_tree.specs.Nodes.{content_to_make, kind_to_make, made_node, shown_kind, with_content};
+
+use crate::content;
+use st_base::{Obj, Text};
+use st_names::{Seen, Want};
+use std::alloc::{AllocError, Global};
+use std::collections::BTreeMap;
+
+/// What an object is.
+#[derive(Clone, Copy, Debug, PartialEq, Eq)]
+pub enum Kind {
+    Dir,
+    File,
+    Link,
+}
+
+/// What an object shows of itself.
+#[derive(Clone, Copy, Debug, PartialEq, Eq)]
+pub struct Node {
+    pub kind: Kind,
+    pub uid: u32,
+    pub gid: u32,
+    pub mode: u32,
+    /// Entries of a directory, bytes of a file, bytes of a link's target.
+    pub size: u64,
+}
+
+/// An object that is to be made.
+#[derive(Debug, Drop)]
+pub struct NewNode {
+    pub kind: NewKind,
+    pub uid: u32,
+    pub gid: u32,
+    pub mode: u32,
+}
+
+/// What kind of object is to be made.
+#[derive(Debug, Drop)]
+pub enum NewKind {
+    Dir,
+    /// A file, with its content.
+    File(Text),
+    /// A link, with its target.
+    Link(Text),
+}
+
+// An object, as the tree keeps it.
+#[derive(Debug, Drop)]
+pub(crate) struct Object {
+    pub(crate) uid: u32,
+    pub(crate) gid: u32,
+    pub(crate) mode: u32,
+    pub(crate) body: Body,
+}
+
+#[derive(Debug, Drop)]
+pub(crate) enum Body {
+    // The number of the object that each component has.
+    Dir(BTreeMap<Vec<u8>, Obj>),
+    File(Vec<u8>),
+    Link(Vec<u8>),
+}
+
+// The bit of three that a want asks for.
+fn bit_of(want: Want) -> u32
+    ensures bit { result ≡ bit_of want }
+    ensures some { 0 < result }
+{
+    match want {
+        Want::Read => 4,
+        Want::Write => 2,
+        Want::Search | Want::Execute => 1,
+    }
+}
+
+// Whether bits have this one.
+fn has_bit(bits: u32, bit: u32) -> bool
+    requires { 0 < bit }
+    ensures { result ≡ has_bit bits bit }
+{
+    bits / bit % 2 == 1
+}
+
+impl Body {
+    fn of(alloc: Global, kind: NewKind) -> Self
+        ensures kind { kind_of_body result ≡ kind_to_make kind }
+        ensures content { content_of_body result ≡ content_to_make kind }
+        ensures entries { entries_of_body result ≡ [] }
+    {
+        match kind {
+            NewKind::Dir => Body::Dir(BTreeMap::new(alloc)),
+            NewKind::File(content) => Body::File(content.into_bytes()),
+            NewKind::Link(target) => Body::Link(target.into_bytes()),
+        }
+    }
+}
+
+impl Object {
+    // A new object, without entries, which takes no memory.
+    pub(crate) fn of(alloc: Global, new: NewNode) -> Self
+        ensures node { node_of result ≡ made_node new }
+        ensures entries { entries_of_body result.body ≡ [] }
+    {
+        let NewNode {
+            kind,
+            uid,
+            gid,
+            mode,
+        } = new;
+        Object {
+            uid,
+            gid,
+            mode,
+            body: Body::of(alloc, kind),
+        }
+    }
+
+    pub(crate) fn is_dir(&self) -> bool
+        ensures { result ≡ is_directory (kind_of_body self.now.body) }
+    {
+        match self.body {
+            Body::Dir(_) => true,
+            Body::File(_) | Body::Link(_) => false,
+        }
+    }
+
+    // How many entries it has.
+    pub(crate) fn entries(&self) -> usize
+        ensures { result ≡ length (entries_of_body self.now.body) }
+    {
+        match &self.body {
+            Body::Dir(entries) => entries.len(),
+            Body::File(_) | Body::Link(_) => 0,
+        }
+    }
+
+    // What it shows of itself.
+    pub(crate) fn node(&self) -> Node
+        ensures kind { result.kind ≡ shown_kind (node_of self.now).kind }
+        ensures uid { result.uid ≡ self.now.uid }
+        ensures gid { result.gid ≡ self.now.gid }
+        ensures mode { result.mode ≡ self.now.mode }
+        ensures size { result.size ≡ size_by (node_of self.now).kind (length (entries_of_body self.now.body)) (node_of self.now).content }
+    {
+        let (kind, size) = match &self.body {
+            Body::Dir(entries) => (Kind::Dir, entries.len()),
+            Body::File(content) => (Kind::File, content.len()),
+            Body::Link(target) => (Kind::Link, target.len()),
+        };
+        Node {
+            kind,
+            uid: self.uid,
+            gid: self.gid,
+            mode: self.mode,
+            size: size as u64,
+        }
+    }
+
+    // Whether a user and a group may do this with it.
+    pub(crate) fn allows(&self, uid: u32, gid: u32, want: Want) -> bool
+        ensures { result ≡ allowed (node_of self.now) uid gid want }
+    {
+        if uid == 0 {
+            return match want {
+                Want::Read | Want::Write | Want::Search => true,
+                Want::Execute => {
+                    has_bit(self.mode, 0o100) || has_bit(self.mode, 0o10) || has_bit(self.mode, 0o1)
+                }
+            };
+        }
+        let bits = if uid == self.uid {
+            self.mode / 0o100 % 0o10
+        } else if gid == self.gid {
+            self.mode / 0o10 % 0o10
+        } else {
+            self.mode % 0o10
+        };
+        has_bit(bits, bit_of(want))
+    }
+
+    // What a look at it sees.
+    pub(crate) fn seen(&self) -> Seen<'_>
+        ensures { seen_text result ≡ seen_of_kind (node_of self.now).kind (node_of self.now).content }
+    {
+        match &self.body {
+            Body::Dir(_) => Seen::Dir,
+            Body::File(_) => Seen::File,
+            Body::Link(target) => Seen::Link(target),
+        }
+    }
+
+    // The number that a component has here.
+    pub(crate) fn entry(&self, part: &[u8]) -> Option<Obj>
+        ensures { result ≡ lookup (is_at (slice_cmp nat_cmp part.now)) (entries_of_body self.now.body) }
+    {
+        match &self.body {
+            Body::Dir(entries) => entries.get(part).copied(),
+            Body::File(_) | Body::Link(_) => None,
+        }
+    }
+
+    // Gives a component of a directory this number.
+    pub(crate) fn put(&mut self, alloc: Global, part: &[u8], obj: Obj) -> Result<(), AllocError>
+        requires { is_directory (kind_of_body self.old.body) ≡ true }
+        ensures ok { OnOk result (entries_of_body self.new.body ≡ insert_entry (slice_cmp nat_cmp) (entries_of_body self.old.body) part.now obj) }
+        ensures err { OnErr result (entries_of_body self.new.body ≡ entries_of_body self.old.body) }
+        ensures node { node_of self.new ≡ node_of self.old }
+    {
+        let part = Vec::from_slice(alloc, part)?;
+        if let Body::Dir(entries) = &mut self.body {
+            entries.insert(part, obj)?;
+        }
+        Ok(())
+    }
+
+    // Takes a component's entry away, if it has one.
+    pub(crate) fn take(&mut self, part: &[u8])
+        ensures entries { entries_of_body self.new.body ≡ remove_entry (is_at (slice_cmp nat_cmp part.now)) (entries_of_body self.old.body) }
+        ensures node { node_of self.new ≡ node_of self.old }
+    {
+        if let Body::Dir(entries) = &mut self.body {
+            entries.remove(part);
+        }
+    }
+
+    // The bytes of a file.
+    fn content(&self) -> &[u8]
+        ensures { result.now ≡ (node_of self.now).content }
+    {
+        match &self.body {
+            Body::Dir(_) => b"",
+            Body::File(content) => content,
+            Body::Link(target) => target,
+        }
+    }
+
+    // So many bytes, from this one on.
+    pub(crate) fn read(&self, alloc: Global, at: u64, count: u64) -> Result<Text, AllocError>
+        ensures { IfOk result (λ text. text ≡ take count (drop at (node_of self.now).content)) }
+    {
+        Text::of(alloc, content::part(self.content(), at, count))
+    }
+
+    // Puts bytes into a file, from this one on.
+    pub(crate) fn write(&mut self, at: usize, bytes: &[u8]) -> Result<(), AllocError>
+        requires file { kind_of_body self.old.body ≡ Regular }
+        requires fits { at + length bytes.now ≤ longest_file }
+        ensures ok { OnOk result (node_of self.new ≡ with_content (node_of self.old) (overwritten (node_of self.old).content at bytes.now)) }
+        ensures err { OnErr result (node_of self.new ≡ node_of self.old) }
+        ensures entries { entries_of_body self.new.body ≡ entries_of_body self.old.body }
+    {
+        if let Body::File(content) = &mut self.body {
+            content::overwrite(content, at, bytes)?;
+        }
+        Ok(())
+    }
+
+    // Cuts a file to a length, or fills it up.
+    pub(crate) fn cut(&mut self, len: usize) -> Result<(), AllocError>
+        requires { kind_of_body self.old.body ≡ Regular }
+        ensures ok { OnOk result (node_of self.new ≡ with_content (node_of self.old) (resized (node_of self.old).content len)) }
+        ensures err { OnErr result (node_of self.new ≡ node_of self.old) }
+        ensures entries { entries_of_body self.new.body ≡ entries_of_body self.old.body }
+    {
+        if let Body::File(content) = &mut self.body {
+            content.resize(len, 0)?;
+        }
+        Ok(())
+    }
+}

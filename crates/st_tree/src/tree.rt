@@ -1,0 +1,271 @@
+ghost use Rattle.std.specs.Prelude.{◌≡◌, ◌↔◌, suc, true, None, drop, length, take, IsNone, IfSome, IfOk, IfErr, OnOk, OnErr};
+ghost use Rattle.st_names.specs.Seen.{seen_text};
+ghost use Rattle.st_names.specs.Tree.{add_object, cut_object, link_object, look, node_made, object_of, remove_name, root_only, set_mode, set_owner, size_of, write_object};
+ghost use Rattle.st_names.specs.Permission.{allowed};
+ghost use Rattle.st_tree.specs.Answers.{KeepsKinds, Refuses};
+ghost use Rattle.st_tree.specs.Nodes.{made_node, shown_kind};
+ghost use Rattle.st_tree.specs.Refusals.{add_refused, cut_refused, is_lost, link_refused, remove_refused, rename_refused, renamed, write_refused, IsFile, IsMade};
+
+use crate::content::LONGEST_FILE;
+use crate::object::{NewKind, NewNode, Node, Object};
+use crate::places::{self, Gap};
+use crate::table;
+use st_base::{Errno, Obj, Text};
+use st_names::{AbsName, Seen, Want};
+use std::alloc::{AllocError, Global};
+use std::marker::Model;
+
+/// Why a tree was not changed.
+#[derive(Clone, Copy, Debug, PartialEq, Eq)]
+pub enum TreeFault {
+    /// The call fails with this error.
+    Os(Errno),
+    /// There is no memory for the change.
+    NoMemory,
+}
+
+impl From<AllocError> for TreeFault {
+    ghost use Rattle.st_tree.specs.declared.tree.TreeFault.TheVariants.{NoMemory};
+
+    ghost from_gives = { λ _ fault. fault ≡ NoMemory };
+
+    fn from(_error: AllocError) -> Self {
+        TreeFault::NoMemory
+    }
+}
+
+impl From<Errno> for TreeFault {
+    ghost use Rattle.st_tree.specs.declared.tree.TreeFault.TheVariants.{Os};
+
+    ghost from_gives = { λ errno fault. fault ≡ Os errno };
+
+    fn from(errno: Errno) -> Self {
+        TreeFault::Os(errno)
+    }
+}
+
+/// A file tree: objects, numbered from 1 in the order in which they were made, under the names that directories give them. The
+/// root is object 1.
+#[derive(Debug, Drop)]
+pub struct Tree {
+    // Object n stands at n - 1.
+    objects: Vec<Object>,
+}
+
+impl Model for Tree {
+    ghost use Rattle.st_names.specs.Tree as names;
+
+    ghost Value = { names.Tree };
+
+    ghost use Rattle.st_tree.specs.Objects.{tree_of, IsWhole};
+
+    ghost view = { λ t. tree_of t.objects.items };
+
+    ghost invariant = { λ t. IsWhole t.objects.items };
+}
+
+impl Tree {
+    /// The tree that has only the root.
+    pub fn new(alloc: Global) -> Result<Self, AllocError>
+        ensures { IfOk result (λ tree. tree ≡ root_only) }
+    {
+        let root = NewNode {
+            kind: NewKind::Dir,
+            uid: 0,
+            gid: 0,
+            mode: 0o755,
+        };
+        let mut objects = Vec::new(alloc);
+        objects.push(Object::of(alloc, root))?;
+        Ok(Tree { objects })
+    }
+
+    /// What is seen of a name. Of what stands on the way, the first that is missing or is no directory decides.
+    pub fn look<'a>(&'a self, name: &AbsName) -> Seen<'a>
+        ensures { seen_text result ≡ look self.now name.now }
+    {
+        match places::find(&self.objects, name) {
+            Ok(obj) => self.objects[obj as usize - 1].seen(),
+            Err(Gap::Missing) => Seen::Missing,
+            Err(Gap::NotDir) => Seen::NotDir,
+        }
+    }
+
+    /// The object that has a name; none exactly where a look sees Missing or NotDir.
+    pub fn object(&self, name: &AbsName) -> Option<Obj>
+        ensures object { result ≡ object_of self.now name.now }
+        ensures none { IsNone result ↔ (is_lost (look self.now name.now) ≡ true) }
+        ensures made { IfSome result (IsMade self.now) }
+    {
+        places::find(&self.objects, name).ok()
+    }
+
+    /// What an object shows of itself.
+    pub fn node(&self, obj: Obj) -> Node
+        requires { IsMade self.now obj }
+        ensures kind { result.kind ≡ shown_kind (node_made self.now obj).kind }
+        ensures uid { result.uid ≡ (node_made self.now obj).uid }
+        ensures gid { result.gid ≡ (node_made self.now obj).gid }
+        ensures mode { result.mode ≡ (node_made self.now obj).mode }
+        ensures size { result.size ≡ size_of self.now obj }
+    {
+        self.objects[obj as usize - 1].node()
+    }
+
+    /// Whether a user and a group may do this with an object: the owner's bits decide for the owner, else the group's for a
+    /// member of the group, else the others'. User 0 may do all but execute what nobody may.
+    pub fn allowed(&self, obj: Obj, uid: u32, gid: u32, want: Want) -> bool
+        requires { IsMade self.now obj }
+        ensures { result ≡ allowed (node_made self.now obj) uid gid want }
+    {
+        self.objects[obj as usize - 1].allows(uid, gid, want)
+    }
+
+    /// How many objects were ever made; the next one gets the number above.
+    pub fn made(&self) -> u32
+        ensures { result ≡ length self.now.objects }
+    {
+        self.objects.len() as u32
+    }
+
+    /// Makes an object under a new name, and gives its number. ENOENT where the name's directory is missing, ENOTDIR where
+    /// something on the way is no directory, EEXIST where the name is taken, ENOSPC where 4,096 objects were made. After an
+    /// error nothing is changed.
+    pub fn add(&mut self, alloc: Global, name: &AbsName, new: NewNode) -> Result<Obj, TreeFault>
+        ensures ok { OnOk result (self.new ≡ add_object self.old name.now (made_node new)) }
+        ensures number { IfOk result (λ obj. obj ≡ suc (length self.old.objects)) }
+        ensures made { IfOk result (IsMade self.new) }
+        ensures node { IfOk result (λ obj. node_made self.new obj ≡ made_node new) }
+        ensures may { OnOk result (add_refused self.old name.now ≡ None) }
+        ensures refused { Refuses (add_refused self.old name.now) result }
+        ensures err { OnErr result (self.new ≡ self.old) }
+    {
+        let holder = places::place_to_add(&self.objects, name)?;
+        let obj = self.objects.len() as u32 + 1;
+        self.objects.reserve(1)?;
+        table::put_entry(
+            &mut self.objects,
+            alloc,
+            holder,
+            places::last_part(name),
+            obj,
+        )?;
+        self.objects.push_reserved(Object::of(alloc, new));
+        Ok(obj)
+    }
+
+    /// Gives an object one more name. ENOENT, ENOTDIR and EEXIST as for a new object, then EPERM where it is a directory.
+    /// After an error nothing is changed.
+    pub fn link(&mut self, alloc: Global, obj: Obj, name: &AbsName) -> Result<(), TreeFault>
+        requires { IsMade self.old obj }
+        ensures ok { OnOk result (self.new ≡ link_object self.old name.now obj) }
+        ensures may { OnOk result (link_refused self.old obj name.now ≡ None) }
+        ensures refused { Refuses (link_refused self.old obj name.now) result }
+        ensures err { OnErr result (self.new ≡ self.old) }
+    {
+        let holder = places::place_to_link(&self.objects, obj, name)?;
+        table::put_entry(
+            &mut self.objects,
+            alloc,
+            holder,
+            places::last_part(name),
+            obj,
+        )?;
+        Ok(())
+    }
+
+    /// Takes a name away; its object stays. EINVAL for the root, then ENOENT where the name or something on the way is
+    /// missing, ENOTDIR where something on the way is no directory, ENOTEMPTY for a directory with entries.
+    pub fn remove(&mut self, name: &AbsName) -> Result<(), TreeFault>
+        ensures ok { OnOk result (self.new ≡ remove_name self.old name.now) }
+        ensures may { OnOk result (remove_refused self.old name.now ≡ None) }
+        ensures refused { Refuses (remove_refused self.old name.now) result }
+        ensures err { OnErr result (self.new ≡ self.old) }
+    {
+        let holder = places::place_to_remove(&self.objects, name)?;
+        table::take_entry(&mut self.objects, holder, places::last_part(name));
+        Ok(())
+    }
+
+    /// Gives the names that begin with this one the new beginning: an object moves with all that is below it, and takes the
+    /// place of what has the new name. Where both names have one object nothing is changed. EINVAL where one is the root or
+    /// the new name leads on from the old one; then ENOENT or ENOTDIR of the old name, ENOENT or ENOTDIR of the new name's
+    /// directory; then ENOTDIR where the object alone is a directory, EISDIR where the one that it replaces alone is,
+    /// ENOTEMPTY where that one has entries. After an error nothing is changed.
+    pub fn rename(&mut self, alloc: Global, old: &AbsName, new: &AbsName) -> Result<(), TreeFault>
+        ensures ok { OnOk result (self.new ≡ renamed self.old old.now new.now) }
+        ensures may { OnOk result (rename_refused self.old old.now new.now ≡ None) }
+        ensures refused { Refuses (rename_refused self.old old.now new.now) result }
+        ensures err { OnErr result (self.new ≡ self.old) }
+    {
+        let Some(way) = places::way_to_rename(&self.objects, old, new)? else {
+            return Ok(());
+        };
+        places::move_entry(&mut self.objects, alloc, way, old, new)?;
+        Ok(())
+    }
+
+    /// So many bytes of a file, from this one on; fewer where it ends before.
+    pub fn read(&self, alloc: Global, obj: Obj, at: u64, count: u64) -> Result<Text, AllocError>
+        requires { IsFile self.now obj }
+        ensures { IfOk result (λ text. text ≡ take count (drop at (node_made self.now obj).content)) }
+    {
+        self.objects[obj as usize - 1].read(alloc, at, count)
+    }
+
+    /// Puts bytes into a file, from this one on; a gap before them is filled with zeros, and no bytes change nothing. ENOSPC
+    /// where they would end past byte 65,536. After an error nothing is changed.
+    pub fn write(&mut self, obj: Obj, at: u64, bytes: &[u8]) -> Result<(), TreeFault>
+        requires { IsFile self.old obj }
+        ensures ok { OnOk result (self.new ≡ write_object self.old obj at bytes.now) }
+        ensures kinds { KeepsKinds self.old self.new }
+        ensures may { OnOk result (write_refused at bytes.now ≡ None) }
+        ensures refused { Refuses (write_refused at bytes.now) result }
+        ensures err { OnErr result (self.new ≡ self.old) }
+    {
+        if bytes.is_empty() {
+            return Ok(());
+        }
+        if at.saturating_add(bytes.len() as u64) > LONGEST_FILE {
+            return Err(TreeFault::Os(Errno::ENOSPC));
+        }
+        self.objects[obj as usize - 1].write(at as usize, bytes)?;
+        Ok(())
+    }
+
+    /// Cuts a file to a length, or fills it up with zeros. ENOSPC past 65,536 bytes. After an error nothing is changed.
+    pub fn cut(&mut self, obj: Obj, len: u64) -> Result<(), TreeFault>
+        requires { IsFile self.old obj }
+        ensures ok { OnOk result (self.new ≡ cut_object self.old obj len) }
+        ensures kinds { KeepsKinds self.old self.new }
+        ensures may { OnOk result (cut_refused len ≡ None) }
+        ensures refused { Refuses (cut_refused len) result }
+        ensures err { OnErr result (self.new ≡ self.old) }
+    {
+        if len > LONGEST_FILE {
+            return Err(TreeFault::Os(Errno::ENOSPC));
+        }
+        self.objects[obj as usize - 1].cut(len as usize)?;
+        Ok(())
+    }
+
+    /// Gives an object another mode.
+    pub fn set_mode(&mut self, obj: Obj, mode: u32)
+        requires { IsMade self.old obj }
+        ensures mode { self.new ≡ set_mode self.old obj mode }
+        ensures kinds { KeepsKinds self.old self.new }
+    {
+        self.objects[obj as usize - 1].mode = mode;
+    }
+
+    /// Gives an object another owner and another group.
+    pub fn set_owner(&mut self, obj: Obj, uid: u32, gid: u32)
+        requires { IsMade self.old obj }
+        ensures owner { self.new ≡ set_owner self.old obj uid gid }
+        ensures kinds { KeepsKinds self.old self.new }
+    {
+        let object = &mut self.objects[obj as usize - 1];
+        object.uid = uid;
+        object.gid = gid;
+    }
+}
