@@ -245,13 +245,25 @@ fn prints_refusals_and_faults(rt: HostRuntime) -> Result<(), Fail> {
         denied_held(1, Errno::ENOENT, Cause::Filter(2)),
         entered(1, SysCall::Open, Way::Held(2)),
         denied_held(2, Errno::EPERM, Cause::Fault),
-        entered(1, SysCall::Open, Way::Held(3)),
-        denied_held(1, Errno::ELOOP, Cause::Link(name_of(alloc, b"tmp")?)),
         used_held(3, names(alloc, 1, b"/tmp/z")?, alloc),
     ];
     let text = audit_text(alloc, &trace, &reader(alloc)?)?;
     let expected =
-        b"1.1 \"/bin/cat\" native-fsread filename=\"/etc/spwd\" deny#2 = ENOENT\n1.1 \"/bin/cat\" native-fsread fault = EPERM\n1.1 \"/bin/cat\" native-fsread filename=\"/etc/spwd\" link \"/tmp\" = ELOOP\n1.1 \"/bin/cat\" native-fsread filename[1]=\"/tmp/z\" permit#0 = 3\n";
+        b"1.1 \"/bin/cat\" native-fsread filename=\"/etc/spwd\" deny#2 = ENOENT\n1.1 \"/bin/cat\" native-fsread fault = EPERM\n1.1 \"/bin/cat\" native-fsread filename[1]=\"/tmp/z\" permit#0 = 3\n";
+    assert_eq!(rt; text.bytes(), expected.as_slice());
+    Ok(())
+}
+
+#[test]
+fn prints_a_link_in_the_way(rt: HostRuntime) -> Result<(), Fail> {
+    let alloc = rt.alloc();
+    let link = Cause::Link(name_of(alloc, b"tmp")?);
+    let trace = [
+        entered(1, SysCall::Open, Way::Held(1)),
+        denied_held(1, Errno::ELOOP, link),
+    ];
+    let text = audit_text(alloc, &trace, &reader(alloc)?)?;
+    let expected = b"1.1 \"/bin/cat\" native-fsread link \"/tmp\" = ELOOP\n";
     assert_eq!(rt; text.bytes(), expected.as_slice());
     Ok(())
 }
