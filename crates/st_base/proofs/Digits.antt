@@ -1,5 +1,6 @@
+-- Numerals that are read digit by digit: what they come to so far, and when they are no number that fits.
 use Rattle.std.proofs.Common.{zero, suc, ◌≡◌, ℕ, ◌+◌, ◌*◌, ◌<◌, ◌≤◌, Bool, true, false, cond, ◌&&◌, List, [], ◌∷◌, ◌++◌, length, get_or, take, drop, refl, ap, sym, ◌∙◌, arith, ◌^◌, Option, Some, None, nat_lt, nat_le}
-use Rattle.std.proofs.lemmas.Bool.{ltb-true, lt-ltb, leb-true, le-leb}
+use Rattle.std.proofs.lemmas.Bool.{ltb-true, lt-ltb, leb-true, le-leb, and_parts, and_from}
 use Rattle.std.proofs.lemmas.List.{take-append-drop}
 use Rattle.std.proofs.lemmas.Int.Digits.{digits_value_more}
 use Rattle.std.specs.Char.{digit_value, is_digit}
@@ -33,13 +34,6 @@ AllDigits-get_or radix [] i a h = absurd (omega arith)
 AllDigits-get_or radix (d ∷ ds) zero a h = a.0
 AllDigits-get_or radix (d ∷ ds) (suc i) a h = AllDigits-get_or radix ds i a.1 (omega arith)
 
-and_parts : (a b : Bool) → (a && b) ≡ true → (a ≡ true) × (b ≡ true)
-and_parts true b h = (refl, h)
-and_parts false b h = cc
-
-both_true : (a b : Bool) → a ≡ true → b ≡ true → (a && b) ≡ true
-both_true a b p q = rw (p, q)
-
 -- what is tested of each byte holds of each
 pub AllDigits-from_test : (radix : ℕ) (ds : List ℕ) → list_all (λ c. is_digit c radix) ds ≡ true → AllDigits radix ds
 AllDigits-from_test radix [] h = tt
@@ -47,7 +41,7 @@ AllDigits-from_test radix (d ∷ ds) h = let p : ((is_digit d radix ≡ true) ×
 
 pub list_all-from_digits : (radix : ℕ) (ds : List ℕ) → AllDigits radix ds → list_all (λ c. is_digit c radix) ds ≡ true
 list_all-from_digits radix [] a = refl
-list_all-from_digits radix (d ∷ ds) a = both_true (is_digit d radix) (list_all (λ c. is_digit c radix) ds) (lt-ltb (digit_value d) radix a.0) (list_all-from_digits radix ds a.1)
+list_all-from_digits radix (d ∷ ds) a = and_from (is_digit d radix) (list_all (λ c. is_digit c radix) ds) (lt-ltb (digit_value d) radix a.0) (list_all-from_digits radix ds a.1)
 
 chosen : {A : Type 0} (b : Bool) (x : Option A) → b ≡ true → cond b x None ≡ x
 chosen true x h = refl
@@ -60,9 +54,9 @@ left_out false x h = refl
 -- a numeral that is small enough is a number
 pub numeral_up_to-some : (most radix value : ℕ) (ds : List ℕ) → 0 < length ds → AllDigits radix ds → value ≡ digits_value radix ds → value ≤ most → Some value ≡ numeral_up_to most radix ds
 numeral_up_to-some most radix value ds some digits value_is small =
-    let numeral : is_numeral radix ds ≡ true = both_true (nat_lt 0 (length ds)) (list_all (λ c. is_digit c radix) ds) (lt-ltb 0 (length ds) some) (list_all-from_digits radix ds digits) in
+    let numeral : is_numeral radix ds ≡ true = and_from (nat_lt 0 (length ds)) (list_all (λ c. is_digit c radix) ds) (lt-ltb 0 (length ds) some) (list_all-from_digits radix ds digits) in
     let fits : nat_le (digits_value radix ds) most ≡ true = le-leb (digits_value radix ds) most (omega arith) in
-    ap Some value_is ∙ sym (chosen (is_numeral radix ds && nat_le (digits_value radix ds) most) (Some (digits_value radix ds)) (both_true (is_numeral radix ds) (nat_le (digits_value radix ds) most) numeral fits))
+    ap Some value_is ∙ sym (chosen (is_numeral radix ds && nat_le (digits_value radix ds) most) (Some (digits_value radix ds)) (and_from (is_numeral radix ds) (nat_le (digits_value radix ds) most) numeral fits))
 
 -- what holds of no numeral that is small enough is no number
 pub numeral_up_to-none : (most radix : ℕ) (ds : List ℕ) → (AllDigits radix ds → digits_value radix ds ≤ most → ⊥) → numeral_up_to most radix ds ≡ None

@@ -67,11 +67,11 @@ abbrev pub error_named : List ℕ → Option Errno
 error_named word = find (λ errno. bytes_eq (word_of_error errno) word) every_error
 
 -- a reason for refusal, where it is met
-abbrev pub when : Bool → Errno → Option Errno
-when met errno = if met then Some errno else None
+abbrev pub error_if : Bool → Errno → Option Errno
+error_if met errno = if met then Some errno else None
 
 -- the first reason of those that are met, in their order
-abbrev pub first_of : List (Option Errno) → Option Errno
-first_of [] = None
-first_of (None ∷ reasons) = first_of reasons
-first_of (Some errno ∷ reasons) = Some errno
+abbrev pub first_error : List (Option Errno) → Option Errno
+first_error [] = None
+first_error (None ∷ reasons) = first_error reasons
+first_error (Some errno ∷ reasons) = Some errno

@@ -12,6 +12,7 @@ abbrev pub numeral_up_to : ℕ → ℕ → List ℕ → Option ℕ
 numeral_up_to most radix word =
     if is_numeral radix word && nat_le (digits_value radix word) most then Some (digits_value radix word) else None
 
+-- whether a word begins with `0x`
 abbrev pub is_hexadecimal : List ℕ → Bool
 is_hexadecimal word = starts_with nat_eq word (codes "0x")
 

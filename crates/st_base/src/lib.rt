@@ -4,13 +4,11 @@
 pub mod errno;
 pub mod ids;
 pub mod number;
-pub mod open_file;
 pub mod sequence;
 pub mod text;
 
 pub use errno::Errno;
 pub use ids::{Ids, Obj, Pid, Seq, Space, Tid, Worker};
-pub use open_file::{DESCRIPTORS, FileKind, OpenFile};
 pub use sequence::Sequence;
 pub use text::Text;
 
