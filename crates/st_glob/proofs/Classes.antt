@@ -1,7 +1,7 @@
 -- Classes: their members, ranges and closing brackets.
 use Rattle.std.proofs.Common.{◌≡◌, ℕ, ◌+◌, ◌<◌, ◌≤◌, ◌≢◌, ◌==◌, ◌||◌, ◌&&◌, Bool, true, false, List, [], ◌∷◌, length, drop, get_or, Option, None, Some, refl, ap, sym, subst, ◌∙◌, arith, cond}
 use Rattle.std.proofs.lemmas.Bool.Decides.{nat_tests}
-use Rattle.st_glob.specs.Items.{Member, members, lists, is_listed, in_range, dash, further, member_len, to_bracket, class_len, is_negated, bracket_item, byte_item, backslash_item, first_item, Spelled}
+use Rattle.st_glob.specs.Items.{Member, members, has_byte, is_listed, in_range, dash, farther_by, member_len, to_bracket, class_len, is_negated, bracket_item, byte_item, backslash_item, first_item, Spelled}
 
 pub either : (b : Bool) (P : Type 0) → (b ≡ true → P) → (b ≡ false → P) → P
 either true P f g = f refl
@@ -14,12 +14,12 @@ or-false : (b : Bool) → b ≡ (b || false)
 or-false true = refl
 or-false false = refl
 
-lists-single : (m : Member) (c : ℕ) → lists (m ∷ []) c ≡ (in_range m.byte m.byte c || lists [] c)
+lists-single : (m : Member) (c : ℕ) → has_byte (m ∷ []) c ≡ (in_range m.byte m.byte c || has_byte [] c)
 lists-single m c = sym (in_range-one m.byte c) ∙ or-false (in_range m.byte m.byte c)
 
-lists-plain : (m b : Member) (ms : List Member) (c : ℕ) → (b.bare && (b.byte == dash)) ≡ false → lists (m ∷ b ∷ ms) c ≡ (in_range m.byte m.byte c || lists (b ∷ ms) c)
+lists-plain : (m b : Member) (ms : List Member) (c : ℕ) → (b.bare && (b.byte == dash)) ≡ false → has_byte (m ∷ b ∷ ms) c ≡ (in_range m.byte m.byte c || has_byte (b ∷ ms) c)
 lists-plain m b [] c e = ap (λ (x : Bool). x || (b.byte == c)) (sym (in_range-one m.byte c))
-lists-plain m b (d ∷ ms) c e = rw e (ap (λ (x : Bool). x || lists (b ∷ d ∷ ms) c) (sym (in_range-one m.byte c)))
+lists-plain m b (d ∷ ms) c e = rw e (ap (λ (x : Bool). x || has_byte (b ∷ d ∷ ms) c) (sym (in_range-one m.byte c)))
 
 members-plain : (b : ℕ) (rest : List ℕ) → (b == 92) ≡ false → members (b ∷ rest) ≡ record { byte = b; bare = true } ∷ members rest
 members-plain b [] e = refl
@@ -29,22 +29,22 @@ members-pair : (b c : ℕ) (rest : List ℕ) → (b == 92) ≡ true → members 
 members-pair b c rest e = rw e refl
 
 -- a member and bytes that don't begin with a dash
-lists-no-dash : (m : Member) (b : ℕ) (rest : List ℕ) (c : ℕ) → (b == dash) ≡ false → lists (m ∷ members (b ∷ rest)) c ≡ (in_range m.byte m.byte c || lists (members (b ∷ rest)) c)
+lists-no-dash : (m : Member) (b : ℕ) (rest : List ℕ) (c : ℕ) → (b == dash) ≡ false → has_byte (m ∷ members (b ∷ rest)) c ≡ (in_range m.byte m.byte c || has_byte (members (b ∷ rest)) c)
 lists-no-dash m b [] c e = lists-plain m (record { byte = b; bare = true }) [] c e
 lists-no-dash m b (d ∷ rest) c e =
-    let P : List Member → Type 0 = λ ms. lists (m ∷ ms) c ≡ (in_range m.byte m.byte c || lists ms c) in
+    let P : List Member → Type 0 = λ ms. has_byte (m ∷ ms) c ≡ (in_range m.byte m.byte c || has_byte ms c) in
     either (b == 92) (P (members (b ∷ d ∷ rest)))
     (λ h. subst P (sym (members-pair b d rest h)) (lists-plain m (record { byte = d; bare = false }) (members rest) c refl))
     (λ h. subst P (sym (members-plain b (d ∷ rest) h)) (lists-plain m (record { byte = b; bare = true }) (members (d ∷ rest)) c e))
 
 pub listed-short : (class behind : List ℕ) (m : Member) → members class ≡ m ∷ members behind → length behind < 2 → (c : ℕ) → is_listed class c ≡ (in_range m.byte m.byte c || is_listed behind c)
-listed-short class [] m e h c = ap (λ (ms : List Member). lists ms c) e ∙ lists-single m c
-listed-short class (b ∷ []) m e h c = ap (λ (ms : List Member). lists ms c) e ∙ ap (λ (x : Bool). x || (b == c)) (sym (in_range-one m.byte c))
+listed-short class [] m e h c = ap (λ (ms : List Member). has_byte ms c) e ∙ lists-single m c
+listed-short class (b ∷ []) m e h c = ap (λ (ms : List Member). has_byte ms c) e ∙ ap (λ (x : Bool). x || (b == c)) (sym (in_range-one m.byte c))
 listed-short class (b ∷ d ∷ rest) m e h c = absurd (omega arith)
 
 pub listed-plain : (class behind : List ℕ) (m : Member) → members class ≡ m ∷ members behind → get_or behind 0 0 ≢ 45 → (c : ℕ) → is_listed class c ≡ (in_range m.byte m.byte c || is_listed behind c)
-listed-plain class [] m e h c = ap (λ (ms : List Member). lists ms c) e ∙ lists-single m c
-listed-plain class (b ∷ rest) m e h c = ap (λ (ms : List Member). lists ms c) e ∙ lists-no-dash m b rest c (grind (arith, nat_tests))
+listed-plain class [] m e h c = ap (λ (ms : List Member). has_byte ms c) e ∙ lists-single m c
+listed-plain class (b ∷ rest) m e h c = ap (λ (ms : List Member). has_byte ms c) e ∙ lists-no-dash m b rest c (grind (arith, nat_tests))
 
 -- a member, a dash and a further member are a range
 pub listed-range : (class behind : List ℕ) (m h : Member) (more : ℕ) →
@@ -54,31 +54,31 @@ listed-range class [] m h more e n d f c = absurd (omega arith)
 listed-range class (b ∷ []) m h more e n d f c = absurd (omega arith)
 listed-range class (b ∷ d ∷ rest) m h more e n is f c =
     let dash_first : members (b ∷ d ∷ rest) ≡ record { byte = 45; bare = true } ∷ members (d ∷ rest) = rw is refl in
-    ap (λ (ms : List Member). lists ms c) (e ∙ ap (λ (ms : List Member). m ∷ ms) (dash_first ∙ ap (λ (ms : List Member). record { byte = 45; bare = true } ∷ ms) f))
+    ap (λ (ms : List Member). has_byte ms c) (e ∙ ap (λ (ms : List Member). m ∷ ms) (dash_first ∙ ap (λ (ms : List Member). record { byte = 45; bare = true } ∷ ms) f))
 
-further-further : (a b : ℕ) (n : Option ℕ) → further a (further b n) ≡ further (a + b) n
+further-further : (a b : ℕ) (n : Option ℕ) → farther_by a (farther_by b n) ≡ farther_by (a + b) n
 further-further a b None = refl
 further-further a b (Some n) = ap Some (omega arith)
 
-pub further-none : (n : Option ℕ) → n ≡ further 0 n
+pub further-none : (n : Option ℕ) → n ≡ farther_by 0 n
 further-none None = refl
 further-none (Some n) = ap Some (omega arith)
 
-bracket-member : (bytes : List ℕ) → 0 < length bytes → get_or bytes 0 0 ≢ 93 → to_bracket bytes ≡ further (member_len bytes) (to_bracket (drop (member_len bytes) bytes))
+bracket-member : (bytes : List ℕ) → 0 < length bytes → get_or bytes 0 0 ≢ 93 → to_bracket bytes ≡ farther_by (member_len bytes) (to_bracket (drop (member_len bytes) bytes))
 bracket-member [] h n = absurd (omega arith)
 bracket-member (b ∷ []) h n = grind (arith, nat_tests)
 bracket-member (b ∷ c ∷ rest) h n =
     let k : (b == 93) ≡ false = grind (arith, nat_tests) in
-    let P : ℕ → Option ℕ → Type 0 = λ len n. n ≡ further len (to_bracket (drop len (b ∷ c ∷ rest))) in
+    let P : ℕ → Option ℕ → Type 0 = λ len n. n ≡ farther_by len (to_bracket (drop len (b ∷ c ∷ rest))) in
     either (b == 92) (P (member_len (b ∷ c ∷ rest)) (to_bracket (b ∷ c ∷ rest)))
     (λ e. rw (k, e) refl)
     (λ e. rw (k, e) refl)
 
 pub bracket-more : (all bytes : List ℕ) (count len : ℕ) → 0 < length bytes → get_or bytes 0 0 ≢ 93 → len ≡ member_len bytes →
-    to_bracket all ≡ further count (to_bracket bytes) → to_bracket all ≡ further (count + len) (to_bracket (drop len bytes))
+    to_bracket all ≡ farther_by count (to_bracket bytes) → to_bracket all ≡ farther_by (count + len) (to_bracket (drop len bytes))
 bracket-more all bytes count len h n e i =
-    i ∙ ap (further count) (bracket-member bytes h n) ∙ further-further count (member_len bytes) (to_bracket (drop (member_len bytes) bytes)) ∙
-    ap (λ (k : ℕ). further (count + k) (to_bracket (drop k bytes))) (sym e)
+    i ∙ ap (farther_by count) (bracket-member bytes h n) ∙ further-further count (member_len bytes) (to_bracket (drop (member_len bytes) bytes)) ∙
+    ap (λ (k : ℕ). farther_by (count + k) (to_bracket (drop k bytes))) (sym e)
 
 pub bracket-here : (bytes : List ℕ) → 0 < length bytes → get_or bytes 0 0 ≡ 93 → to_bracket bytes ≡ Some 0
 bracket-here [] h e = absurd (omega arith)
@@ -87,7 +87,7 @@ bracket-here (b ∷ c ∷ rest) h e = grind (arith, nat_tests)
 
 -- ---- where no bracket closes
 
-further-is-none : (k : ℕ) (n : Option ℕ) → further k n ≡ None → n ≡ None
+further-is-none : (k : ℕ) (n : Option ℕ) → farther_by k n ≡ None → n ≡ None
 further-is-none k None e = refl
 further-is-none k (Some n) e = absurd (cc)
 
@@ -99,7 +99,7 @@ pub unclosed-behind : (b : ℕ) (rest : List ℕ) → (b == 92) ≡ false → to
 unclosed-behind b [] n e = refl
 unclosed-behind b (c ∷ rest) n e =
     let h : (b == 93) ≡ false = let g : b ≢ 93 = no-bracket b (c ∷ rest) e in grind (arith, nat_tests) in
-    let f : further 1 (to_bracket (c ∷ rest)) ≡ None = rw (h, n) at e in
+    let f : farther_by 1 (to_bracket (c ∷ rest)) ≡ None = rw (h, n) at e in
     further-is-none 1 (to_bracket (c ∷ rest)) f
 
 unclosed-class : (bytes : List ℕ) → to_bracket bytes ≡ None → class_len bytes ≡ None

@@ -3,7 +3,7 @@ use Rattle.std.proofs.Common.{◌≡◌, ◌≢◌, ℕ, ◌==◌, ◌&&◌, not
 use Rattle.std.specs.Prelude.{IsTrue}
 use Rattle.std.proofs.lemmas.Bool.Decides.{nat_tests}
 use Rattle.st_glob.specs.Items.{Item, Star, Any, Exactly, Within, Without, slash, items}
-use Rattle.st_glob.specs.Glob.{takes, behind_run, matches, glob}
+use Rattle.st_glob.specs.Glob.{matches_byte, matches_after_run, matches, glob}
 use Rattle.st_glob.specs.Fills.{Fills, Nothing, Byte, Stop, Run, IsEnded, FillsFront}
 use Rattle.st_glob.proofs.Runs.{or_cases, and_cases, run-here, run-longer, matches-takes}
 
@@ -24,7 +24,7 @@ is-slash-test c e = grind (arith, nat_tests)
 ended-front : (text : List ℕ) → IsEnded text → FillsFront [] text
 ended-front text e = record { front = []; left = text; parts = refl; fills = Nothing; ended = e }
 
-byte-front : (item : Item) (more : List Item) (c : ℕ) (text : List ℕ) → takes item c ≡ true → FillsFront more text → FillsFront (item ∷ more) (c ∷ text)
+byte-front : (item : Item) (more : List Item) (c : ℕ) (text : List ℕ) → matches_byte item c ≡ true → FillsFront more text → FillsFront (item ∷ more) (c ∷ text)
 byte-front item more c text t f = record { front = c ∷ f.front; left = f.left; parts = ap (λ (x : List ℕ). c ∷ x) f.parts; fills = Byte t f.fills; ended = f.ended }
 
 stop-front : (more : List Item) (text : List ℕ) → FillsFront more text → FillsFront (Star ∷ more) text
@@ -33,16 +33,16 @@ stop-front more text f = record { front = f.front; left = f.left; parts = f.part
 longer-front : (more : List Item) (c : ℕ) (text : List ℕ) → c ≢ slash → FillsFront (Star ∷ more) text → FillsFront (Star ∷ more) (c ∷ text)
 longer-front more c text n f = record { front = c ∷ f.front; left = f.left; parts = ap (λ (x : List ℕ). c ∷ x) f.parts; fills = Run n f.fills; ended = f.ended }
 
-run-front : (more : List Item) → ((text : List ℕ) → matches more text ≡ true → FillsFront more text) → (text : List ℕ) → behind_run (matches more) text ≡ true → FillsFront (Star ∷ more) text
+run-front : (more : List Item) → ((text : List ℕ) → matches more text ≡ true → FillsFront more text) → (text : List ℕ) → matches_after_run (matches more) text ≡ true → FillsFront (Star ∷ more) text
 run-front more f [] e = stop-front more [] (f [] e)
 run-front more f (c ∷ text) e =
     let P : Type 0 = FillsFront (Star ∷ more) (c ∷ text) in
-    or_cases P (matches more (c ∷ text)) (not (c == slash) && behind_run (matches more) text) e
+    or_cases P (matches more (c ∷ text)) (not (c == slash) && matches_after_run (matches more) text) e
     (λ h. stop-front more (c ∷ text) (f (c ∷ text) h))
-    (λ h. and_cases P (not (c == slash)) (behind_run (matches more) text) h (λ n r. longer-front more c text (no-slash c n) (run-front more f text r)))
+    (λ h. and_cases P (not (c == slash)) (matches_after_run (matches more) text) h (λ n r. longer-front more c text (no-slash c n) (run-front more f text r)))
 
-taken-front : (item : Item) (more : List Item) (c : ℕ) (text : List ℕ) → ((left : List ℕ) → matches more left ≡ true → FillsFront more left) → (takes item c && matches more text) ≡ true → FillsFront (item ∷ more) (c ∷ text)
-taken-front item more c text f e = and_cases (FillsFront (item ∷ more) (c ∷ text)) (takes item c) (matches more text) e (λ t m. byte-front item more c text t (f text m))
+taken_len-front : (item : Item) (more : List Item) (c : ℕ) (text : List ℕ) → ((left : List ℕ) → matches more left ≡ true → FillsFront more left) → (matches_byte item c && matches more text) ≡ true → FillsFront (item ∷ more) (c ∷ text)
+taken_len-front item more c text f e = and_cases (FillsFront (item ∷ more) (c ∷ text)) (matches_byte item c) (matches more text) e (λ t m. byte-front item more c text t (f text m))
 
 pub to-front : (is : List Item) (text : List ℕ) → matches is text ≡ true → FillsFront is text
 to-front [] [] e = ended-front [] tt
@@ -52,10 +52,10 @@ to-front (Any ∷ more) [] e = absurd (cc)
 to-front (Exactly b ∷ more) [] e = absurd (cc)
 to-front (Within class ∷ more) [] e = absurd (cc)
 to-front (Without class ∷ more) [] e = absurd (cc)
-to-front (Any ∷ more) (c ∷ text) e = taken-front Any more c text (to-front more) e
-to-front (Exactly b ∷ more) (c ∷ text) e = taken-front (Exactly b) more c text (to-front more) e
-to-front (Within class ∷ more) (c ∷ text) e = taken-front (Within class) more c text (to-front more) e
-to-front (Without class ∷ more) (c ∷ text) e = taken-front (Without class) more c text (to-front more) e
+to-front (Any ∷ more) (c ∷ text) e = taken_len-front Any more c text (to-front more) e
+to-front (Exactly b ∷ more) (c ∷ text) e = taken_len-front (Exactly b) more c text (to-front more) e
+to-front (Within class ∷ more) (c ∷ text) e = taken_len-front (Within class) more c text (to-front more) e
+to-front (Without class ∷ more) (c ∷ text) e = taken_len-front (Without class) more c text (to-front more) e
 
 -- ---- what fills a front matches
 

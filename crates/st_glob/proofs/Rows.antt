@@ -74,8 +74,8 @@ negated_once = refl
 first_bracket_is_listed : glob (codes "[]a]") (codes "]") ≡ true
 first_bracket_is_listed = refl
 
-first_bracket_behind_negation : glob (codes "[!]]") (codes "]") ≡ false
-first_bracket_behind_negation = refl
+first_bracket_after_negation : glob (codes "[!]]") (codes "]") ≡ false
+first_bracket_after_negation = refl
 
 negation_alone : glob (codes "[!]") (codes "[!]") ≡ true
 negation_alone = refl

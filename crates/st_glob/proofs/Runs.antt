@@ -1,13 +1,9 @@
 -- Runs that a star takes, and why one star is enough.
 use Rattle.std.proofs.Common.{◌≡◌, ℕ, ◌==◌, ◌||◌, ◌&&◌, not, Bool, true, false, List, [], ◌∷◌, refl, sym, ◌∙◌, arith}
+use Rattle.std.proofs.lemmas.Bool.{or_right}
 use Rattle.std.proofs.lemmas.Bool.Decides.{nat_tests}
 use Rattle.st_glob.specs.Items.{Item, Star, Any, Exactly, Within, Without, slash, is_listed}
-use Rattle.st_glob.specs.Glob.{takes, behind_run, matches}
-
-pub bool_same : (a b : Bool) → (a ≡ true → b ≡ true) → (b ≡ true → a ≡ true) → a ≡ b
-bool_same true b f g = sym (f refl)
-bool_same false true f g = g refl
-bool_same false false f g = refl
+use Rattle.st_glob.specs.Glob.{matches_byte, matches_after_run, matches}
 
 pub or_cases : (P : Type 0) (a b : Bool) → (a || b) ≡ true → (a ≡ true → P) → (b ≡ true → P) → P
 or_cases P true b e f g = f refl
@@ -17,25 +13,21 @@ pub and_cases : (P : Type 0) (a b : Bool) → (a && b) ≡ true → (a ≡ true 
 and_cases P true b e f = f refl e
 and_cases P false b e f = absurd (cc)
 
-pub run-here : (f : List ℕ → Bool) (text : List ℕ) → f text ≡ true → behind_run f text ≡ true
+pub run-here : (f : List ℕ → Bool) (text : List ℕ) → f text ≡ true → matches_after_run f text ≡ true
 run-here f [] e = e
 run-here f (c ∷ text) e = rw e refl
 
-or-right : (a b : Bool) → b ≡ true → (a || b) ≡ true
-or-right true b e = refl
-or-right false b e = e
+pub run-longer : (f : List ℕ → Bool) (c : ℕ) (text : List ℕ) → not (c == slash) ≡ true → matches_after_run f text ≡ true → matches_after_run f (c ∷ text) ≡ true
+run-longer f c text n e = or_right (f (c ∷ text)) (not (c == slash) && matches_after_run f text) (rw (n, e) refl)
 
-pub run-longer : (f : List ℕ → Bool) (c : ℕ) (text : List ℕ) → not (c == slash) ≡ true → behind_run f text ≡ true → behind_run f (c ∷ text) ≡ true
-run-longer f c text n e = or-right (f (c ∷ text)) (not (c == slash) && behind_run f text) (rw (n, e) refl)
-
-pub run-twice : (f : List ℕ → Bool) (text : List ℕ) → behind_run (behind_run f) text ≡ true → behind_run f text ≡ true
+pub run-twice : (f : List ℕ → Bool) (text : List ℕ) → matches_after_run (matches_after_run f) text ≡ true → matches_after_run f text ≡ true
 run-twice f [] e = e
 run-twice f (c ∷ text) e =
-    or_cases (behind_run f (c ∷ text) ≡ true) (behind_run f (c ∷ text)) (not (c == slash) && behind_run (behind_run f) text) e (λ h. h)
-    (λ h. and_cases (behind_run f (c ∷ text) ≡ true) (not (c == slash)) (behind_run (behind_run f) text) h (λ n r. run-longer f c text n (run-twice f text r)))
+    or_cases (matches_after_run f (c ∷ text) ≡ true) (matches_after_run f (c ∷ text)) (not (c == slash) && matches_after_run (matches_after_run f) text) e (λ h. h)
+    (λ h. and_cases (matches_after_run f (c ∷ text) ≡ true) (not (c == slash)) (matches_after_run (matches_after_run f) text) h (λ n r. run-longer f c text n (run-twice f text r)))
 
 -- an item that takes some byte but a slash takes no slash
-takes-no-slash : (item : Item) (c d : ℕ) → takes item c ≡ true → not (c == slash) ≡ true → takes item d ≡ true → not (d == slash) ≡ true
+takes-no-slash : (item : Item) (c d : ℕ) → matches_byte item c ≡ true → not (c == slash) ≡ true → matches_byte item d ≡ true → not (d == slash) ≡ true
 takes-no-slash Star c d t n u = absurd (cc)
 takes-no-slash Any c d t n u = u
 takes-no-slash (Exactly b) c d t n u = grind (arith, nat_tests)
@@ -43,21 +35,21 @@ takes-no-slash (Within class) c d t n u = and_cases (not (d == slash) ≡ true) 
 takes-no-slash (Without class) c d t n u = and_cases (not (d == slash) ≡ true) (not (d == slash)) (not (is_listed class d)) u (λ x y. x)
 
 -- what follows an item that takes one byte
-pub matches-takes : (item : Item) (rest : List Item) (c : ℕ) (text : List ℕ) → takes item c ≡ true → matches (item ∷ rest) (c ∷ text) ≡ matches rest text
+pub matches-takes : (item : Item) (rest : List Item) (c : ℕ) (text : List ℕ) → matches_byte item c ≡ true → matches (item ∷ rest) (c ∷ text) ≡ matches rest text
 matches-takes Star rest c text e = absurd (cc)
 matches-takes Any rest c text e = rw e refl
 matches-takes (Exactly b) rest c text e = rw e refl
 matches-takes (Within class) rest c text e = rw e refl
 matches-takes (Without class) rest c text e = rw e refl
 
-matches-byte : (item : Item) (rest : List Item) (c d : ℕ) (text : List ℕ) → takes item c ≡ true → matches (item ∷ rest) (d ∷ text) ≡ (takes item d && matches rest text)
+matches-byte : (item : Item) (rest : List Item) (c d : ℕ) (text : List ℕ) → matches_byte item c ≡ true → matches (item ∷ rest) (d ∷ text) ≡ (matches_byte item d && matches rest text)
 matches-byte Star rest c d text e = absurd (cc)
 matches-byte Any rest c d text e = refl
 matches-byte (Exactly b) rest c d text e = refl
 matches-byte (Within class) rest c d text e = refl
 matches-byte (Without class) rest c d text e = refl
 
-matches-none : (item : Item) (rest : List Item) (c : ℕ) → takes item c ≡ true → matches (item ∷ rest) [] ≡ false
+matches-none : (item : Item) (rest : List Item) (c : ℕ) → matches_byte item c ≡ true → matches (item ∷ rest) [] ≡ false
 matches-none Star rest c e = absurd (cc)
 matches-none Any rest c e = refl
 matches-none (Exactly b) rest c e = refl
@@ -65,20 +57,20 @@ matches-none (Within class) rest c e = refl
 matches-none (Without class) rest c e = refl
 
 -- behind a longer run an item and the rest match only where the rest matches behind a run
-shift : (item : Item) (rest : List Item) (c : ℕ) (text : List ℕ) → takes item c ≡ true → not (c == slash) ≡ true → behind_run (matches (item ∷ rest)) text ≡ true → behind_run (matches rest) text ≡ true
+shift : (item : Item) (rest : List Item) (c : ℕ) (text : List ℕ) → matches_byte item c ≡ true → not (c == slash) ≡ true → matches_after_run (matches (item ∷ rest)) text ≡ true → matches_after_run (matches rest) text ≡ true
 shift item rest c [] t n e = let f : matches (item ∷ rest) [] ≡ false = matches-none item rest c t in absurd (cc)
 shift item rest c (d ∷ text) t n e =
-    let P : Type 0 = behind_run (matches rest) (d ∷ text) ≡ true in
-    or_cases P (matches (item ∷ rest) (d ∷ text)) (not (d == slash) && behind_run (matches (item ∷ rest)) text) e
-    (λ h. and_cases P (takes item d) (matches rest text) (sym (matches-byte item rest c d text t) ∙ h)
+    let P : Type 0 = matches_after_run (matches rest) (d ∷ text) ≡ true in
+    or_cases P (matches (item ∷ rest) (d ∷ text)) (not (d == slash) && matches_after_run (matches (item ∷ rest)) text) e
+    (λ h. and_cases P (matches_byte item d) (matches rest text) (sym (matches-byte item rest c d text t) ∙ h)
     (λ u m. run-longer (matches rest) d text (takes-no-slash item c d t n u) (run-here (matches rest) text m)))
-    (λ h. and_cases P (not (d == slash)) (behind_run (matches (item ∷ rest)) text) h
+    (λ h. and_cases P (not (d == slash)) (matches_after_run (matches (item ∷ rest)) text) h
     (λ m r. run-longer (matches rest) d text m (shift item rest c text t n r)))
 
 -- so once an item has taken its byte, no longer run before it is of use
-pub run-commit : (item : Item) (rest : List Item) (c : ℕ) (text : List ℕ) → takes item c ≡ true → behind_run (matches (item ∷ rest)) (c ∷ text) ≡ true → behind_run (matches rest) text ≡ true
+pub run-commit : (item : Item) (rest : List Item) (c : ℕ) (text : List ℕ) → matches_byte item c ≡ true → matches_after_run (matches (item ∷ rest)) (c ∷ text) ≡ true → matches_after_run (matches rest) text ≡ true
 run-commit item rest c text t e =
-    let P : Type 0 = behind_run (matches rest) text ≡ true in
-    or_cases P (matches (item ∷ rest) (c ∷ text)) (not (c == slash) && behind_run (matches (item ∷ rest)) text) e
+    let P : Type 0 = matches_after_run (matches rest) text ≡ true in
+    or_cases P (matches (item ∷ rest) (c ∷ text)) (not (c == slash) && matches_after_run (matches (item ∷ rest)) text) e
     (λ h. run-here (matches rest) text (sym (matches-takes item rest c text t) ∙ h))
-    (λ h. and_cases P (not (c == slash)) (behind_run (matches (item ∷ rest)) text) h (λ n r. shift item rest c text t n r))
+    (λ h. and_cases P (not (c == slash)) (matches_after_run (matches (item ∷ rest)) text) h (λ n r. shift item rest c text t n r))

@@ -1,24 +1,31 @@
 -- The items of a pattern: what stands first in it, and what each item takes of a text.
 use Rattle.std.specs.Prelude.{suc, zero, ℕ, ◌+◌, Bool, true, false, ◌==◌, ◌&&◌, ◌||◌, nat_le, if◌then◌else◌, List, [], ◌∷◌, take, drop, Option, None, Some}
 
+-- the byte `/`
 abbrev pub slash : ℕ
 slash = 47
 
+-- the byte `*`
 abbrev pub star : ℕ
 star = 42
 
+-- the byte `?`
 abbrev pub question_mark : ℕ
 question_mark = 63
 
+-- the byte `\`
 abbrev pub backslash : ℕ
 backslash = 92
 
+-- the byte `-`
 abbrev pub dash : ℕ
 dash = 45
 
+-- the byte `[`
 abbrev pub open_bracket : ℕ
 open_bracket = 91
 
+-- the byte `]`
 abbrev pub close_bracket : ℕ
 close_bracket = 93
 
@@ -26,6 +33,7 @@ close_bracket = 93
 abbrev pub is_negation : ℕ → Bool
 is_negation b = (b == 33) || (b == 94)
 
+-- one part of a pattern, as the matcher takes it
 pub data Item : Type 0 where
   -- `*`: any run of bytes without a slash
   Star : Item
@@ -64,21 +72,22 @@ abbrev pub in_range : ℕ → ℕ → ℕ → Bool
 in_range low high c = nat_le low c && nat_le c high
 
 -- whether the members list a byte: from the left, a range where a bare dash and a further member follow one, else the member itself
-abbrev pub lists : List Member → ℕ → Bool
-lists [] c = false
-lists (a ∷ []) c = a.byte == c
-lists (a ∷ b ∷ []) c = (a.byte == c) || (b.byte == c)
-lists (a ∷ b ∷ d ∷ rest) c =
-    if b.bare && (b.byte == dash) then in_range a.byte d.byte c || lists rest c
-    else (a.byte == c) || lists (b ∷ d ∷ rest) c
+abbrev pub has_byte : List Member → ℕ → Bool
+has_byte [] c = false
+has_byte (a ∷ []) c = a.byte == c
+has_byte (a ∷ b ∷ []) c = (a.byte == c) || (b.byte == c)
+has_byte (a ∷ b ∷ d ∷ rest) c =
+    if b.bare && (b.byte == dash) then in_range a.byte d.byte c || has_byte rest c
+    else (a.byte == c) || has_byte (b ∷ d ∷ rest) c
 
+-- whether a class lists a byte
 abbrev pub is_listed : List ℕ → ℕ → Bool
-is_listed class c = lists (members class) c
+is_listed class c = has_byte (members class) c
 
 -- a distance that begins some bytes earlier
-abbrev pub further : ℕ → Option ℕ → Option ℕ
-further k None = None
-further k (Some n) = Some (k + n)
+abbrev pub farther_by : ℕ → Option ℕ → Option ℕ
+farther_by k None = None
+farther_by k (Some n) = Some (k + n)
 
 -- how many bytes stand before the first closing bracket that no backslash takes
 abbrev pub to_bracket : List ℕ → Option ℕ
@@ -86,12 +95,12 @@ to_bracket [] = None
 to_bracket (b ∷ []) = if b == close_bracket then Some 0 else None
 to_bracket (b ∷ c ∷ rest) =
     if b == close_bracket then Some 0
-    else (if b == backslash then further 2 (to_bracket rest) else further 1 (to_bracket (c ∷ rest)))
+    else (if b == backslash then farther_by 2 (to_bracket rest) else farther_by 1 (to_bracket (c ∷ rest)))
 
 -- how many bytes a class has before the bracket that closes it; a bracket that stands first is one of them
 abbrev pub class_len : List ℕ → Option ℕ
 class_len [] = None
-class_len (b ∷ rest) = if b == close_bracket then further 1 (to_bracket rest) else to_bracket (b ∷ rest)
+class_len (b ∷ rest) = if b == close_bracket then farther_by 1 (to_bracket rest) else to_bracket (b ∷ rest)
 
 -- ---- what stands first in a pattern
 
@@ -139,10 +148,11 @@ first_item b rest =
     else byte_item b)))
 
 -- the items from the left, behind the bytes that an item still has
-abbrev pub items_behind : ℕ → List ℕ → List Item
-items_behind skip [] = []
-items_behind (suc skip) (b ∷ rest) = items_behind skip rest
-items_behind zero (b ∷ rest) = (first_item b rest).item ∷ items_behind (first_item b rest).behind rest
+abbrev pub items_after : ℕ → List ℕ → List Item
+items_after skip [] = []
+items_after (suc skip) (b ∷ rest) = items_after skip rest
+items_after zero (b ∷ rest) = (first_item b rest).item ∷ items_after (first_item b rest).behind rest
 
+-- the items of a pattern, from the left
 abbrev pub items : List ℕ → List Item
-items pattern = items_behind 0 pattern
+items pattern = items_after 0 pattern

@@ -1,7 +1,7 @@
 ghost use Rattle.std.specs.Prelude.{◌≡◌, ◌≤◌, ◌∷◌, true, length, IfSome, if◌then◌else◌};
 ghost use Rattle.st_glob.specs.Items.{to_bracket, first_item, bracket_item, is_negated, Within, Without};
-ghost use Rattle.st_glob.specs.Glob.{takes};
-ghost use Rattle.st_glob.specs.Taken.{taken};
+ghost use Rattle.st_glob.specs.Glob.{matches_byte};
+ghost use Rattle.st_glob.specs.Taken.{taken_len};
 
 use crate::class::{class_len, is_listed};
 
@@ -14,14 +14,14 @@ fn is_negated(behind: &[u8]) -> bool
 
 // Whether a class that may be negated takes a byte.
 fn class_takes(class: &[u8], negated: bool, byte: u8) -> bool
-    ensures { result ≡ (if negated then takes (Without class.now) byte else takes (Within class.now) byte) }
+    ensures { result ≡ (if negated then matches_byte (Without class.now) byte else matches_byte (Within class.now) byte) }
 {
     byte != b'/' && is_listed(class, byte) != negated
 }
 
 // Where the class behind an opening bracket takes the byte, how many bytes it has; an unclosed bracket is a byte.
-fn taken_by_bracket(behind: &[u8], byte: u8) -> Option<usize>
-    ensures is { result ≡ taken (bracket_item behind.now) byte }
+fn bracket_taken_len(behind: &[u8], byte: u8) -> Option<usize>
+    ensures is { result ≡ taken_len (bracket_item behind.now) byte }
     ensures within { IfSome result (λ len. len ≤ length behind.now) }
 {
     let negated = is_negated(behind);
@@ -38,16 +38,16 @@ fn taken_by_bracket(behind: &[u8], byte: u8) -> Option<usize>
 
 /// Where the first item of a pattern takes the byte, how many bytes of the pattern it has behind its first. Where no closing bracket
 /// follows, which a caller may know already, no class is looked for.
-pub fn taken(first: u8, behind: &[u8], byte: u8, unclosed: bool) -> Option<usize>
+pub fn taken_len(first: u8, behind: &[u8], byte: u8, unclosed: bool) -> Option<usize>
     requires { unclosed ≡ true → to_bracket (first ∷ behind.now) ≡ None }
-    ensures is { result ≡ taken (first_item first behind.now) byte }
+    ensures is { result ≡ taken_len (first_item first behind.now) byte }
     ensures within { IfSome result (λ len. len ≤ length behind.now) }
 {
     match first {
         b'*' => None,
         b'?' => (byte != b'/').then_some(0),
         b'[' if unclosed => (byte == b'[').then_some(0),
-        b'[' => taken_by_bracket(behind, byte),
+        b'[' => bracket_taken_len(behind, byte),
         b'\\' => match behind {
             [] => (byte == b'\\').then_some(0),
             [second, ..] => (byte == *second).then_some(1),

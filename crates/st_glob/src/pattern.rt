@@ -1,11 +1,11 @@
 ghost use Rattle.std.specs.Prelude.{◌≡◌, ◌↔◌, [], IsTrue};
-ghost use Rattle.st_glob.specs.Glob.{matches, behind_run, glob};
+ghost use Rattle.st_glob.specs.Glob.{matches, matches_after_run, glob};
 ghost use Rattle.st_glob.specs.Items.{items};
 ghost use Rattle.st_glob.specs.Fills.{FillsFront};
 ghost use Rattle.st_glob.specs.Taken.{IsFront, IsShorter};
 
 use crate::class::to_bracket;
-use crate::item::taken;
+use crate::item::taken_len;
 
 // What a pattern makes of a text before its first star.
 enum Front<'a> {
@@ -39,7 +39,7 @@ fn match_front<'a>(pattern: &'a [u8], text: &'a [u8]) -> Front<'a>
             return Front::Differs;
         };
         unclosed = unclosed || (*first == b'[' && to_bracket(items).is_none());
-        let Some(len) = taken(*first, behind, *byte, unclosed) else {
+        let Some(len) = taken_len(*first, behind, *byte, unclosed) else {
             return Front::Differs;
         };
         items = &behind[len..];
@@ -54,8 +54,8 @@ fn match_front<'a>(pattern: &'a [u8], text: &'a [u8]) -> Front<'a>
 
 // Whether the pattern matches behind some run of bytes without a slash. Where the next star is reached, the place of this one is
 // forgotten: no longer run of it could lead to more.
-fn glob_behind_run(pattern: &[u8], text: &[u8]) -> bool
-    ensures { result ≡ behind_run (glob pattern.now) text.now }
+fn glob_after_run(pattern: &[u8], text: &[u8]) -> bool
+    ensures { result ≡ matches_after_run (glob pattern.now) text.now }
 {
     let mut items = pattern;
     let mut rest = text;
@@ -85,6 +85,6 @@ pub fn glob(pattern: &[u8], text: &[u8]) -> bool
     match match_front(pattern, text) {
         Front::Whole => true,
         Front::Differs => false,
-        Front::Run(after, rest) => glob_behind_run(after, rest),
+        Front::Run(after, rest) => glob_after_run(after, rest),
     }
 }

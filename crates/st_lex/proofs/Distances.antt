@@ -1,31 +1,32 @@
+-- Distances and faults that begin some bytes earlier, added up.
 use Rattle.std.proofs.Common.{◌≡◌, ℕ, ◌+◌, Option, None, Some, refl, ap, arith}
 use Rattle.st_lex.specs.declared.token.LexFault.{LexFault}
 use Rattle.st_lex.specs.declared.token.LexFault.TheVariants.{BadByte, OpenQuote, BadEscape}
-use Rattle.st_lex.specs.Quoted.{further, moved, later}
+use Rattle.st_lex.specs.Quoted.{count_after, fault_after, optional_fault_after}
 
 -- two distances add up
-pub further-further : (a b : ℕ) (o : Option ℕ) → further a (further b o) ≡ further (a + b) o
+pub further-further : (a b : ℕ) (o : Option ℕ) → count_after a (count_after b o) ≡ count_after (a + b) o
 further-further a b None = refl
 further-further a b (Some n) = ap (λ (m : ℕ). Some m) (omega arith)
 
-pub further-zero : (o : Option ℕ) → further 0 o ≡ o
+pub further-zero : (o : Option ℕ) → count_after 0 o ≡ o
 further-zero None = refl
 further-zero (Some n) = ap (λ (m : ℕ). Some m) (omega arith)
 
-pub moved-moved : (a b : ℕ) (f : LexFault) → moved a (moved b f) ≡ moved (a + b) f
+pub moved-moved : (a b : ℕ) (f : LexFault) → fault_after a (fault_after b f) ≡ fault_after (a + b) f
 moved-moved a b (BadByte n) = ap (λ (m : ℕ). BadByte m) (omega arith)
 moved-moved a b (OpenQuote n) = ap (λ (m : ℕ). OpenQuote m) (omega arith)
 moved-moved a b (BadEscape n) = ap (λ (m : ℕ). BadEscape m) (omega arith)
 
-pub moved-zero : (f : LexFault) → moved 0 f ≡ f
+pub moved-zero : (f : LexFault) → fault_after 0 f ≡ f
 moved-zero (BadByte n) = ap (λ (m : ℕ). BadByte m) (omega arith)
 moved-zero (OpenQuote n) = ap (λ (m : ℕ). OpenQuote m) (omega arith)
 moved-zero (BadEscape n) = ap (λ (m : ℕ). BadEscape m) (omega arith)
 
-pub later-later : (a b : ℕ) (o : Option LexFault) → later a (later b o) ≡ later (a + b) o
+pub later-later : (a b : ℕ) (o : Option LexFault) → optional_fault_after a (optional_fault_after b o) ≡ optional_fault_after (a + b) o
 later-later a b None = refl
 later-later a b (Some f) = ap (λ (m : LexFault). Some m) (moved-moved a b f)
 
-pub later-zero : (o : Option LexFault) → later 0 o ≡ o
+pub later-zero : (o : Option LexFault) → optional_fault_after 0 o ≡ o
 later-zero None = refl
 later-zero (Some f) = ap (λ (m : LexFault). Some m) (moved-zero f)

@@ -1,4 +1,6 @@
+-- The first row of some tokens, and the rows behind it.
 use Rattle.std.proofs.Common.{suc, ◌≡◌, ℕ, ◌+◌, ◌-◌, ◌<◌, ◌≤◌, Bool, true, false, not, List, [], ◌∷◌, length, take, drop, get_or, nat_eq, refl, ap, sym, subst, ◌∙◌, arith}
+use Rattle.std.proofs.lemmas.Bool.{not-true, not_from_false, not_from_true}
 use Rattle.std.specs.Prelude.{All}
 use Rattle.std.specs.List.{prefix_len, filter}
 use Rattle.std.proofs.lemmas.List.{drop-drop, drop_all, length-drop, take_rest, get_or-take}
@@ -42,20 +44,14 @@ lines-in t ts e = rw e refl
 lines-end : (t : Token) (ts : List Token) → ends_line t ≡ true → lines (t ∷ ts) ≡ [] ∷ lines ts
 lines-end t ts e = rw e refl
 
-not-false : (t : Token) → ends_line t ≡ false → is_in_line t ≡ true
-not-false t e = rw e refl
-
-not-true : (t : Token) → ends_line t ≡ true → is_in_line t ≡ false
-not-true t e = rw e refl
-
 lines-split : (ts : List Token) → lines ts ≡ take (prefix_len is_in_line ts) ts ∷ later_lines (drop (prefix_len is_in_line ts) ts)
 unfolding later_lines
 lines-split [] = refl
 lines-split (t ∷ ts) =
     let F : ℕ → List (List Token) = λ n. take n (t ∷ ts) ∷ later_lines (drop n (t ∷ ts)) in
     either (ends_line t) (lines (t ∷ ts) ≡ F (prefix_len is_in_line (t ∷ ts)))
-    (λ e. lines-end t ts e ∙ sym (ap F (prefix-no is_in_line t ts (not-true t e))))
-    (λ e. lines-in t ts e ∙ ap (onto_first t) (lines-split ts) ∙ sym (ap F (prefix-yes is_in_line t ts (not-false t e))))
+    (λ e. lines-end t ts e ∙ sym (ap F (prefix-no is_in_line t ts (not_from_true (ends_line t) e))))
+    (λ e. lines-in t ts e ∙ ap (onto_first t) (lines-split ts) ∙ sym (ap F (prefix-yes is_in_line t ts (not_from_false (ends_line t) e))))
 
 rows-later : (ts : List Token) → filter has_token (later_lines ts) ≡ rows (drop 1 ts)
 unfolding later_lines
@@ -77,17 +73,13 @@ begins (t ∷ ts) =
 
 has_token-row : (us : List Token) → BeginsRow us → 0 < length us → has_token (take (prefix_len is_in_line us) us) ≡ true
 has_token-row [] b h = absurd (omega arith)
-has_token-row (t ∷ ts) b h = ap (λ (n : ℕ). has_token (take n (t ∷ ts))) (prefix-yes is_in_line t ts (not-false t b))
-
-not-inverse : (b : Bool) → not b ≡ true → b ≡ false
-not-inverse true e = absurd (cc)
-not-inverse false e = refl
+has_token-row (t ∷ ts) b h = ap (λ (n : ℕ). has_token (take n (t ∷ ts))) (prefix-yes is_in_line t ts (not_from_false (ends_line t) b))
 
 one_line : (us : List Token) → All (λ t. ends_line t ≡ false) (take (prefix_len is_in_line us) us)
 one_line us k d h =
     let inside : k < prefix_len is_in_line us = omega (arith, length-prefix_len is_in_line us) in
     let same : get_or (take (prefix_len is_in_line us) us) k d ≡ get_or us k d = get_or-take (prefix_len is_in_line us) us k d inside in
-    ap ends_line same ∙ not-inverse (ends_line (get_or us k d)) (prefix_len_passes is_in_line us k d inside)
+    ap ends_line same ∙ not-true (ends_line (get_or us k d)) (prefix_len_passes is_in_line us k d inside)
 
 filter-first : (row : List Token) (others : List (List Token)) → has_token row ≡ true → filter has_token (row ∷ others) ≡ row ∷ filter has_token others
 filter-first row others e = rw e refl

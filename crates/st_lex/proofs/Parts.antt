@@ -1,3 +1,4 @@
+-- The tokens of a text are parts of it, in its order, each on the line where it says.
 use Rattle.std.proofs.Common.{zero, suc, ◌≡◌, ℕ, ◌+◌, ◌-◌, ◌<◌, ◌≤◌, Bool, true, false, ◌&&◌, List, [], ◌∷◌, length, take, drop, get_or, refl, ap, sym, subst, ◌∙◌, arith}
 use Rattle.std.specs.List.{prefix_len}
 use Rattle.std.proofs.Math.Seq.{take-add}
@@ -8,7 +9,7 @@ use Rattle.st_lex.specs.declared.token.TokenKind.{TokenKind}
 use Rattle.st_lex.specs.declared.token.Lexed.{Lexed}
 use Rattle.st_lex.specs.declared.token.Front.{Front}
 use Rattle.st_lex.specs.declared.token.Front.TheVariants.{Gap, Piece, Broken}
-use Rattle.st_lex.specs.Tokens.{front_of, is_word_byte, line_behind, tokens_from, lexed_of, LiesWithin}
+use Rattle.st_lex.specs.Tokens.{front_of, is_word_byte, line_after, tokens_from, lexed_text, LiesWithin}
 use Rattle.st_lex.specs.Slices.{newlines, byte_before, IsTokenOf, StandInOrder, AreSlices}
 use Rattle.st_lex.proofs.Runs.{Ends, IsPiece, Tells, front_tells}
 use Rattle.st_lex.proofs.Skips.{by_front, tokens_from-front}
@@ -61,8 +62,8 @@ left_no : (x y : Bool) → (x && y) ≡ false → y ≡ true → x ≡ false
 left_no false y e f = refl
 left_no true y e f = absurd (cc)
 
-line_behind-more : (kind : TokenKind) (n : ℕ) → line_behind kind (n + 1) ≡ n + line_behind kind 0 + 1
-line_behind-more kind n = grind arith
+line_after-more : (kind : TokenKind) (n : ℕ) → line_after kind (n + 1) ≡ n + line_after kind 0 + 1
+line_after-more kind n = grind arith
 
 length-at : (text : List ℕ) (at b : ℕ) (bs : List ℕ) → drop at text ≡ b ∷ bs → at + (length bs + 1) ≡ length text
 length-at text at b bs e =
@@ -110,11 +111,11 @@ stands_front text at line b bs ih e l bound (Piece kind k) w t =
     let j : at + 1 + (k - 1) ≡ at + k = omega arith in
     let n : newlines (take (at + k) text) ≡ newlines (take at text) + newlines (take k (b ∷ bs)) = newlines-more text at k ∙ ap (λ (xs : List ℕ). newlines (take at text) + newlines (take k xs)) e in
     let m : newlines (take (at + 1 + (k - 1)) text) ≡ newlines (take (at + k) text) = ap (λ (x : ℕ). newlines (take x text)) j in
-    let next : line_behind kind line ≡ newlines (take at text) + line_behind kind 0 + 1 = ap (line_behind kind) l ∙ line_behind-more kind (newlines (take at text)) in (
+    let next : line_after kind line ≡ newlines (take at text) + line_after kind 0 + 1 = ap (line_after kind) l ∙ line_after-more kind (newlines (take at text)) in (
       omega arith,
       piece_is text at line b bs kind k e l bound p q t,
-      subst (λ (x : ℕ). Stands text x (tokens_from (k - 1) (at + 1) (line_behind kind line) bs).tokens) j
-          (ih (k - 1) (at + 1) (line_behind kind line) (drop-next text at b bs e) (omega arith) (omega (arith, n, m, next, t.lines)) (subst (Bounds text) (sym j) (bounds_at text at (b ∷ bs) k e p t.ends))),
+      subst (λ (x : ℕ). Stands text x (tokens_from (k - 1) (at + 1) (line_after kind line) bs).tokens) j
+          (ih (k - 1) (at + 1) (line_after kind line) (drop-next text at b bs e) (omega arith) (omega (arith, n, m, next, t.lines)) (subst (Bounds text) (sym j) (bounds_at text at (b ∷ bs) k e p t.ends))),
     )
 stands_front text at line b bs ih e l bound (Broken fault) w t = tt
 
@@ -130,8 +131,8 @@ stands text (b ∷ bs) zero at line e h l bound =
     (subst (λ (x : Lexed). Stands text at x.tokens) (sym (tokens_from-front at line b bs))
     (stands_front text at line b bs (stands text bs) e (l ∙ ap (λ (x : ℕ). newlines (take x text) + 1) z) (subst (Bounds text) z bound) (front_of (b ∷ bs)) (front_of-within b bs) (front_tells b bs)))
 
-pub lexed_of-slices : (text : List ℕ) → AreSlices text (lexed_of text).tokens
+pub lexed_text-slices : (text : List ℕ) → AreSlices text (lexed_text text).tokens
 unfolding Bounds
-lexed_of-slices text =
-    let s : Stands text 0 (lexed_of text).tokens = stands text text 0 0 1 refl (omega arith) refl refl in
-    record { each = each text 0 (lexed_of text).tokens s; in_order = in_order text 0 (lexed_of text).tokens s }
+lexed_text-slices text =
+    let s : Stands text 0 (lexed_text text).tokens = stands text text 0 0 1 refl (omega arith) refl refl in
+    record { each = each text 0 (lexed_text text).tokens s; in_order = in_order text 0 (lexed_text text).tokens s }

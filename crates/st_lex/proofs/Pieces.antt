@@ -1,3 +1,4 @@
+-- Texts that are printed piece by piece are read as their pieces.
 use Rattle.std.proofs.Common.{◌≡◌, ℕ, ◌+◌, true, List, [], ◌∷◌, ◌++◌, length, None, refl, ap, sym, ◌∙◌, append_assoc}
 use Rattle.std.proofs.lemmas.List.{length-append}
 use Rattle.std.proofs.lemmas.Grind.{flat_map-append}
@@ -6,7 +7,7 @@ use Rattle.st_lex.specs.declared.token.TokenKind.{TokenKind}
 use Rattle.st_lex.specs.declared.token.TokenKind.TheVariants.{Word, Quoted, Colon, Comma, Open, Close, OpenBracket, CloseBracket, Equal, NotEqual, Less, Greater, Line}
 use Rattle.st_lex.specs.declared.token.Lexed.{Lexed}
 use Rattle.st_lex.specs.Quote.{quoted}
-use Rattle.st_lex.specs.Tokens.{line_behind, with_token, tokens_from, lexed_of}
+use Rattle.st_lex.specs.Tokens.{line_after, with_token, tokens_from, lexed_text}
 use Rattle.st_lex.specs.Pieces.{Piece, PlainWord, QuotedText, Sign, Space, is_sign, sign_bytes, piece_bytes, print, StandApart, StandWell, SpelledToken, spelled_tokens, piece_tokens, IsReadAs}
 use Rattle.st_lex.proofs.Fronts.{EndsWord, text_of_part, word_first, quoted_first, sign_first, space_first}
 
@@ -19,7 +20,7 @@ abbrev pub tokens_at : ℕ → ℕ → List Piece → List Token
 tokens_at at line [] = []
 tokens_at at line (PlainWord bytes ∷ pieces) = token_at Word bytes at line ∷ tokens_at (at + length bytes) line pieces
 tokens_at at line (QuotedText bytes ∷ pieces) = token_at Quoted (quoted bytes) at line ∷ tokens_at (at + length (quoted bytes)) line pieces
-tokens_at at line (Sign kind ∷ pieces) = token_at kind (sign_bytes kind) at line ∷ tokens_at (at + length (sign_bytes kind)) (line_behind kind line) pieces
+tokens_at at line (Sign kind ∷ pieces) = token_at kind (sign_bytes kind) at line ∷ tokens_at (at + length (sign_bytes kind)) (line_after kind line) pieces
 tokens_at at line (Space ∷ pieces) = tokens_at (at + 1) line pieces
 
 -- a sign is no word byte
@@ -54,12 +55,12 @@ tokens_from-print (PlainWord bytes ∷ pieces) at line well =
 tokens_from-print (QuotedText bytes ∷ pieces) at line well =
     quoted_first bytes (print pieces) at line well.0 ∙ ap (with_token (token_at Quoted (quoted bytes) at line)) (tokens_from-print pieces (at + length (quoted bytes)) line well.1)
 tokens_from-print (Sign kind ∷ pieces) at line well =
-    sign_first kind (print pieces) at line well.0 ∙ ap (with_token (token_at kind (sign_bytes kind) at line)) (tokens_from-print pieces (at + length (sign_bytes kind)) (line_behind kind line) well.1)
+    sign_first kind (print pieces) at line well.0 ∙ ap (with_token (token_at kind (sign_bytes kind) at line)) (tokens_from-print pieces (at + length (sign_bytes kind)) (line_after kind line) well.1)
 tokens_from-print (Space ∷ pieces) at line well = space_first (print pieces) at line ∙ tokens_from-print pieces (at + 1) line well
 
 -- the pieces behind a part are read as they are behind the front and the part
-spelled_behind : (front part : List ℕ) (pieces : List Piece) (line : ℕ) → spelled_tokens ((front ++ part) ++ print pieces) (tokens_at (length (front ++ part)) line pieces) ≡ piece_tokens pieces → spelled_tokens (front ++ (part ++ print pieces)) (tokens_at (length front + length part) line pieces) ≡ piece_tokens pieces
-spelled_behind front part pieces line e =
+spelled_after : (front part : List ℕ) (pieces : List Piece) (line : ℕ) → spelled_tokens ((front ++ part) ++ print pieces) (tokens_at (length (front ++ part)) line pieces) ≡ piece_tokens pieces → spelled_tokens (front ++ (part ++ print pieces)) (tokens_at (length front + length part) line pieces) ≡ piece_tokens pieces
+spelled_after front part pieces line e =
     ap (λ (text : List ℕ). spelled_tokens text (tokens_at (length front + length part) line pieces)) (sym (append_assoc front part (print pieces)))
     ∙ ap (λ (n : ℕ). spelled_tokens ((front ++ part) ++ print pieces) (tokens_at n line pieces)) (sym (length-append front part))
     ∙ e
@@ -69,19 +70,19 @@ spelled_part front part kind pieces line next e =
     let text : List ℕ = front ++ (part ++ print pieces) in
     let T : List ℕ → List SpelledToken = λ bytes. record { kind = kind; text = bytes } ∷ spelled_tokens text (tokens_at (length front + length part) next pieces) in
     ap T (text_of_part front part (print pieces) (token_at kind part (length front) line) refl refl)
-    ∙ ap (λ (more : List SpelledToken). record { kind = kind; text = part } ∷ more) (spelled_behind front part pieces next e)
+    ∙ ap (λ (more : List SpelledToken). record { kind = kind; text = part } ∷ more) (spelled_after front part pieces next e)
 
 pub spelled-tokens_at : (front : List ℕ) (pieces : List Piece) (line : ℕ) → spelled_tokens (front ++ print pieces) (tokens_at (length front) line pieces) ≡ piece_tokens pieces
 spelled-tokens_at front [] line = refl
 spelled-tokens_at front (PlainWord bytes ∷ pieces) line = spelled_part front bytes Word pieces line line (spelled-tokens_at (front ++ bytes) pieces line)
 spelled-tokens_at front (QuotedText bytes ∷ pieces) line = spelled_part front (quoted bytes) Quoted pieces line line (spelled-tokens_at (front ++ quoted bytes) pieces line)
-spelled-tokens_at front (Sign kind ∷ pieces) line = spelled_part front (sign_bytes kind) kind pieces line (line_behind kind line) (spelled-tokens_at (front ++ sign_bytes kind) pieces (line_behind kind line))
-spelled-tokens_at front (Space ∷ pieces) line = spelled_behind front (32 ∷ []) pieces line (spelled-tokens_at (front ++ 32 ∷ []) pieces line)
+spelled-tokens_at front (Sign kind ∷ pieces) line = spelled_part front (sign_bytes kind) kind pieces line (line_after kind line) (spelled-tokens_at (front ++ sign_bytes kind) pieces (line_after kind line))
+spelled-tokens_at front (Space ∷ pieces) line = spelled_after front (32 ∷ []) pieces line (spelled-tokens_at (front ++ 32 ∷ []) pieces line)
 
 -- what stands well is read as its pieces
 pub print_is_read : (pieces : List Piece) → StandWell pieces → IsReadAs (print pieces) (piece_tokens pieces)
 print_is_read pieces well =
-    let e : lexed_of (print pieces) ≡ record { tokens = tokens_at 0 1 pieces; fault = None } = tokens_from-print pieces 0 1 well in
+    let e : lexed_text (print pieces) ≡ record { tokens = tokens_at 0 1 pieces; fault = None } = tokens_from-print pieces 0 1 well in
     record {
       faultless = ap (λ (lexed : Lexed). lexed.fault) e;
       in_order = ap (λ (lexed : Lexed). spelled_tokens (print pieces) lexed.tokens) e ∙ spelled-tokens_at [] pieces 1;
@@ -124,12 +125,12 @@ between (Sign kind ∷ ps) qs last p = tt
 between (Space ∷ ps) qs last p = tt
 
 -- behind a quoted text, a sign or a space, as at a line's end, any pieces stand well that do so themselves
-pub StandWell-behind : (ps qs : List Piece) (last : Piece) → StandWell (ps ++ last ∷ []) → StandApart (last ∷ []) → StandWell qs → StandWell ((ps ++ last ∷ []) ++ qs)
-StandWell-behind [] qs (PlainWord bytes) p apart q = absurd apart
-StandWell-behind [] qs (QuotedText bytes) p apart q = (p.0, q)
-StandWell-behind [] qs (Sign kind) p apart q = (p.0, q)
-StandWell-behind [] qs Space p apart q = q
-StandWell-behind (PlainWord bytes ∷ ps) qs last p apart q = (p.0, between ps qs last p.1, StandWell-behind ps qs last p.2 apart q)
-StandWell-behind (QuotedText bytes ∷ ps) qs last p apart q = (p.0, StandWell-behind ps qs last p.1 apart q)
-StandWell-behind (Sign kind ∷ ps) qs last p apart q = (p.0, StandWell-behind ps qs last p.1 apart q)
-StandWell-behind (Space ∷ ps) qs last p apart q = StandWell-behind ps qs last p apart q
+pub StandWell-after : (ps qs : List Piece) (last : Piece) → StandWell (ps ++ last ∷ []) → StandApart (last ∷ []) → StandWell qs → StandWell ((ps ++ last ∷ []) ++ qs)
+StandWell-after [] qs (PlainWord bytes) p apart q = absurd apart
+StandWell-after [] qs (QuotedText bytes) p apart q = (p.0, q)
+StandWell-after [] qs (Sign kind) p apart q = (p.0, q)
+StandWell-after [] qs Space p apart q = q
+StandWell-after (PlainWord bytes ∷ ps) qs last p apart q = (p.0, between ps qs last p.1, StandWell-after ps qs last p.2 apart q)
+StandWell-after (QuotedText bytes ∷ ps) qs last p apart q = (p.0, StandWell-after ps qs last p.1 apart q)
+StandWell-after (Sign kind ∷ ps) qs last p apart q = (p.0, StandWell-after ps qs last p.1 apart q)
+StandWell-after (Space ∷ ps) qs last p apart q = StandWell-after ps qs last p apart q

@@ -1,3 +1,4 @@
+-- Bytes in their quoted form are one token.
 use Rattle.std.proofs.Common.{◌≡◌, ℕ, ◌+◌, ◌-◌, ◌/◌, ◌%◌, ◌<◌, ◌≤◌, ◌≢◌, Bool, true, false, List, [], ◌∷◌, ◌++◌, length, Option, None, Some, refl, ap, sym, ◌∙◌, arith, nat_lt, cond, ◌==◌, ◌||◌, append_assoc}
 use Rattle.std.proofs.lemmas.List.{length-append, drop_all}
 use Rattle.std.proofs.lemmas.Bool.Decides.{nat_tests}
@@ -5,11 +6,11 @@ use Rattle.std.specs.Char.{is_ascii_hexdigit}
 use Rattle.st_lex.specs.declared.token.Token.{Token}
 use Rattle.st_lex.specs.declared.token.Front.TheVariants.{Piece}
 use Rattle.st_lex.specs.declared.token.TokenKind.TheVariants.{Quoted}
-use Rattle.st_lex.specs.Quoted.{closing, further, inner_fault, later, is_byte_escape}
+use Rattle.st_lex.specs.Quoted.{closing_len, count_after, inner_fault, optional_fault_after, is_byte_escape}
 use Rattle.st_lex.specs.Quote.{hex_digit, escaped_byte, quoted_byte, quoted_bytes, quoted, AreBytes, one_token}
-use Rattle.st_lex.specs.Tokens.{tokens_from, lexed_of, quoted_front, front_of, with_token}
+use Rattle.st_lex.specs.Tokens.{tokens_from, lexed_text, quoted_front, front_of, with_token}
 use Rattle.st_lex.proofs.Distances.{further-further, further-zero, later-later, later-zero}
-use Rattle.st_lex.proofs.Scans.{closing-plain, closing-pair, inner_fault-plain, inner_fault-pair}
+use Rattle.st_lex.proofs.Scans.{closing_len-plain, closing_len-pair, inner_fault-plain, inner_fault-pair}
 use Rattle.st_lex.proofs.Skips.{tokens_from-piece}
 
 record IsDigit (n d : ℕ) : Type 0 where
@@ -55,18 +56,18 @@ digit n h = digit_by n (nat_lt n 10) refl h
 
 -- closing and faults go on behind these bytes, as many bytes further on
 pub record Passes (xs : List ℕ) : Type 0 where
-  pub closes : (rest : List ℕ) → closing (xs ++ rest) ≡ further (length xs) (closing rest)
-  pub faults : (rest : List ℕ) → inner_fault (xs ++ rest) ≡ later (length xs) (inner_fault rest)
+  pub closes : (rest : List ℕ) → closing_len (xs ++ rest) ≡ count_after (length xs) (closing_len rest)
+  pub faults : (rest : List ℕ) → inner_fault (xs ++ rest) ≡ optional_fault_after (length xs) (inner_fault rest)
 
 passes_plain : (b : ℕ) → b ≢ 34 → b ≢ 10 → b ≢ 92 → b ≢ 0 → Passes (b ∷ [])
 passes_plain b q n s z = record {
-  closes = λ rest. closing-plain b rest q n s;
+  closes = λ rest. closing_len-plain b rest q n s;
   faults = λ rest. inner_fault-plain b rest q z s;
 }
 
 passes_pair : (b : ℕ) → b ≢ 10 → b ≢ 0 → b ≢ 120 → Passes (92 ∷ b ∷ [])
 passes_pair b n z x = record {
-  closes = λ rest. closing-pair b rest n;
+  closes = λ rest. closing_len-pair b rest n;
   faults = λ rest. inner_fault-pair b rest z (λ e. absurd (x e));
 }
 
@@ -75,11 +76,11 @@ is_escape h l rest p q z = grind (arith, nat_tests)
 
 passes_escape : (m n h l : ℕ) → IsDigit m h → IsDigit n l → (m ≡ 0 → n ≡ 0 → ⊥) → Passes (92 ∷ 120 ∷ h ∷ l ∷ [])
 passes_escape m n h l d e z = record {
-  closes = λ rest. closing-pair 120 (h ∷ l ∷ rest) (omega arith)
-      ∙ ap (further 2) (closing-plain h (l ∷ rest) d.quote d.newline d.backslash ∙ ap (further 1) (closing-plain l rest e.quote e.newline e.backslash) ∙ further-further 1 1 (closing rest))
-      ∙ further-further 2 2 (closing rest);
+  closes = λ rest. closing_len-pair 120 (h ∷ l ∷ rest) (omega arith)
+      ∙ ap (count_after 2) (closing_len-plain h (l ∷ rest) d.quote d.newline d.backslash ∙ ap (count_after 1) (closing_len-plain l rest e.quote e.newline e.backslash) ∙ further-further 1 1 (closing_len rest))
+      ∙ further-further 2 2 (closing_len rest);
   faults = λ rest. inner_fault-pair 120 (h ∷ l ∷ rest) (omega arith) (λ _. is_escape h l rest d.hex e.hex (λ a b. z (d.zero a) (e.zero b)))
-      ∙ ap (later 2) (inner_fault-plain h (l ∷ rest) d.quote d.null d.backslash ∙ ap (later 1) (inner_fault-plain l rest e.quote e.null e.backslash) ∙ later-later 1 1 (inner_fault rest))
+      ∙ ap (optional_fault_after 2) (inner_fault-plain h (l ∷ rest) d.quote d.null d.backslash ∙ ap (optional_fault_after 1) (inner_fault-plain l rest e.quote e.null e.backslash) ∙ later-later 1 1 (inner_fault rest))
       ∙ later-later 2 2 (inner_fault rest);
 }
 
@@ -95,12 +96,12 @@ passes_byte : (b : ℕ) → 0 < b → b < 256 → Passes (quoted_byte b)
 passes_byte b p h = passes_by b ((b == 34) || (b == 92)) ((b == 36) || (nat_lt b 0x20 || nat_lt 0x7e b)) p h refl refl
 
 passes_none : Passes []
-passes_none = record { closes = λ rest. sym (further-zero (closing rest)); faults = λ rest. sym (later-zero (inner_fault rest)) }
+passes_none = record { closes = λ rest. sym (further-zero (closing_len rest)); faults = λ rest. sym (later-zero (inner_fault rest)) }
 
 passes_both : (xs ys : List ℕ) → Passes xs → Passes ys → Passes (xs ++ ys)
 passes_both xs ys p q = record {
-  closes = λ rest. ap closing (append_assoc xs ys rest) ∙ p.closes (ys ++ rest) ∙ ap (further (length xs)) (q.closes rest) ∙ further-further (length xs) (length ys) (closing rest) ∙ ap (λ (n : ℕ). further n (closing rest)) (sym (length-append xs ys));
-  faults = λ rest. ap inner_fault (append_assoc xs ys rest) ∙ p.faults (ys ++ rest) ∙ ap (later (length xs)) (q.faults rest) ∙ later-later (length xs) (length ys) (inner_fault rest) ∙ ap (λ (n : ℕ). later n (inner_fault rest)) (sym (length-append xs ys));
+  closes = λ rest. ap closing_len (append_assoc xs ys rest) ∙ p.closes (ys ++ rest) ∙ ap (count_after (length xs)) (q.closes rest) ∙ further-further (length xs) (length ys) (closing_len rest) ∙ ap (λ (n : ℕ). count_after n (closing_len rest)) (sym (length-append xs ys));
+  faults = λ rest. ap inner_fault (append_assoc xs ys rest) ∙ p.faults (ys ++ rest) ∙ ap (optional_fault_after (length xs)) (q.faults rest) ∙ later-later (length xs) (length ys) (inner_fault rest) ∙ ap (λ (n : ℕ). optional_fault_after n (inner_fault rest)) (sym (length-append xs ys));
 }
 
 pub passes_bytes : (bytes : List ℕ) → AreBytes bytes → Passes (quoted_bytes bytes)
@@ -108,7 +109,7 @@ passes_bytes [] a = passes_none
 passes_bytes (b ∷ bs) a = passes_both (quoted_byte b) (quoted_bytes bs) (passes_byte b a.0 a.1) (passes_bytes bs a.2)
 
 -- a quoted text that is closed by its last byte is one token
-one_from : (q : List ℕ) → closing (q ++ 34 ∷ []) ≡ Some (length q + 1) → inner_fault (q ++ 34 ∷ []) ≡ None → lexed_of (34 ∷ (q ++ 34 ∷ [])) ≡ one_token (34 ∷ (q ++ 34 ∷ []))
+one_from : (q : List ℕ) → closing_len (q ++ 34 ∷ []) ≡ Some (length q + 1) → inner_fault (q ++ 34 ∷ []) ≡ None → lexed_text (34 ∷ (q ++ 34 ∷ [])) ≡ one_token (34 ∷ (q ++ 34 ∷ []))
 one_from q c f =
     let k : ℕ = 1 + (length q + 1) in
     let text : List ℕ = 34 ∷ (q ++ 34 ∷ []) in
@@ -121,7 +122,7 @@ one_from q c f =
     ∙ ap (λ (len : ℕ). with_token (T len) (record { tokens = []; fault = None })) e
 
 -- the text that is printed is one token
-pub lexed_of-quoted : (bytes : List ℕ) → AreBytes bytes → lexed_of (quoted bytes) ≡ one_token (quoted bytes)
-lexed_of-quoted bytes a =
+pub lexed_text-quoted : (bytes : List ℕ) → AreBytes bytes → lexed_text (quoted bytes) ≡ one_token (quoted bytes)
+lexed_text-quoted bytes a =
     let p : Passes (quoted_bytes bytes) = passes_bytes bytes a in
     one_from (quoted_bytes bytes) (p.closes (34 ∷ [])) (p.faults (34 ∷ []))

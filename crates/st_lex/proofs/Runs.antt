@@ -1,4 +1,6 @@
+-- What the front of a text says of its bytes: their newlines, and where words and quoted texts end.
 use Rattle.std.proofs.Common.{suc, ◌≡◌, ℕ, ◌+◌, ◌-◌, ◌<◌, ◌≤◌, ◌≢◌, Bool, true, false, not, ◌&&◌, ◌||◌, List, [], ◌∷◌, length, take, get_or, Option, None, Some, refl, ap, sym, subst, ◌∙◌, arith, nat_eq, nat_lt, cond}
+use Rattle.std.proofs.lemmas.Bool.{and_left, and_right, not-false}
 use Rattle.std.specs.List.{prefix_len}
 use Rattle.std.proofs.lemmas.List.Sums.{prefix_len_stops, sum_by-append}
 use Rattle.std.proofs.lemmas.List.{get_or_past}
@@ -9,10 +11,12 @@ use Rattle.st_lex.specs.declared.token.Front.{Front}
 use Rattle.st_lex.specs.declared.token.Front.TheVariants.{Gap, Piece, Broken}
 use Rattle.st_lex.specs.declared.token.TokenKind.{TokenKind}
 use Rattle.st_lex.specs.declared.token.TokenKind.TheVariants.{Word, Quoted, Colon, Comma, Open, Close, OpenBracket, CloseBracket, Equal, NotEqual, Less, Greater, Line}
-use Rattle.st_lex.specs.Quoted.{closing, further, inner_fault}
+use Rattle.st_lex.specs.Quoted.{closing_len, count_after, inner_fault}
 use Rattle.st_lex.specs.Slices.{newlines}
 use Rattle.st_lex.proofs.Distances.{further-further}
-use Rattle.st_lex.specs.Tokens.{front_of, is_blank, is_word_byte, is_no_newline, sign_of, sign_front, quoted_front, not_equal_front, line_behind}
+use Rattle.st_lex.specs.Tokens.{front_of, is_blank, is_word_byte, is_no_newline, sign_of, sign_front, quoted_front, not_equal_front, line_after}
+
+-- ---- what a front says
 
 -- no word goes on over this place
 abbrev pub Ends : List ℕ → ℕ → Type 0
@@ -23,7 +27,7 @@ pub record IsGap (bytes : List ℕ) (k : ℕ) : Type 0 where
   pub ends : Ends bytes k
 
 pub record IsPiece (bytes : List ℕ) (kind : TokenKind) (k : ℕ) : Type 0 where
-  pub lines : newlines (take k bytes) ≡ line_behind kind 0
+  pub lines : newlines (take k bytes) ≡ line_after kind 0
   pub ends : Ends bytes k
   pub word : kind ≡ Word → prefix_len is_word_byte bytes ≡ k
   pub quoted : kind ≡ Quoted → (2 ≤ k) × (get_or bytes 0 0 ≡ 34) × (get_or bytes (k - 1) 0 ≡ 34)
@@ -33,6 +37,8 @@ abbrev pub Tells : List ℕ → Front → Type 0
 Tells bytes (Gap k) = IsGap bytes k
 Tells bytes (Piece kind k) = IsPiece bytes kind k
 Tells bytes (Broken fault) = Unit {0}
+
+-- ---- bytes, and runs of bytes
 
 -- what holds in each case of a test
 pub tested : {A : Type 0} (P : A → Type 0) (b : Bool) (x y : A) → (b ≡ true → P x) → (b ≡ false → P y) → P (cond b x y)
@@ -71,15 +77,6 @@ word_no_newline b e n = let f : is_word_byte 10 ≡ true = subst (λ (x : ℕ). 
 no_newline : (b : ℕ) → is_no_newline b ≡ true → b ≢ 10
 no_newline b e n = let f : is_no_newline 10 ≡ true = subst (λ (x : ℕ). is_no_newline x ≡ true) n e in absurd (cc)
 
--- no word goes on where either byte is no word byte
-no_left : (x y : Bool) → x ≡ false → (x && y) ≡ false
-no_left false y e = refl
-no_left true y e = absurd (cc)
-
-no_right : (x y : Bool) → y ≡ false → (x && y) ≡ false
-no_right false y e = refl
-no_right true y e = e
-
 pub is_at : (b n : ℕ) → nat_eq b n ≡ true → b ≡ n
 is_at b n e = grind (arith, nat_tests)
 
@@ -116,17 +113,15 @@ stops p h bs =
     (λ e. h (get_or bs (prefix_len p bs) 0) (prefix_len_stops p bs 0 (below (prefix_len p bs) (length bs) e)))
     (λ e. ap is_word_byte (get_or_past bs (prefix_len p bs) 0 (not_below (prefix_len p bs) (length bs) e)))
 
-twice : (x : Bool) → not x ≡ false → x ≡ true
-twice true e = refl
-twice false e = absurd (cc)
-
 newline_no_word : (b : ℕ) → is_no_newline b ≡ false → is_word_byte b ≡ false
-newline_no_word b e = no_word b 10 (is_at b 10 (twice (nat_eq b 10) e)) refl
+newline_no_word b e = no_word b 10 (is_at b 10 (not-false (nat_eq b 10) e)) refl
+
+-- ---- gaps, words and signs
 
 blank_tells : (b : ℕ) (bs : List ℕ) → is_blank b ≡ true → IsGap (b ∷ bs) 1
 blank_tells b bs e = record {
   lines = newlines-no b [] ((blank_no_word b e).1);
-  ends = no_left (is_word_byte b) (is_word_byte (get_or (b ∷ bs) 1 0)) ((blank_no_word b e).0);
+  ends = and_left (is_word_byte b) (is_word_byte (get_or (b ∷ bs) 1 0)) ((blank_no_word b e).0);
 }
 
 comment_tells : (b : ℕ) (bs : List ℕ) → nat_eq b 35 ≡ true → IsGap (b ∷ bs) (1 + prefix_len is_no_newline bs)
@@ -136,7 +131,7 @@ comment_tells b bs e =
     let k : suc (prefix_len is_no_newline bs) ≡ 1 + prefix_len is_no_newline bs = omega arith in
     let whole : IsGap (b ∷ bs) (suc (prefix_len is_no_newline bs)) = record {
       lines = newlines-no b (take (prefix_len is_no_newline bs) bs) n ∙ newlines-run is_no_newline no_newline bs;
-      ends = no_right _ (is_word_byte (get_or bs (prefix_len is_no_newline bs) 0)) (stops is_no_newline newline_no_word bs);
+      ends = and_right _ (is_word_byte (get_or bs (prefix_len is_no_newline bs) 0)) (stops is_no_newline newline_no_word bs);
     } in
     subst (IsGap (b ∷ bs)) k whole
 
@@ -145,18 +140,18 @@ word_tells b bs e =
     let k : prefix_len is_word_byte (b ∷ bs) ≡ 1 + prefix_len is_word_byte bs = prefix-yes is_word_byte b bs e ∙ omega arith in
     let whole : IsPiece (b ∷ bs) Word (prefix_len is_word_byte (b ∷ bs)) = record {
       lines = newlines-run is_word_byte word_no_newline (b ∷ bs);
-      ends = no_right _ (is_word_byte (get_or (b ∷ bs) (prefix_len is_word_byte (b ∷ bs)) 0)) (stops is_word_byte (λ x h. h) (b ∷ bs));
+      ends = and_right _ (is_word_byte (get_or (b ∷ bs) (prefix_len is_word_byte (b ∷ bs)) 0)) (stops is_word_byte (λ x h. h) (b ∷ bs));
       word = λ _. refl;
       quoted = λ h. absurd (cc);
     } in
     subst (IsPiece (b ∷ bs) Word) k whole
 
-sign_tells : (kind : TokenKind) (n b : ℕ) (bs : List ℕ) → is_word_byte n ≡ false → n ≢ 10 → line_behind kind 0 ≡ 0 → kind ≢ Word → kind ≢ Quoted → nat_eq b n ≡ true → IsPiece (b ∷ bs) kind 1
+sign_tells : (kind : TokenKind) (n b : ℕ) (bs : List ℕ) → is_word_byte n ≡ false → n ≢ 10 → line_after kind 0 ≡ 0 → kind ≢ Word → kind ≢ Quoted → nat_eq b n ≡ true → IsPiece (b ∷ bs) kind 1
 sign_tells kind n b bs w l z nw nq e =
     let i : b ≡ n = is_at b n e in
     record {
       lines = newlines-no b [] (λ x. l (sym i ∙ x)) ∙ sym z;
-      ends = no_left (is_word_byte b) (is_word_byte (get_or (b ∷ bs) 1 0)) (no_word b n i w);
+      ends = and_left (is_word_byte b) (is_word_byte (get_or (b ∷ bs) 1 0)) (no_word b n i w);
       word = λ h. absurd (nw h);
       quoted = λ h. absurd (nq h);
     }
@@ -166,7 +161,7 @@ line_tells b bs e =
     let i : b ≡ 10 = is_at b 10 e in
     record {
       lines = ap (λ (x : ℕ). newlines (x ∷ [])) i;
-      ends = no_left (is_word_byte b) (is_word_byte (get_or (b ∷ bs) 1 0)) (no_word b 10 i refl);
+      ends = and_left (is_word_byte b) (is_word_byte (get_or (b ∷ bs) 1 0)) (no_word b 10 i refl);
       word = λ h. absurd (cc);
       quoted = λ h. absurd (cc);
     }
@@ -185,6 +180,8 @@ signs_tell b bs =
     (λ _. tested P (nat_eq b 60) (Some Less) _ (sign_tells Less 60 b bs refl (omega arith) refl (λ h. cc) (λ h. cc))
     (λ _. tested P (nat_eq b 62) (Some Greater) None (sign_tells Greater 62 b bs refl (omega arith) refl (λ h. cc) (λ h. cc)) (λ _. tt))))))))))
 
+-- ---- quoted texts
+
 -- the closing quote is the last byte, and no newline stands before it
 Closed : List ℕ → Option ℕ → Type 0
 Closed bs None = Unit {0}
@@ -194,7 +191,7 @@ closed_here : (b : ℕ) (bs : List ℕ) → nat_eq b 34 ≡ true → Closed (b �
 unfolding Closed
 closed_here b bs e = (omega arith, is_at b 34 e, newlines-no b [] (λ n. let i : b ≡ 34 = is_at b 34 e in omega arith))
 
-closed_more : (b : ℕ) (bs : List ℕ) (o : Option ℕ) → b ≢ 10 → Closed bs o → Closed (b ∷ bs) (further 1 o)
+closed_more : (b : ℕ) (bs : List ℕ) (o : Option ℕ) → b ≢ 10 → Closed bs o → Closed (b ∷ bs) (count_after 1 o)
 unfolding Closed
 closed_more b bs None n h = tt
 closed_more b bs (Some k) n h =
@@ -206,14 +203,14 @@ closed_more b bs (Some k) n h =
       ap (λ (x : ℕ). newlines (take x (b ∷ bs))) front ∙ newlines-no b (take k bs) n ∙ h.2,
     )
 
-closed : (bs : List ℕ) → Closed bs (closing bs)
+closed : (bs : List ℕ) → Closed bs (closing_len bs)
 unfolding Closed
 closed [] = tt
 closed (b ∷ []) = tested (Closed (b ∷ [])) (nat_eq b 34) (Some 1) None (closed_here b []) (λ _. tt)
 closed (b ∷ c ∷ cs) =
     let P : Option ℕ → Type 0 = Closed (b ∷ c ∷ cs) in
-    let two : b ≢ 10 → c ≢ 10 → P (further 2 (closing cs)) = λ n m. subst P (further-further 1 1 (closing cs)) (closed_more b (c ∷ cs) (further 1 (closing cs)) n (closed_more c cs (closing cs) m (closed cs))) in
-    let one : b ≢ 10 → P (further 1 (closing (c ∷ cs))) = λ n. closed_more b (c ∷ cs) (closing (c ∷ cs)) n (closed (c ∷ cs)) in
+    let two : b ≢ 10 → c ≢ 10 → P (count_after 2 (closing_len cs)) = λ n m. subst P (further-further 1 1 (closing_len cs)) (closed_more b (c ∷ cs) (count_after 1 (closing_len cs)) n (closed_more c cs (closing_len cs) m (closed cs))) in
+    let one : b ≢ 10 → P (count_after 1 (closing_len (c ∷ cs))) = λ n. closed_more b (c ∷ cs) (closing_len (c ∷ cs)) n (closed (c ∷ cs)) in
     tested P (nat_eq b 34) (Some 1) _ (closed_here b (c ∷ cs))
     (λ _. tested P (nat_eq b 10) None _ (λ _. tt)
     (λ n. tested P (nat_eq b 92) _ _
@@ -231,10 +228,12 @@ quoted_tells b bs (Some k) None i h =
     let last : get_or (b ∷ bs) (1 + k - 1) 0 ≡ 34 = ap (λ (x : ℕ). get_or (b ∷ bs) x 0) at ∙ h.1 in
     record {
       lines = ap (λ (x : ℕ). newlines (take x (b ∷ bs))) front ∙ newlines-no b (take k bs) (λ n. omega arith) ∙ h.2;
-      ends = no_left _ _ (no_word _ 34 last refl);
+      ends = and_left _ _ (no_word _ 34 last refl);
       word = λ e. absurd (cc);
       quoted = λ _. (omega arith, i, last);
     }
+
+-- ---- every front
 
 not_equal_tells : (b : ℕ) (bs : List ℕ) → b ≡ 33 → Tells (b ∷ bs) (not_equal_front bs)
 not_equal_tells b [] i = tt
@@ -242,7 +241,7 @@ not_equal_tells b (c ∷ cs) i =
     tested (Tells (b ∷ c ∷ cs)) (nat_eq c 61) (Piece NotEqual 2) (Broken (BadByte 0))
     (λ e. let j : c ≡ 61 = is_at c 61 e in record {
       lines = newlines-no b (c ∷ []) (λ n. omega arith) ∙ newlines-no c [] (λ n. omega arith);
-      ends = no_left (is_word_byte c) _ (no_word c 61 j refl);
+      ends = and_left (is_word_byte c) _ (no_word c 61 j refl);
       word = λ h. absurd (cc);
       quoted = λ h. absurd (cc);
     })
@@ -255,5 +254,5 @@ front_tells b bs =
     tested P (is_blank b) (Gap 1) _ (blank_tells b bs)
     (λ _. tested P (nat_eq b 35) (Gap (1 + prefix_len is_no_newline bs)) _ (comment_tells b bs)
     (λ _. tested P (is_word_byte b) (Piece Word (1 + prefix_len is_word_byte bs)) _ (word_tells b bs)
-    (λ _. tested P (nat_eq b 34) (quoted_front (closing bs) (inner_fault bs)) _ (λ e. quoted_tells b bs (closing bs) (inner_fault bs) (is_at b 34 e) (closed bs))
+    (λ _. tested P (nat_eq b 34) (quoted_front (closing_len bs) (inner_fault bs)) _ (λ e. quoted_tells b bs (closing_len bs) (inner_fault bs) (is_at b 34 e) (closed bs))
     (λ _. tested P (nat_eq b 33) (not_equal_front bs) (sign_front (sign_of b)) (λ e. not_equal_tells b bs (is_at b 33 e)) (λ _. signs_tell b bs)))))

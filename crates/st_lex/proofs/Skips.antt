@@ -1,3 +1,4 @@
+-- The tokens of a text, one front after the other.
 use Rattle.std.proofs.Common.{zero, suc, ◌≡◌, ℕ, ◌+◌, ◌-◌, ◌<◌, ◌≤◌, List, [], ◌∷◌, ◌++◌, length, take, drop, get_or, Option, None, Some, refl, ap, sym, ◌∙◌, arith, append_assoc}
 use Rattle.std.proofs.lemmas.List.{append-nil, drop_more, drop_all, drop-drop, take_rest, length-drop}
 use Rattle.st_lex.specs.declared.token.Token.{Token}
@@ -6,8 +7,8 @@ use Rattle.st_lex.specs.declared.token.LexFault.{LexFault}
 use Rattle.st_lex.specs.declared.token.Lexed.{Lexed}
 use Rattle.st_lex.specs.declared.token.Front.{Front}
 use Rattle.st_lex.specs.declared.token.Front.TheVariants.{Gap, Piece, Broken}
-use Rattle.st_lex.specs.Quoted.{moved}
-use Rattle.st_lex.specs.Tokens.{front_of, line_behind, with_token, tokens_from}
+use Rattle.st_lex.specs.Quoted.{fault_after}
+use Rattle.st_lex.specs.Tokens.{front_of, line_after, with_token, tokens_from}
 
 -- skipped bytes only move the place
 pub tokens_from-skip : (k at line : ℕ) (bytes : List ℕ) → k ≤ length bytes → tokens_from k at line bytes ≡ tokens_from 0 (at + k) line (drop k bytes)
@@ -20,8 +21,8 @@ tokens_from-skip (suc k) at line (b ∷ bs) h =
 -- what a text gives by what stands at its front
 unfoldable pub by_front : ℕ → ℕ → List ℕ → Front → Lexed
 by_front at line bs (Gap k) = tokens_from (k - 1) (at + 1) line bs
-by_front at line bs (Piece kind k) = with_token (record { kind = kind; at = at; len = k; line = line }) (tokens_from (k - 1) (at + 1) (line_behind kind line) bs)
-by_front at line bs (Broken fault) = record { tokens = []; fault = Some (moved at fault) }
+by_front at line bs (Piece kind k) = with_token (record { kind = kind; at = at; len = k; line = line }) (tokens_from (k - 1) (at + 1) (line_after kind line) bs)
+by_front at line bs (Broken fault) = record { tokens = []; fault = Some (fault_after at fault) }
 
 pub tokens_from-front : (at line b : ℕ) (bs : List ℕ) → tokens_from 0 at line (b ∷ bs) ≡ by_front at line bs (front_of (b ∷ bs))
 unfolding by_front
@@ -38,12 +39,12 @@ pub tokens_from-gap : (k at line b : ℕ) (bs : List ℕ) → Gap k ≡ front_of
 unfolding by_front
 tokens_from-gap k at line b bs e p h = tokens_from-front at line b bs ∙ ap (by_front at line bs) (sym e) ∙ skip_front k at line b bs p h
 
-pub tokens_from-piece : (kind : TokenKind) (k at line b : ℕ) (bs : List ℕ) → Piece kind k ≡ front_of (b ∷ bs) → 0 < k → k ≤ length bs + 1 → tokens_from 0 at line (b ∷ bs) ≡ with_token (record { kind = kind; at = at; len = k; line = line }) (tokens_from 0 (at + k) (line_behind kind line) (drop k (b ∷ bs)))
+pub tokens_from-piece : (kind : TokenKind) (k at line b : ℕ) (bs : List ℕ) → Piece kind k ≡ front_of (b ∷ bs) → 0 < k → k ≤ length bs + 1 → tokens_from 0 at line (b ∷ bs) ≡ with_token (record { kind = kind; at = at; len = k; line = line }) (tokens_from 0 (at + k) (line_after kind line) (drop k (b ∷ bs)))
 unfolding by_front
 tokens_from-piece kind k at line b bs e p h =
-    tokens_from-front at line b bs ∙ ap (by_front at line bs) (sym e) ∙ ap (with_token (record { kind = kind; at = at; len = k; line = line })) (skip_front k at (line_behind kind line) b bs p h)
+    tokens_from-front at line b bs ∙ ap (by_front at line bs) (sym e) ∙ ap (with_token (record { kind = kind; at = at; len = k; line = line })) (skip_front k at (line_after kind line) b bs p h)
 
-pub tokens_from-broken : (fault : LexFault) (at line b : ℕ) (bs : List ℕ) → Broken fault ≡ front_of (b ∷ bs) → tokens_from 0 at line (b ∷ bs) ≡ record { tokens = []; fault = Some (moved at fault) }
+pub tokens_from-broken : (fault : LexFault) (at line b : ℕ) (bs : List ℕ) → Broken fault ≡ front_of (b ∷ bs) → tokens_from 0 at line (b ∷ bs) ≡ record { tokens = []; fault = Some (fault_after at fault) }
 unfolding by_front
 tokens_from-broken fault at line b bs e = tokens_from-front at line b bs ∙ ap (by_front at line bs) (sym e)
 
@@ -63,41 +64,41 @@ before-none ts fault =
     ap F (append-nil ts)
 
 -- the text behind a place, as its parts are passed on
-abbrev pub behind : List ℕ → ℕ → List ℕ
-behind text at = take (length text - (at + 1)) (drop (at + 1) text)
+abbrev pub text_after : List ℕ → ℕ → List ℕ
+text_after text at = take (length text - (at + 1)) (drop (at + 1) text)
 
-parted : (text : List ℕ) (at : ℕ) → at < length text → drop at text ≡ get_or text at 0 ∷ behind text at
+parted : (text : List ℕ) (at : ℕ) → at < length text → drop at text ≡ get_or text at 0 ∷ text_after text at
 parted text at h = drop_more text at 0 h ∙ ap (λ (xs : List ℕ). get_or text at 0 ∷ xs) (sym (take_rest text (at + 1)))
 
-pub length-behind : (text : List ℕ) (at : ℕ) → at < length text → at + (length (behind text at) + 1) ≡ length text
+pub length-behind : (text : List ℕ) (at : ℕ) → at < length text → at + (length (text_after text at) + 1) ≡ length text
 length-behind text at h =
-    let e : length (behind text at) ≡ length text - (at + 1) = ap length (take_rest text (at + 1)) ∙ length-drop (at + 1) text in
+    let e : length (text_after text at) ≡ length text - (at + 1) = ap length (take_rest text (at + 1)) ∙ length-drop (at + 1) text in
     omega arith
 
-dropped : (k at : ℕ) (text : List ℕ) → at < length text → drop k (get_or text at 0 ∷ behind text at) ≡ drop (at + k) text
+dropped : (k at : ℕ) (text : List ℕ) → at < length text → drop k (get_or text at 0 ∷ text_after text at) ≡ drop (at + k) text
 dropped k at text h = ap (drop k) (sym (parted text at h)) ∙ drop-drop k at text
 
-pub gap_at : (ts : List Token) (k at line : ℕ) (text : List ℕ) → at < length text → Gap k ≡ front_of (get_or text at 0 ∷ behind text at) → 0 < k → k ≤ length (behind text at) + 1 → before ts (tokens_from 0 at line (drop at text)) ≡ before ts (tokens_from 0 (at + k) line (drop (at + k) text))
+pub gap_at : (ts : List Token) (k at line : ℕ) (text : List ℕ) → at < length text → Gap k ≡ front_of (get_or text at 0 ∷ text_after text at) → 0 < k → k ≤ length (text_after text at) + 1 → before ts (tokens_from 0 at line (drop at text)) ≡ before ts (tokens_from 0 (at + k) line (drop (at + k) text))
 gap_at ts k at line text h e p q =
-    let d : tokens_from 0 at line (drop at text) ≡ tokens_from 0 (at + k) line (drop (at + k) text) = ap (tokens_from 0 at line) (parted text at h) ∙ tokens_from-gap k at line (get_or text at 0) (behind text at) e p q ∙ ap (tokens_from 0 (at + k) line) (dropped k at text h) in
+    let d : tokens_from 0 at line (drop at text) ≡ tokens_from 0 (at + k) line (drop (at + k) text) = ap (tokens_from 0 at line) (parted text at h) ∙ tokens_from-gap k at line (get_or text at 0) (text_after text at) e p q ∙ ap (tokens_from 0 (at + k) line) (dropped k at text h) in
     ap (before ts) d
 
-pub piece_at : (ts : List Token) (kind : TokenKind) (k at line : ℕ) (text : List ℕ) → at < length text → Piece kind k ≡ front_of (get_or text at 0 ∷ behind text at) → 0 < k → k ≤ length (behind text at) + 1 → before ts (tokens_from 0 at line (drop at text)) ≡ before (ts ++ record { kind = kind; at = at; len = k; line = line } ∷ []) (tokens_from 0 (at + k) (line_behind kind line) (drop (at + k) text))
+pub piece_at : (ts : List Token) (kind : TokenKind) (k at line : ℕ) (text : List ℕ) → at < length text → Piece kind k ≡ front_of (get_or text at 0 ∷ text_after text at) → 0 < k → k ≤ length (text_after text at) + 1 → before ts (tokens_from 0 at line (drop at text)) ≡ before (ts ++ record { kind = kind; at = at; len = k; line = line } ∷ []) (tokens_from 0 (at + k) (line_after kind line) (drop (at + k) text))
 piece_at ts kind k at line text h e p q =
     let t : Token = record { kind = kind; at = at; len = k; line = line } in
-    let rest : Lexed = tokens_from 0 (at + k) (line_behind kind line) (drop (at + k) text) in
-    let d : tokens_from 0 at line (drop at text) ≡ with_token t rest = ap (tokens_from 0 at line) (parted text at h) ∙ tokens_from-piece kind k at line (get_or text at 0) (behind text at) e p q ∙ ap (λ (xs : List ℕ). with_token t (tokens_from 0 (at + k) (line_behind kind line) xs)) (dropped k at text h) in
+    let rest : Lexed = tokens_from 0 (at + k) (line_after kind line) (drop (at + k) text) in
+    let d : tokens_from 0 at line (drop at text) ≡ with_token t rest = ap (tokens_from 0 at line) (parted text at h) ∙ tokens_from-piece kind k at line (get_or text at 0) (text_after text at) e p q ∙ ap (λ (xs : List ℕ). with_token t (tokens_from 0 (at + k) (line_after kind line) xs)) (dropped k at text h) in
     ap (before ts) d ∙ before-with_token ts t rest
 
-pub broken_at : (ts : List Token) (fault : LexFault) (at line : ℕ) (text : List ℕ) → at < length text → Broken fault ≡ front_of (get_or text at 0 ∷ behind text at) → before ts (tokens_from 0 at line (drop at text)) ≡ record { tokens = ts; fault = Some (moved at fault) }
+pub broken_at : (ts : List Token) (fault : LexFault) (at line : ℕ) (text : List ℕ) → at < length text → Broken fault ≡ front_of (get_or text at 0 ∷ text_after text at) → before ts (tokens_from 0 at line (drop at text)) ≡ record { tokens = ts; fault = Some (fault_after at fault) }
 broken_at ts fault at line text h e =
-    ap (before ts) (ap (tokens_from 0 at line) (parted text at h) ∙ tokens_from-broken fault at line (get_or text at 0) (behind text at) e) ∙ before-none ts (Some (moved at fault))
+    ap (before ts) (ap (tokens_from 0 at line) (parted text at h) ∙ tokens_from-broken fault at line (get_or text at 0) (text_after text at) e) ∙ before-none ts (Some (fault_after at fault))
 
 pub all_read : (ts : List Token) (at line : ℕ) (text : List ℕ) → length text ≤ at → before ts (tokens_from 0 at line (drop at text)) ≡ record { tokens = ts; fault = None }
 all_read ts at line text h = ap (λ (xs : List ℕ). before ts (tokens_from 0 at line xs)) (drop_all at text h) ∙ before-none ts None
 
-pub line_behind-le : (kind : TokenKind) (line : ℕ) → line_behind kind line ≤ line + 1
-line_behind-le kind line = grind arith
+pub line_after-le : (kind : TokenKind) (line : ℕ) → line_after kind line ≤ line + 1
+line_after-le kind line = grind arith
 
 pub before-same : (ts us : List Token) (at line next : ℕ) (bytes : List ℕ) → us ≡ ts → next ≡ line → before ts (tokens_from 0 at line bytes) ≡ before us (tokens_from 0 at next bytes)
 before-same ts us at line next bytes e f =

@@ -11,15 +11,15 @@ use Rattle.st_lex.specs.declared.token.Lexed.{Lexed}
 use Rattle.st_lex.specs.declared.token.Front.{Front}
 use Rattle.st_lex.specs.declared.token.Front.TheVariants.{Gap, Piece, Broken}
 use Rattle.st_lex.specs.Pieces.{is_word_text}
-use Rattle.st_lex.specs.Quoted.{closing, inner_fault}
+use Rattle.st_lex.specs.Quoted.{closing_len, inner_fault}
 use Rattle.st_lex.specs.Slices.{IsTokenOf}
 use Rattle.st_lex.specs.Text.{text_of_token, inside}
-use Rattle.st_lex.specs.Tokens.{is_blank, is_word_byte, is_no_newline, sign_of, sign_front, not_equal_front, quoted_front, front_of, line_behind, tokens_from, lexed_of}
+use Rattle.st_lex.specs.Tokens.{is_blank, is_word_byte, is_no_newline, sign_of, sign_front, not_equal_front, quoted_front, front_of, line_after, tokens_from, lexed_text}
 use Rattle.st_lex.proofs.Insides.{IsInside, Nothing, closed_inside}
-use Rattle.st_lex.proofs.Parts.{drop-next, lexed_of-slices}
+use Rattle.st_lex.proofs.Parts.{drop-next, lexed_text-slices}
 use Rattle.st_lex.proofs.Runs.{tested, prefix-yes, prefix-no}
 use Rattle.st_lex.proofs.Skips.{by_front, tokens_from-front}
-use Rattle.st_lex.proofs.Within.{CountWithin, closing-within}
+use Rattle.st_lex.proofs.Within.{CountWithin, closing_len-within}
 
 -- ---- Words
 
@@ -52,8 +52,8 @@ each_whole : (text : List ℕ) (ts : List Token) → AllByRecursion (IsTokenOf t
 each_whole text [] a = tt
 each_whole text (t ∷ ts) a = (whole_token text t a.0, each_whole text ts a.1)
 
-pub words_whole : (text : List ℕ) → AllByRecursion (IsWholeToken text) (lexed_of text).tokens
-words_whole text = each_whole text (lexed_of text).tokens (recursion_from_All (IsTokenOf text) (lexed_of text).tokens (lexed_of-slices text).each)
+pub words_whole : (text : List ℕ) → AllByRecursion (IsWholeToken text) (lexed_text text).tokens
+words_whole text = each_whole text (lexed_text text).tokens (recursion_from_All (IsTokenOf text) (lexed_text text).tokens (lexed_text-slices text).each)
 
 -- ---- quoted texts
 
@@ -72,12 +72,12 @@ inside-front b bs n h =
     let len : length (b ∷ take (suc n) bs) - 2 ≡ n = omega (arith, length-take (suc n) bs, h) in
     ap (λ (k : ℕ). inside (take k (b ∷ bs))) two ∙ ap (λ (k : ℕ). take k (take (suc n) bs)) len ∙ take-take n (suc n) bs (omega arith)
 
-quoted_well : (b : ℕ) (bs : List ℕ) (o : Option ℕ) (f : Option LexFault) → AllByRecursion (λ c. c < 256) bs → closing bs ≡ o → inner_fault bs ≡ f → QuotesWell (b ∷ bs) (quoted_front o f)
+quoted_well : (b : ℕ) (bs : List ℕ) (o : Option ℕ) (f : Option LexFault) → AllByRecursion (λ c. c < 256) bs → closing_len bs ≡ o → inner_fault bs ≡ f → QuotesWell (b ∷ bs) (quoted_front o f)
 quoted_well b bs None f small e g = tt
 quoted_well b bs (Some n) (Some fault) small e g = tt
 quoted_well b bs (Some zero) None small e g = λ _. Nothing
 quoted_well b bs (Some (suc n)) None small e g = λ _.
-    let within : suc n ≤ length bs = subst (CountWithin (length bs)) e (closing-within bs) in
+    let within : suc n ≤ length bs = subst (CountWithin (length bs)) e (closing_len-within bs) in
     subst IsInside (sym (inside-front b bs n within)) (closed_inside bs small n e g)
 
 signs_well : (b : ℕ) (bs : List ℕ) → QuotesWell (b ∷ bs) (sign_front (sign_of b))
@@ -104,14 +104,14 @@ front_well b bs small =
     tested P (is_blank b) (Gap 1) _ (λ _. tt)
     (λ _. tested P (nat_eq b 35) (Gap (1 + prefix_len is_no_newline bs)) _ (λ _. tt)
     (λ _. tested P (is_word_byte b) (Piece Word (1 + prefix_len is_word_byte bs)) _ (λ _ w. absurd (cc))
-    (λ _. tested P (nat_eq b 34) (quoted_front (closing bs) (inner_fault bs)) _ (λ _. quoted_well b bs (closing bs) (inner_fault bs) small refl refl)
+    (λ _. tested P (nat_eq b 34) (quoted_front (closing_len bs) (inner_fault bs)) _ (λ _. quoted_well b bs (closing_len bs) (inner_fault bs) small refl refl)
     (λ _. tested P (nat_eq b 33) (not_equal_front bs) (sign_front (sign_of b)) (λ _. not_equal_well b bs) (λ _. signs_well b bs)))))
 
 well_by : (text : List ℕ) (at line b : ℕ) (bs : List ℕ) (f : Front) → drop at text ≡ b ∷ bs → ((skip at line : ℕ) → drop at text ≡ bs → AllByRecursion (HasInside text) (tokens_from skip at line bs).tokens) → QuotesWell (b ∷ bs) f → AllByRecursion (HasInside text) (by_front at line bs f).tokens
 unfolding by_front
 well_by text at line b bs (Gap k) e ih well = ih (k - 1) (at + 1) line (drop-next text at b bs e)
 well_by text at line b bs (Piece kind k) e ih well =
-    ((λ w. subst (λ (xs : List ℕ). IsInside (inside (take k xs))) (sym e) (well w)), ih (k - 1) (at + 1) (line_behind kind line) (drop-next text at b bs e))
+    ((λ w. subst (λ (xs : List ℕ). IsInside (inside (take k xs))) (sym e) (well w)), ih (k - 1) (at + 1) (line_after kind line) (drop-next text at b bs e))
 well_by text at line b bs (Broken fault) e ih well = tt
 
 quotes_well : (text bytes : List ℕ) → AllByRecursion (λ c. c < 256) bytes → (skip at line : ℕ) → drop at text ≡ bytes → AllByRecursion (HasInside text) (tokens_from skip at line bytes).tokens
@@ -121,5 +121,5 @@ quotes_well text (b ∷ bs) small zero at line e =
     subst (λ (x : Lexed). AllByRecursion (HasInside text) x.tokens) (sym (tokens_from-front at line b bs))
     (well_by text at line b bs (front_of (b ∷ bs)) e (quotes_well text bs small.1) (front_well b bs small.1))
 
-pub quotes_inside : (text : List ℕ) → AllByRecursion (λ b. b < 256) text → AllByRecursion (HasInside text) (lexed_of text).tokens
+pub quotes_inside : (text : List ℕ) → AllByRecursion (λ b. b < 256) text → AllByRecursion (HasInside text) (lexed_text text).tokens
 quotes_inside text small = quotes_well text text small 0 0 1 refl

@@ -1,3 +1,4 @@
+-- What stands at the front of a text lies within the text.
 use Rattle.std.proofs.Common.{◌≡◌, ℕ, ◌+◌, ◌<◌, ◌≤◌, Bool, true, false, List, [], ◌∷◌, length, Option, None, Some, refl, arith, nat_eq, cond}
 use Rattle.std.specs.List.{prefix_len}
 use Rattle.std.proofs.lemmas.List.Sums.{prefix_len-le-length}
@@ -7,7 +8,7 @@ use Rattle.st_lex.specs.declared.token.Front.{Front}
 use Rattle.st_lex.specs.declared.token.Front.TheVariants.{Gap, Piece, Broken}
 use Rattle.st_lex.specs.declared.token.TokenKind.{TokenKind}
 use Rattle.st_lex.specs.declared.token.TokenKind.TheVariants.{Word, NotEqual}
-use Rattle.st_lex.specs.Quoted.{closing, further, inner_fault, later, moved, place_of}
+use Rattle.st_lex.specs.Quoted.{closing_len, count_after, inner_fault, optional_fault_after, fault_after, place_of}
 use Rattle.st_lex.specs.Tokens.{LiesWithin, front_of, is_blank, is_word_byte, is_no_newline, sign_of, sign_front, quoted_front, not_equal_front}
 
 -- what holds of both values holds of the one that is chosen
@@ -19,18 +20,18 @@ abbrev pub CountWithin : ℕ → Option ℕ → Type 0
 CountWithin n None = Unit {0}
 CountWithin n (Some k) = k ≤ n
 
-further-within : (k n m : ℕ) (o : Option ℕ) → m ≡ k + n → CountWithin n o → CountWithin m (further k o)
+further-within : (k n m : ℕ) (o : Option ℕ) → m ≡ k + n → CountWithin n o → CountWithin m (count_after k o)
 further-within k n m None e h = tt
 further-within k n m (Some x) e h = omega arith
 
 -- the closing quote stands within the text
-pub closing-within : (bs : List ℕ) → CountWithin (length bs) (closing bs)
-closing-within [] = tt
-closing-within (b ∷ []) = chosen (CountWithin 1) (nat_eq b 34) (Some 1) None (omega arith) tt
-closing-within (b ∷ c ∷ cs) =
+pub closing_len-within : (bs : List ℕ) → CountWithin (length bs) (closing_len bs)
+closing_len-within [] = tt
+closing_len-within (b ∷ []) = chosen (CountWithin 1) (nat_eq b 34) (Some 1) None (omega arith) tt
+closing_len-within (b ∷ c ∷ cs) =
     let P : Option ℕ → Type 0 = CountWithin (length (b ∷ c ∷ cs)) in
-    let pair : P (further 2 (closing cs)) = further-within 2 (length cs) (length (b ∷ c ∷ cs)) (closing cs) (omega arith) (closing-within cs) in
-    let plain : P (further 1 (closing (c ∷ cs))) = further-within 1 (length (c ∷ cs)) (length (b ∷ c ∷ cs)) (closing (c ∷ cs)) (omega arith) (closing-within (c ∷ cs)) in
+    let pair : P (count_after 2 (closing_len cs)) = further-within 2 (length cs) (length (b ∷ c ∷ cs)) (closing_len cs) (omega arith) (closing_len-within cs) in
+    let plain : P (count_after 1 (closing_len (c ∷ cs))) = further-within 1 (length (c ∷ cs)) (length (b ∷ c ∷ cs)) (closing_len (c ∷ cs)) (omega arith) (closing_len-within (c ∷ cs)) in
     let one : P (Some 1) = omega arith in
     chosen P (nat_eq b 34) (Some 1) _ one (chosen P (nat_eq b 10) None _ tt (chosen P (nat_eq b 92) _ _ (chosen P (nat_eq c 10) None _ tt pair) plain))
 
@@ -38,12 +39,12 @@ abbrev pub FaultWithin : ℕ → Option LexFault → Type 0
 FaultWithin n None = Unit {0}
 FaultWithin n (Some fault) = place_of fault < n
 
-pub place_of-moved : (k : ℕ) (fault : LexFault) → place_of (moved k fault) ≡ k + place_of fault
+pub place_of-moved : (k : ℕ) (fault : LexFault) → place_of (fault_after k fault) ≡ k + place_of fault
 place_of-moved k (BadByte n) = refl
 place_of-moved k (OpenQuote n) = refl
 place_of-moved k (BadEscape n) = refl
 
-later-within : (k n m : ℕ) (o : Option LexFault) → m ≡ k + n → FaultWithin n o → FaultWithin m (later k o)
+later-within : (k n m : ℕ) (o : Option LexFault) → m ≡ k + n → FaultWithin n o → FaultWithin m (optional_fault_after k o)
 later-within k n m None e h = tt
 later-within k n m (Some x) e h = omega (arith, place_of-moved k x)
 
@@ -52,8 +53,8 @@ inner_fault-within [] = tt
 inner_fault-within (b ∷ []) = chosen (FaultWithin 1) (nat_eq b 0) (Some (BadByte 0)) None (omega arith) tt
 inner_fault-within (b ∷ c ∷ cs) =
     let P : Option LexFault → Type 0 = FaultWithin (length (b ∷ c ∷ cs)) in
-    let pair : P (later 2 (inner_fault cs)) = later-within 2 (length cs) (length (b ∷ c ∷ cs)) (inner_fault cs) (omega arith) (inner_fault-within cs) in
-    let plain : P (later 1 (inner_fault (c ∷ cs))) = later-within 1 (length (c ∷ cs)) (length (b ∷ c ∷ cs)) (inner_fault (c ∷ cs)) (omega arith) (inner_fault-within (c ∷ cs)) in
+    let pair : P (optional_fault_after 2 (inner_fault cs)) = later-within 2 (length cs) (length (b ∷ c ∷ cs)) (inner_fault cs) (omega arith) (inner_fault-within cs) in
+    let plain : P (optional_fault_after 1 (inner_fault (c ∷ cs))) = later-within 1 (length (c ∷ cs)) (length (b ∷ c ∷ cs)) (inner_fault (c ∷ cs)) (omega arith) (inner_fault-within (c ∷ cs)) in
     let first : P (Some (BadByte 0)) = omega arith in
     let second : P (Some (BadByte 1)) = omega arith in
     let escape : P (Some (BadEscape 0)) = omega arith in
@@ -82,4 +83,4 @@ front_of-within b bs =
     let blank : P (Gap 1) = (omega arith, omega arith) in
     let comment : P (Gap (1 + prefix_len is_no_newline bs)) = (omega arith, omega (arith, prefix_len-le-length is_no_newline bs)) in
     let word : P (Piece Word (1 + prefix_len is_word_byte bs)) = (omega arith, omega (arith, prefix_len-le-length is_word_byte bs)) in
-    chosen P (is_blank b) _ _ blank (chosen P (nat_eq b 35) _ _ comment (chosen P (is_word_byte b) _ _ word (chosen P (nat_eq b 34) _ _ (quoted_front-within (length bs) (closing bs) (inner_fault bs) (closing-within bs) (inner_fault-within bs)) (chosen P (nat_eq b 33) _ _ (not_equal_front-within bs) (sign_front-within (length bs) (sign_of b))))))
+    chosen P (is_blank b) _ _ blank (chosen P (nat_eq b 35) _ _ comment (chosen P (is_word_byte b) _ _ word (chosen P (nat_eq b 34) _ _ (quoted_front-within (length bs) (closing_len bs) (inner_fault bs) (closing_len-within bs) (inner_fault-within bs)) (chosen P (nat_eq b 33) _ _ (not_equal_front-within bs) (sign_front-within (length bs) (sign_of b))))))

@@ -1,17 +1,17 @@
 -- Bytes that can be printed as a Word.
 use Rattle.std.proofs.Common.{◌≡◌, ℕ, ◌+◌, ◌%◌, ◌^◌, ◌<◌, ◌≤◌, true, List, [], ◌∷◌, ◌++◌, length, refl, arith}
+use Rattle.std.proofs.lemmas.Bool.{and_parts}
 use Rattle.std.specs.Prelude.{decimal}
 use Rattle.std.specs.List.{list_all}
 use Rattle.std.proofs.lemmas.Bool.Decides.{nat_tests}
 use Rattle.std.proofs.lemmas.Fmt.{decimal_by_steps}
 use Rattle.st_lex.specs.Tokens.{is_word_byte}
 use Rattle.st_lex.specs.Pieces.{is_word_text}
-use Rattle.st_lex.proofs.Fronts.{both}
 
 all_word-append : (xs ys : List ℕ) → list_all is_word_byte xs ≡ true → list_all is_word_byte ys ≡ true → list_all is_word_byte (xs ++ ys) ≡ true
 all_word-append [] ys p q = q
 all_word-append (x ∷ xs) ys p q =
-    let h : (is_word_byte x ≡ true) × (list_all is_word_byte xs ≡ true) = both (is_word_byte x) (list_all is_word_byte xs) p in
+    let h : (is_word_byte x ≡ true) × (list_all is_word_byte xs ≡ true) = and_parts (is_word_byte x) (list_all is_word_byte xs) p in
     let e : is_word_byte x ≡ true = h.0 in
     rw e (all_word-append xs ys h.1 q)
 

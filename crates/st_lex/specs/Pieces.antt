@@ -7,8 +7,9 @@ use Rattle.st_lex.specs.declared.token.TokenKind.TheVariants.{Word, Quoted, Colo
 use Rattle.st_lex.specs.Quote.{quoted, AreBytes}
 use Rattle.st_lex.specs.Quoted.{newline}
 use Rattle.st_lex.specs.Text.{text_of_token}
-use Rattle.st_lex.specs.Tokens.{is_word_byte, lexed_of}
+use Rattle.st_lex.specs.Tokens.{is_word_byte, lexed_text}
 
+-- a part of a text as it is printed
 pub data Piece : Type 0 where
   PlainWord : List ℕ → Piece
   -- printed in quotes
@@ -17,11 +18,13 @@ pub data Piece : Type 0 where
   Sign : TokenKind → Piece
   Space : Piece
 
+-- whether a token of this kind is a sign
 abbrev pub is_sign : TokenKind → Bool
 is_sign Word = false
 is_sign Quoted = false
 is_sign _ = true
 
+-- the bytes of a sign; none for a kind that isn't one
 abbrev pub sign_bytes : TokenKind → List ℕ
 sign_bytes Word = []
 sign_bytes Quoted = []
@@ -37,12 +40,14 @@ sign_bytes Less = codes "<"
 sign_bytes Greater = codes ">"
 sign_bytes Line = newline ∷ []
 
+-- the bytes that a piece is printed as
 abbrev pub piece_bytes : Piece → List ℕ
 piece_bytes (PlainWord bytes) = bytes
 piece_bytes (QuotedText bytes) = quoted bytes
 piece_bytes (Sign kind) = sign_bytes kind
 piece_bytes Space = codes " "
 
+-- the text that pieces are printed as
 abbrev pub print : List Piece → List ℕ
 print pieces = flat_map piece_bytes pieces
 
@@ -70,9 +75,11 @@ pub record SpelledToken : Type 0 where
   pub kind : TokenKind
   pub text : List ℕ
 
+-- what a token of a text is, with its bytes
 abbrev pub spelled_token : List ℕ → Token → SpelledToken
 spelled_token text token = record { kind = token.kind; text = text_of_token text token }
 
+-- what the tokens of a text are, each with its bytes, in order
 abbrev pub spelled_tokens : List ℕ → List Token → List SpelledToken
 spelled_tokens text tokens = map (spelled_token text) tokens
 
@@ -86,5 +93,5 @@ piece_tokens (Space ∷ pieces) = piece_tokens pieces
 
 -- the text has no fault, and its tokens are of these kinds and bytes, in order
 pub record IsReadAs (text : List ℕ) (tokens : List SpelledToken) : Type 0 where
-  pub faultless : (lexed_of text).fault ≡ None
-  pub in_order : spelled_tokens text (lexed_of text).tokens ≡ tokens
+  pub faultless : (lexed_text text).fault ≡ None
+  pub in_order : spelled_tokens text (lexed_text text).tokens ≡ tokens

@@ -4,11 +4,13 @@ use Rattle.std.specs.List.{list_any}
 use Rattle.st_lex.specs.declared.token.LexFault.{LexFault}
 use Rattle.st_lex.specs.declared.token.Token.{Token}
 use Rattle.st_lex.specs.declared.token.Lexed.{Lexed}
-use Rattle.st_lex.specs.Tokens.{lexed_of}
+use Rattle.st_lex.specs.Tokens.{lexed_text}
 
+-- the byte `#`
 abbrev pub hash : ℕ
 hash = 35
 
+-- these tokens, where there is no lexical fault
 abbrev pub unless_faulty : List Token → Option LexFault → Option (List Token)
 unless_faulty tokens None = Some tokens
 unless_faulty tokens (Some fault) = None
@@ -17,4 +19,4 @@ unless_faulty tokens (Some fault) = None
 abbrev pub plain_tokens : List ℕ → Option (List Token)
 plain_tokens text =
     if list_any (λ b. b == hash) text then None
-    else unless_faulty (lexed_of text).tokens (lexed_of text).fault
+    else unless_faulty (lexed_text text).tokens (lexed_text text).fault

@@ -20,9 +20,11 @@ quoted_byte b =
     else (if (b == 36) || (nat_lt b 0x20 || nat_lt 0x7e b) then escaped_byte b
     else b ∷ [])
 
+-- bytes as they stand between the quotes
 abbrev pub quoted_bytes : List ℕ → List ℕ
 quoted_bytes bytes = flat_map quoted_byte bytes
 
+-- bytes in their canonical quoted form
 abbrev pub quoted : List ℕ → List ℕ
 quoted bytes = (quote_mark ∷ quoted_bytes bytes) ++ quote_mark ∷ []
 

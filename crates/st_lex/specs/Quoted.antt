@@ -4,44 +4,49 @@ use Rattle.std.specs.Char.{is_ascii_hexdigit}
 use Rattle.st_lex.specs.declared.token.LexFault.{LexFault}
 use Rattle.st_lex.specs.declared.token.LexFault.TheVariants.{BadByte, OpenQuote, BadEscape}
 
+-- the byte of a newline
 abbrev pub newline : ℕ
 newline = 10
 
+-- the byte `"`
 abbrev pub quote_mark : ℕ
 quote_mark = 34
 
+-- the byte `\`
 abbrev pub backslash : ℕ
 backslash = 92
 
 -- a count that begins some bytes earlier
-abbrev pub further : ℕ → Option ℕ → Option ℕ
-further k None = None
-further k (Some n) = Some (k + n)
+abbrev pub count_after : ℕ → Option ℕ → Option ℕ
+count_after k None = None
+count_after k (Some n) = Some (k + n)
 
 -- how many bytes stand behind the opening quote, up to and with the closing one; none where a newline or the end comes first
-abbrev pub closing : List ℕ → Option ℕ
-closing [] = None
-closing (b ∷ []) = if b == quote_mark then Some 1 else None
-closing (b ∷ c ∷ cs) =
+abbrev pub closing_len : List ℕ → Option ℕ
+closing_len [] = None
+closing_len (b ∷ []) = if b == quote_mark then Some 1 else None
+closing_len (b ∷ c ∷ cs) =
     if b == quote_mark then Some 1
     else (if b == newline then None
-    else (if b == backslash then (if c == newline then None else further 2 (closing cs))
-    else further 1 (closing (c ∷ cs))))
+    else (if b == backslash then (if c == newline then None else count_after 2 (closing_len cs))
+    else count_after 1 (closing_len (c ∷ cs))))
 
 -- a fault that is some bytes further on
-abbrev pub moved : ℕ → LexFault → LexFault
-moved k (BadByte at) = BadByte (k + at)
-moved k (OpenQuote at) = OpenQuote (k + at)
-moved k (BadEscape at) = BadEscape (k + at)
+abbrev pub fault_after : ℕ → LexFault → LexFault
+fault_after k (BadByte at) = BadByte (k + at)
+fault_after k (OpenQuote at) = OpenQuote (k + at)
+fault_after k (BadEscape at) = BadEscape (k + at)
 
+-- the byte at which a fault stands
 abbrev pub place_of : LexFault → ℕ
 place_of (BadByte at) = at
 place_of (OpenQuote at) = at
 place_of (BadEscape at) = at
 
-abbrev pub later : ℕ → Option LexFault → Option LexFault
-later k None = None
-later k (Some fault) = Some (moved k fault)
+-- a fault, if there is one, that is some bytes further on
+abbrev pub optional_fault_after : ℕ → Option LexFault → Option LexFault
+optional_fault_after k None = None
+optional_fault_after k (Some fault) = Some (fault_after k fault)
 
 -- behind `\x` stand two hexadecimal digits, of a byte that isn't zero
 abbrev pub is_byte_escape : List ℕ → Bool
@@ -58,5 +63,5 @@ inner_fault (b ∷ c ∷ cs) =
     else (if b == 0 then Some (BadByte 0)
     else (if b == backslash then (if c == 0 then Some (BadByte 1)
     else (if (c == 120) && not (is_byte_escape cs) then Some (BadEscape 0)
-    else later 2 (inner_fault cs)))
-    else later 1 (inner_fault (c ∷ cs))))
+    else optional_fault_after 2 (inner_fault cs)))
+    else optional_fault_after 1 (inner_fault (c ∷ cs))))

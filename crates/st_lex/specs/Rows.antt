@@ -5,13 +5,16 @@ use Rattle.st_lex.specs.declared.token.Token.{Token}
 use Rattle.st_lex.specs.declared.token.TokenKind.{TokenKind}
 use Rattle.st_lex.specs.declared.token.TokenKind.TheVariants.{Line}
 
+-- whether a token of this kind is a line's end
 abbrev pub is_line : TokenKind → Bool
 is_line Line = true
 is_line _ = false
 
+-- whether a token is a line's end
 abbrev pub ends_line : Token → Bool
 ends_line token = is_line token.kind
 
+-- whether a token is no line's end
 abbrev pub is_in_line : Token → Bool
 is_in_line token = not (ends_line token)
 
@@ -19,10 +22,12 @@ is_in_line token = not (ends_line token)
 abbrev pub lines : List Token → List (List Token)
 lines tokens = slice_split ends_line tokens
 
+-- whether a line has a token
 abbrev pub has_token : List Token → Bool
 has_token [] = false
 has_token (token ∷ tokens) = true
 
+-- the lines that have a token
 abbrev pub rows : List Token → List (List Token)
 rows tokens = filter has_token (lines tokens)
 

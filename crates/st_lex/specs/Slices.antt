@@ -6,6 +6,7 @@ use Rattle.st_lex.specs.declared.token.TokenKind.TheVariants.{Word, Quoted}
 use Rattle.st_lex.specs.Quoted.{newline, quote_mark}
 use Rattle.st_lex.specs.Tokens.{is_word_byte}
 
+-- how many newlines there are among bytes
 abbrev pub newlines : List ℕ → ℕ
 newlines bytes = count_by (λ b. b == newline) bytes
 

@@ -10,18 +10,22 @@ use Rattle.st_lex.specs.Quoted.{backslash}
 abbrev pub text_of_token : List ℕ → Token → List ℕ
 text_of_token text token = take token.len (drop token.at text)
 
+-- whether a token of this kind is a Word
 abbrev pub is_word : TokenKind → Bool
 is_word Word = true
 is_word _ = false
 
+-- whether a token of this kind is a quoted text
 abbrev pub is_quoted : TokenKind → Bool
 is_quoted Quoted = true
 is_quoted _ = false
 
+-- whether a token of this kind is a colon
 abbrev pub is_colon : TokenKind → Bool
 is_colon Colon = true
 is_colon _ = false
 
+-- whether a token of this kind is a comma
 abbrev pub is_comma : TokenKind → Bool
 is_comma Comma = true
 is_comma _ = false
@@ -34,6 +38,7 @@ is_keyword text word token = is_word token.kind && bytes_eq (text_of_token text 
 abbrev pub inside : List ℕ → List ℕ
 inside bytes = take (length bytes - 2) (drop 1 bytes)
 
+-- whether a quoted text has both its quotes and no backslash
 abbrev pub is_plain : List ℕ → Bool
 is_plain bytes = not (list_any (λ b. b == backslash) bytes) && nat_le 2 (length bytes)
 

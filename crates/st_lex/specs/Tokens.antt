@@ -10,15 +10,17 @@ use Rattle.st_lex.specs.declared.token.LexFault.TheVariants.{BadByte, OpenQuote}
 use Rattle.st_lex.specs.declared.token.Lexed.{Lexed}
 use Rattle.st_lex.specs.declared.token.Front.{Front}
 use Rattle.st_lex.specs.declared.token.Front.TheVariants.{Gap, Piece, Broken}
-use Rattle.st_lex.specs.Quoted.{newline, quote_mark, closing, inner_fault, moved, place_of}
+use Rattle.st_lex.specs.Quoted.{newline, quote_mark, closing_len, inner_fault, fault_after, place_of}
 
 -- space, tab and carriage return
 abbrev pub is_blank : ℕ → Bool
 is_blank b = (b == 32) || ((b == 9) || (b == 13))
 
+-- whether a byte can stand in a Word: a letter, a digit, or one of `_-./+~%`
 abbrev pub is_word_byte : ℕ → Bool
 is_word_byte b = is_ascii_alphanumeric b || list_any (λ c. b == c) (codes "_-./+~%")
 
+-- whether a byte is no newline
 abbrev pub is_no_newline : ℕ → Bool
 is_no_newline b = not (b == newline)
 
@@ -37,6 +39,7 @@ sign_of b =
     else (if b == 62 then Some Greater
     else None)))))))))
 
+-- a sign of one byte, or a byte that begins no token
 abbrev pub sign_front : Option TokenKind → Front
 sign_front None = Broken (BadByte 0)
 sign_front (Some kind) = Piece kind 1
@@ -50,7 +53,7 @@ not_equal_front (b ∷ bs) = if b == 61 then Piece NotEqual 2 else Broken (BadBy
 abbrev pub quoted_front : Option ℕ → Option LexFault → Front
 quoted_front None inside = Broken (OpenQuote 0)
 quoted_front (Some n) None = Piece Quoted (1 + n)
-quoted_front (Some n) (Some fault) = Broken (moved 1 fault)
+quoted_front (Some n) (Some fault) = Broken (fault_after 1 fault)
 
 -- what stands at the front of a text that isn't empty: a gap, a token or a fault
 abbrev pub front_of : List ℕ → Front
@@ -59,7 +62,7 @@ front_of (b ∷ bs) =
     if is_blank b then Gap 1
     else (if b == 35 then Gap (1 + prefix_len is_no_newline bs)
     else (if is_word_byte b then Piece Word (1 + prefix_len is_word_byte bs)
-    else (if b == quote_mark then quoted_front (closing bs) (inner_fault bs)
+    else (if b == quote_mark then quoted_front (closing_len bs) (inner_fault bs)
     else (if b == 33 then not_equal_front bs
     else sign_front (sign_of b)))))
 
@@ -70,10 +73,11 @@ LiesWithin n (Piece kind k) = (0 < k) × (k ≤ n)
 LiesWithin n (Broken fault) = place_of fault < n
 
 -- the line of what stands behind a token of this line
-abbrev pub line_behind : TokenKind → ℕ → ℕ
-line_behind Line line = line + 1
-line_behind _ line = line
+abbrev pub line_after : TokenKind → ℕ → ℕ
+line_after Line line = line + 1
+line_after _ line = line
 
+-- the tokens with one more in front
 abbrev pub with_token : Token → Lexed → Lexed
 with_token token lexed = record { tokens = token ∷ lexed.tokens; fault = lexed.fault }
 
@@ -84,9 +88,10 @@ tokens_from (suc skip) at line (b ∷ bs) = tokens_from skip (at + 1) line bs
 tokens_from zero at line (b ∷ bs) =
     elim (front_of (b ∷ bs)) [
       | Gap k ↦ tokens_from (k - 1) (at + 1) line bs
-      | Piece kind k ↦ with_token (record { kind = kind; at = at; len = k; line = line }) (tokens_from (k - 1) (at + 1) (line_behind kind line) bs)
-      | Broken fault ↦ record { tokens = []; fault = Some (moved at fault) }
+      | Piece kind k ↦ with_token (record { kind = kind; at = at; len = k; line = line }) (tokens_from (k - 1) (at + 1) (line_after kind line) bs)
+      | Broken fault ↦ record { tokens = []; fault = Some (fault_after at fault) }
     ]
 
-abbrev pub lexed_of : List ℕ → Lexed
-lexed_of text = tokens_from 0 0 1 text
+-- the tokens of a text up to its first fault, and that fault
+abbrev pub lexed_text : List ℕ → Lexed
+lexed_text text = tokens_from 0 0 1 text

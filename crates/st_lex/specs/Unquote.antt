@@ -11,6 +11,7 @@ pub record Named : Type 0 where
   pub name : List ℕ
   pub text : List ℕ
 
+-- `$HOME`, `$USER` and `$CWD`, each with the text that stands for it
 abbrev pub dollar_names : Dollars → List Named
 dollar_names dollars =
     record { name = codes "$HOME"; text = dollars.home }
@@ -46,6 +47,7 @@ escape (b ∷ bs) =
     else (if b == 120 then byte_escape bs
     else escape_or_backslash None)
 
+-- where no name stands: an escape, or a byte that stands for itself
 abbrev pub plain_front : List ℕ → Spelling
 plain_front [] = record { text = []; len = 0 }
 plain_front (b ∷ bs) = if b == backslash then escape bs else record { text = b ∷ []; len = 1 }

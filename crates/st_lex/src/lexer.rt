@@ -2,8 +2,8 @@ ghost use Rattle.std.specs.Prelude.{◌≡◌, ◌+◌, ◌<◌, ◌≤◌, ◌�
 ghost use Rattle.std.specs.List.{prefix_len, list_all};
 ghost use Rattle.st_lex.specs.Pieces.{Piece, StandWell, IsReadAs, print, piece_tokens, is_word_text};
 ghost use Rattle.st_lex.specs.Slices.{AreSlices};
-ghost use Rattle.st_lex.specs.Tokens.{is_blank, is_word_byte, is_no_newline, sign_of, quoted_front, front_of, lexed_of, line_behind, LiesWithin};
-ghost use Rattle.st_lex.specs.Quoted.{closing, inner_fault, is_byte_escape, moved, place_of};
+ghost use Rattle.st_lex.specs.Tokens.{is_blank, is_word_byte, is_no_newline, sign_of, quoted_front, front_of, lexed_text, line_after, LiesWithin};
+ghost use Rattle.st_lex.specs.Quoted.{closing_len, inner_fault, is_byte_escape, fault_after, place_of};
 
 use crate::token::{Front, LexFault, Lexed, Token, TokenKind};
 use st_base::Sequence;
@@ -70,8 +70,8 @@ fn sign_of(byte: u8) -> Option<TokenKind>
 }
 
 // How many bytes stand behind an opening quote, up to and with the closing one.
-fn closing(bytes: &[u8]) -> Option<usize>
-    ensures is { result ≡ closing bytes.now }
+fn closing_len(bytes: &[u8]) -> Option<usize>
+    ensures is { result ≡ closing_len bytes.now }
     ensures within { IfSome result (λ count. count ≤ length bytes.now) }
 {
     let mut escaped = false;
@@ -129,9 +129,9 @@ fn inner_fault(bytes: &[u8]) -> Option<LexFault>
 }
 
 // The fault, further on by this many bytes.
-fn moved(by: u32, fault: LexFault) -> LexFault
+fn fault_after(by: u32, fault: LexFault) -> LexFault
     requires { by + place_of fault < 2 ^ 32 }
-    ensures { result ≡ moved by fault }
+    ensures { result ≡ fault_after by fault }
 {
     match fault {
         LexFault::BadByte(at) => LexFault::BadByte(by + at),
@@ -143,13 +143,13 @@ fn moved(by: u32, fault: LexFault) -> LexFault
 // What an opening quote and the bytes behind it are.
 fn quoted_front(after: &[u8]) -> Front
     requires { length after.now + 1 < 2 ^ 32 }
-    ensures { result ≡ quoted_front (closing after.now) (inner_fault after.now) }
+    ensures { result ≡ quoted_front (closing_len after.now) (inner_fault after.now) }
 {
-    match closing(after) {
+    match closing_len(after) {
         None => Front::Broken(LexFault::OpenQuote(0)),
         Some(count) => match inner_fault(after) {
             None => Front::Piece(TokenKind::Quoted, 1 + count),
-            Some(fault) => Front::Broken(moved(1, fault)),
+            Some(fault) => Front::Broken(fault_after(1, fault)),
         },
     }
 }
@@ -180,9 +180,9 @@ fn front(first: u8, after: &[u8]) -> Front
     }
 }
 
-fn line_behind(kind: TokenKind, line: u64) -> u64
+fn line_after(kind: TokenKind, line: u64) -> u64
     requires { line + 1 < 2 ^ 64 }
-    ensures { result ≡ line_behind kind line }
+    ensures { result ≡ line_after kind line }
 {
     if kind == TokenKind::Line {
         line + 1
@@ -194,7 +194,7 @@ fn line_behind(kind: TokenKind, line: u64) -> u64
 /// The tokens of a text, by their places and lines, up to its first fault.
 pub fn tokens(alloc: Global, text: &[u8]) -> Result<Lexed, AllocError>
     requires { length text.now < 2 ^ 32 }
-    ensures { IfOk result (λ lexed. lexed ≡ lexed_of text.now) }
+    ensures { IfOk result (λ lexed. lexed ≡ lexed_text text.now) }
 {
     let mut tokens = Sequence::new(alloc);
     let mut at: usize = 0;
@@ -209,11 +209,11 @@ pub fn tokens(alloc: Global, text: &[u8]) -> Result<Lexed, AllocError>
                     len: len as u32,
                     line: line as u32,
                 })?;
-                line = line_behind(kind, line);
+                line = line_after(kind, line);
                 at += len;
             }
             Front::Broken(fault) => {
-                let fault = Some(moved(at as u32, fault));
+                let fault = Some(fault_after(at as u32, fault));
                 return Ok(Lexed { tokens, fault });
             }
         }
@@ -226,7 +226,7 @@ pub fn tokens(alloc: Global, text: &[u8]) -> Result<Lexed, AllocError>
 
 /// The tokens of a text are parts of it: in order, words whole, quoted texts between their quotes, on their lines.
 pub fn tokens_are_slices()
-    ensures { (text : List ℕ) → AreSlices text (lexed_of text).tokens }
+    ensures { (text : List ℕ) → AreSlices text (lexed_text text).tokens }
 {}
 
 /// Pieces that stand well, printed one behind the other, are read without a fault as the tokens that the pieces are.

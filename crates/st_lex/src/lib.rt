@@ -10,7 +10,7 @@ pub mod unquoted;
 
 pub use lexer::{is_word_text, pieces_are_tokens, tokens, tokens_are_slices};
 pub use plain::plain_tokens;
-pub use quoted::{quote, quoted_is_one_token};
+pub use quoted::{hex_digit, quote, quoted_is_one_token};
 pub use rows::next_row;
 pub use token::{LexFault, Lexed, Token, TokenKind};
 pub use unquoted::{Dollars, quoted_is_unquoted, unquote, unquote_plain};

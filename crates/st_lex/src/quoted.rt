@@ -1,12 +1,12 @@
 ghost use Rattle.std.specs.Prelude.{◌≡◌, ℕ, List, ◌++◌, ◌<◌, length, take, OnOk, OnErr};
 ghost use Rattle.st_lex.specs.Quote.{hex_digit, quoted, quoted_byte, AreBytes, one_token};
-ghost use Rattle.st_lex.specs.Tokens.{lexed_of};
+ghost use Rattle.st_lex.specs.Tokens.{lexed_text};
 
 use st_base::Text;
 use std::alloc::AllocError;
 
-// The lower-case hexadecimal digit of a number below 16.
-fn hex_digit(value: u8) -> u8
+/// The lower-case hexadecimal digit of a number below 16.
+pub fn hex_digit(value: u8) -> u8
     requires { value < 16 }
     ensures { result ≡ hex_digit value }
 {
@@ -61,5 +61,5 @@ pub fn quote(bytes: &[u8], out: &mut Text) -> Result<(), AllocError>
 
 /// What `quote` prints of bytes that aren't zero is one quoted token without a fault.
 pub fn quoted_is_one_token()
-    ensures { (bytes : List ℕ) → AreBytes bytes → lexed_of (quoted bytes) ≡ one_token (quoted bytes) }
+    ensures { (bytes : List ℕ) → AreBytes bytes → lexed_text (quoted bytes) ≡ one_token (quoted bytes) }
 {}

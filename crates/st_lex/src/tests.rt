@@ -10,71 +10,52 @@ fn read(alloc: Global, text: &[u8]) -> Result<(usize, Option<LexFault>), AllocEr
     requires { length text.now < 2 ^ 32 }
 {
     let lexed = tokens(alloc, text)?;
-    Ok((lexed.tokens.as_slice().len(), lexed.fault))
+    Ok((lexed.tokens.len(), lexed.fault))
 }
 
+// A text, how many tokens it has, and what is wrong behind them.
 #[test]
-fn reads_whole_texts(rt: HostRuntime) -> Result<(), Fail> {
-    assert_eq!(rt; read(rt.alloc(), b"Policy:/b,Emulation:native")?, (7, None));
-    assert_eq!(rt; read(rt.alloc(), b"a # \"b \0\xff!\na")?, (3, None));
-    assert_eq!(rt; read(rt.alloc(), b"eq\"/a\"then")?, (3, None));
-    assert_eq!(rt; read(rt.alloc(), b"\"a\\\"b\"")?, (1, None));
+fn counts_tokens(rt: HostRuntime) -> Result<(), Fail> {
+    let cases: [(&[u8], usize, Option<LexFault>); 12] = [
+        (b"Policy:/b,Emulation:native", 7, None),
+        (b"a # \"b \0\xff!\na", 3, None),
+        (b"eq\"/a\"then", 3, None),
+        (b"\"a\\\"b\"", 1, None),
+        (b"!=!", 1, Some(LexFault::BadByte(2))),
+        (b"a \0", 1, Some(LexFault::BadByte(2))),
+        (b"a \"\\x4\"", 1, Some(LexFault::BadEscape(3))),
+        (b"\"a\\x00\"", 0, Some(LexFault::BadEscape(2))),
+        (b"\"a\0\\x4\"", 0, Some(LexFault::BadByte(2))),
+        (b"\"\\\0\"", 0, Some(LexFault::BadByte(2))),
+        (b"a,\"b\0\n\"", 2, Some(LexFault::OpenQuote(2))),
+        (b"\"a\\\n\"", 0, Some(LexFault::OpenQuote(0))),
+    ];
+    for (text, count, fault) in cases {
+        assert!(rt; text.len() < 1000);
+        assert_eq!(rt; read(rt.alloc(), text)?, (count, fault));
+    }
     Ok(())
 }
 
-#[test]
-fn finds_faults(rt: HostRuntime) -> Result<(), Fail> {
-    assert_eq!(rt; read(rt.alloc(), b"!=!")?, (1, Some(LexFault::BadByte(2))));
-    assert_eq!(rt; read(rt.alloc(), b"a \0")?, (1, Some(LexFault::BadByte(2))));
-    assert_eq!(rt;
-        read(rt.alloc(), b"a \"\\x4\"")?,
-        (1, Some(LexFault::BadEscape(3)))
-    );
-    assert_eq!(rt;
-        read(rt.alloc(), b"\"a\\x00\"")?,
-        (0, Some(LexFault::BadEscape(2)))
-    );
-    assert_eq!(rt;
-        read(rt.alloc(), b"\"a\0\\x4\"")?,
-        (0, Some(LexFault::BadByte(2)))
-    );
-    assert_eq!(rt;
-        read(rt.alloc(), b"\"\\\0\"")?,
-        (0, Some(LexFault::BadByte(2)))
-    );
-    assert_eq!(rt;
-        read(rt.alloc(), b"a,\"b\0\n\"")?,
-        (2, Some(LexFault::OpenQuote(2)))
-    );
-    assert_eq!(rt;
-        read(rt.alloc(), b"\"a\\\n\"")?,
-        (0, Some(LexFault::OpenQuote(0)))
-    );
-    Ok(())
+fn token(kind: TokenKind, at: u32, len: u32, line: u32) -> Token {
+    Token {
+        kind,
+        at,
+        len,
+        line,
+    }
 }
 
 #[test]
 fn tells_places_and_lines(rt: HostRuntime) -> Result<(), Fail> {
     let lexed = tokens(rt.alloc(), b"ab # c\n [\"d\"")?;
     let expected = [
-        (TokenKind::Word, 0, 2, 1),
-        (TokenKind::Line, 6, 1, 1),
-        (TokenKind::OpenBracket, 8, 1, 2),
-        (TokenKind::Quoted, 9, 3, 2),
+        token(TokenKind::Word, 0, 2, 1),
+        token(TokenKind::Line, 6, 1, 1),
+        token(TokenKind::OpenBracket, 8, 1, 2),
+        token(TokenKind::Quoted, 9, 3, 2),
     ];
-    let found = lexed.tokens.as_slice();
-    assert_eq!(rt; found.len(), 4);
-    for (token, (kind, at, len, line)) in found.iter().zip(expected) {
-        assert_eq!(rt;
-            *token,
-            Token {
-                kind,
-                at,
-                len,
-                line
-            }
-        );
-    }
+    assert_eq!(rt; lexed.tokens.as_slice(), expected.as_slice());
     Ok(())
 }
 

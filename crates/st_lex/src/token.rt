@@ -2,6 +2,7 @@ ghost use Rattle.std.specs.Prelude.{◌≡◌, option_copied};
 ghost use Rattle.st_lex.specs.Text.{text_of_token, is_word, is_quoted, is_colon, is_comma, is_keyword, plain_quoted};
 
 use st_base::Sequence;
+use thiserror::Error;
 
 /// What a token is.
 #[derive(Clone, Copy, Debug, PartialEq, Eq)]
@@ -92,10 +93,16 @@ impl Token {
 }
 
 /// Why a text has no further tokens, with the place of the fault.
-#[derive(Clone, Copy, Debug, PartialEq, Eq)]
+#[derive(Clone, Copy, Debug, PartialEq, Eq, Drop, Error)]
 pub enum LexFault {
+    /// No token begins with this byte.
+    #[error("no token begins with this byte")]
     BadByte(u32),
+    /// A quoted text isn't closed.
+    #[error("the quote isn't closed")]
     OpenQuote(u32),
+    /// What follows a backslash in quotes is no escape.
+    #[error("not an escape")]
     BadEscape(u32),
 }
 

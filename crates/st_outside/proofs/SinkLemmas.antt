@@ -1,3 +1,4 @@
+-- Texts that are written front by front.
 use Rattle.std.proofs.Common.{◌≡◌, ℕ, ◌+◌, ◌≤◌, List, ◌++◌, length, take, drop, refl, sym, ◌∙◌, ap, append_assoc, arith, length-drop, Option, Some, None}
 use Rattle.std.proofs.Math.Seq.{take-add, take-length}
 use Rattle.std.specs.List.{slice_range}

@@ -2,13 +2,13 @@ use Rattle.std.specs.Prelude.{◌≡◌, ℕ, ◌+◌, ◌-◌, ◌^◌, ◌<◌
 use Rattle.std.specs.List.{list_any}
 
 -- a count of 64 bits rose; one that stands at its greatest counts as risen
-abbrev pub Rises : ℕ → ℕ → Type 0
-Rises old new = (old < new) ⊎ (new ≡ 2 ^ 64 - 1)
+abbrev pub HasRisen : ℕ → ℕ → Type 0
+HasRisen old new = (old < new) ⊎ (new ≡ 2 ^ 64 - 1)
 
 -- one more, in a count of 64 bits that stays at its greatest
 abbrev pub next_count : ℕ → ℕ
 next_count count = min (count + 1) (2 ^ 64 - 1)
 
 -- the call of this number is one of these calls
-abbrev pub is_named : List ℕ → ℕ → Bool
-is_named calls number = list_any (λ call. call == number) calls
+abbrev pub is_one_of : List ℕ → ℕ → Bool
+is_one_of calls number = list_any (λ call. call == number) calls

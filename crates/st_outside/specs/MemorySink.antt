@@ -1,5 +1,5 @@
 use Rattle.std.specs.Prelude.{ℕ, ◌-◌, min, Bool, ◌||◌, List, length, ◌==◌, if◌then◌else◌}
-use Rattle.st_outside.specs.Count.{is_named, next_count}
+use Rattle.st_outside.specs.Count.{is_one_of, next_count}
 
 -- a sink in memory: the bytes written so far, how many there is room for in all, how many calls
 -- there were, the numbers of the calls that fail and of those that are short, and the count of faults
@@ -13,8 +13,8 @@ pub record SinkInMemory : Type 0 where
 
 -- the next call fails: it is one of those named, or no room is left
 abbrev pub will_fail : SinkInMemory → Bool
-will_fail sink = is_named sink.failing (next_count sink.calls) || (length sink.bytes == sink.room)
+will_fail sink = is_one_of sink.failing (next_count sink.calls) || (length sink.bytes == sink.room)
 
 -- how many bytes the next call takes of so many: one where it is a short call, else what there is room for
-abbrev pub taken_of : SinkInMemory → ℕ → ℕ
-taken_of sink len = if is_named sink.short (next_count sink.calls) then 1 else min len (sink.room - length sink.bytes)
+abbrev pub accepted_len : SinkInMemory → ℕ → ℕ
+accepted_len sink len = if is_one_of sink.short (next_count sink.calls) then 1 else min len (sink.room - length sink.bytes)

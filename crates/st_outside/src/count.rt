@@ -1,5 +1,5 @@
 ghost use Rattle.std.specs.Prelude.{◌≡◌};
-ghost use Rattle.st_outside.specs.Count.{next_count, is_named};
+ghost use Rattle.st_outside.specs.Count.{next_count, is_one_of};
 
 // One more, in a count that stays at its greatest.
 pub(crate) fn one_more(count: u64) -> u64
@@ -10,7 +10,7 @@ pub(crate) fn one_more(count: u64) -> u64
 
 // Whether these calls have the one of this number. None has a number past 2^32 - 1.
 pub(crate) fn contains_call(calls: &[u32], number: u64) -> bool
-    ensures { result ≡ is_named calls.now number }
+    ensures { result ≡ is_one_of calls.now number }
 {
     calls.iter().any(|&call| u64::from(call) == number)
 }

@@ -1,29 +1,34 @@
 ghost use Rattle.std.specs.Prelude.{◌≡◌, ◌≢◌, ℕ, ◌≤◌, List, length, IfOk};
-ghost use Rattle.st_outside.specs.Count.{Rises};
-ghost use Rattle.st_outside.specs.Files.{Held, CanHold, CanLack, CanExceed, CanFit};
+ghost use Rattle.st_outside.specs.Count.{HasRisen};
+ghost use Rattle.st_outside.specs.Files.{FileView, CanHold, CanLack, CanExceed, CanFit};
 
 use st_base::Text;
 use std::alloc::Global;
+use thiserror::Error;
 
 /// The greatest length of a file that a fetch gives, in bytes.
 pub const FILE_LIMIT: u64 = 1_048_576;
 
 /// Why a fetch gave no text.
-#[derive(Clone, Copy, Debug, PartialEq, Eq)]
+#[derive(Clone, Copy, Debug, PartialEq, Eq, Drop, Error)]
 pub enum FetchFault {
     /// The outside failed, and counted a fault.
+    #[error("reading failed")]
     Failed,
     /// There is no file of that name.
+    #[error("no such file")]
     Missing,
     /// The file has more than `FILE_LIMIT` bytes.
+    #[error("the file is too long")]
     TooLong,
     /// No memory was left for the text.
+    #[error("out of memory")]
     NoMemory,
 }
 
 /// Files by name. Each name holds something, where that is told, and a count of faults never falls.
 pub trait Files {
-    ghost held: { Self → List ℕ → Held };
+    ghost held: { Self → List ℕ → FileView };
 
     ghost faults: { Self → ℕ };
 
@@ -35,6 +40,6 @@ pub trait Files {
         ensures missing { result ≡ Err FetchFault.Missing → CanLack (held self.old name.now) }
         ensures too_long { result ≡ Err FetchFault.TooLong → CanExceed (held self.old name.now) }
         ensures no_memory { result ≡ Err FetchFault.NoMemory → CanFit (held self.old name.now) }
-        ensures failed { result ≡ Err FetchFault.Failed → Rises (faults self.old) (faults self.new) }
+        ensures failed { result ≡ Err FetchFault.Failed → HasRisen (faults self.old) (faults self.new) }
         ensures quiet { result ≢ Err FetchFault.Failed → faults self.new ≡ faults self.old };
 }

@@ -1,7 +1,7 @@
 ghost use Rattle.std.specs.Prelude.{◌≡◌, ◌≢◌, ℕ, ◌≤◌, ◌↔◌, [], ◌∷◌, ◌++◌, List, length, IfOk, OnOk, OnErr, IsTrue, IsFalse, MatchOption};
-ghost use Rattle.st_outside.specs.Count.{Rises, next_count};
-ghost use Rattle.st_outside.specs.Files.{Held, Absent, Holds, CanHold, CanLack, CanExceed, CanFit};
-ghost use Rattle.st_outside.specs.MemoryFiles.{held_of, fetch_fails};
+ghost use Rattle.st_outside.specs.Count.{HasRisen, next_count};
+ghost use Rattle.st_outside.specs.Files.{FileView, Absent, FileBytes, CanHold, CanLack, CanExceed, CanFit};
+ghost use Rattle.st_outside.specs.MemoryFiles.{view_of_name, fetch_fails};
 
 use crate::count::{contains_call, one_more};
 use crate::files::{FILE_LIMIT, FetchFault, Files};
@@ -49,8 +49,8 @@ impl MemoryFiles {
     /// Adds a file. A name that is added again holds the later content. Without memory the file is dropped.
     pub fn add(&mut self, name: Text, content: Text) -> Result<(), AllocError>
         ensures ok { OnOk result (self.new ≡ record self.old { files = self.old.files ++ record { name = name; content = content } ∷ [] }) }
-        ensures later { OnOk result (held_of self.new.files name ≡ Holds content) }
-        ensures others { OnOk result ((n : List ℕ) → n ≢ name → held_of self.new.files n ≡ held_of self.old.files n) }
+        ensures later { OnOk result (view_of_name self.new.files name ≡ FileBytes content) }
+        ensures others { OnOk result ((n : List ℕ) → n ≢ name → view_of_name self.new.files n ≡ view_of_name self.old.files n) }
         ensures err { OnErr result (self.new ≡ self.old) }
     {
         self.files.push(HeldFile { name, content })?;
@@ -76,7 +76,7 @@ impl MemoryFiles {
 
 // The content that a name holds: of its files the one that was added last.
 fn content_of<'a>(files: &'a [HeldFile], name: &Text) -> Option<&'a Text>
-    ensures { MatchOption result (held_of files.now name.now ≡ Absent) (λ content. held_of files.now name.now ≡ Holds content.now) }
+    ensures { MatchOption result (view_of_name files.now name.now ≡ Absent) (λ content. view_of_name files.now name.now ≡ FileBytes content.now) }
 {
     let mut found = None;
     for file in files {
@@ -88,25 +88,25 @@ fn content_of<'a>(files: &'a [HeldFile], name: &Text) -> Option<&'a Text>
 }
 
 impl Files for MemoryFiles {
-    ghost held = { λ m. held_of m.files };
+    ghost held = { λ m. view_of_name m.files };
 
     ghost faults = { λ m. m.faults };
 
     fn fetch(&mut self, alloc: Global, name: &Text) -> Result<Text, FetchFault>
-        ensures held { held_of self.new.files ≡ held_of self.old.files }
-        ensures content { IfOk result (λ text. CanHold (held_of self.old.files name.now) text) }
+        ensures held { view_of_name self.new.files ≡ view_of_name self.old.files }
+        ensures content { IfOk result (λ text. CanHold (view_of_name self.old.files name.now) text) }
         ensures within { IfOk result (λ text. length text ≤ FILE_LIMIT) }
-        ensures missing { result ≡ Err FetchFault.Missing → CanLack (held_of self.old.files name.now) }
-        ensures too_long { result ≡ Err FetchFault.TooLong → CanExceed (held_of self.old.files name.now) }
-        ensures no_memory { result ≡ Err FetchFault.NoMemory → CanFit (held_of self.old.files name.now) }
-        ensures failed { result ≡ Err FetchFault.Failed → Rises self.old.faults self.new.faults }
+        ensures missing { result ≡ Err FetchFault.Missing → CanLack (view_of_name self.old.files name.now) }
+        ensures too_long { result ≡ Err FetchFault.TooLong → CanExceed (view_of_name self.old.files name.now) }
+        ensures no_memory { result ≡ Err FetchFault.NoMemory → CanFit (view_of_name self.old.files name.now) }
+        ensures failed { result ≡ Err FetchFault.Failed → HasRisen self.old.faults self.new.faults }
         ensures quiet { result ≢ Err FetchFault.Failed → self.new.faults ≡ self.old.faults }
 
         // Exactly when each fault comes, what it gives, and what it leaves.
         ensures fails { (result ≡ Err FetchFault.Failed) ↔ IsTrue (fetch_fails self.old) }
-        ensures lacks { (result ≡ Err FetchFault.Missing) ↔ (IsFalse (fetch_fails self.old) × (held_of self.old.files name.now ≡ Absent)) }
-        ensures exceeds { (result ≡ Err FetchFault.TooLong) ↔ (IsFalse (fetch_fails self.old) × CanExceed (held_of self.old.files name.now)) }
-        ensures gives { IfOk result (λ text. held_of self.old.files name.now ≡ Holds text) }
+        ensures lacks { (result ≡ Err FetchFault.Missing) ↔ (IsFalse (fetch_fails self.old) × (view_of_name self.old.files name.now ≡ Absent)) }
+        ensures exceeds { (result ≡ Err FetchFault.TooLong) ↔ (IsFalse (fetch_fails self.old) × CanExceed (view_of_name self.old.files name.now)) }
+        ensures gives { IfOk result (λ text. view_of_name self.old.files name.now ≡ FileBytes text) }
         ensures after { result ≢ Err FetchFault.Failed → self.new ≡ record self.old { fetches = next_count self.old.fetches } }
         ensures after_failure { result ≡ Err FetchFault.Failed → self.new ≡ record self.old { fetches = next_count self.old.fetches; faults = next_count self.old.faults } }
     {

@@ -1,7 +1,7 @@
 ghost use Rattle.std.specs.Prelude.{◌≡◌, ℕ, ◌<◌, ◌≤◌, ◌↔◌, [], ◌∷◌, ◌++◌, List, length, take, Some, IfOk, OnOk, OnErr, IsErr, IsTrue};
-ghost use Rattle.st_outside.specs.Count.{Rises, next_count};
+ghost use Rattle.st_outside.specs.Count.{HasRisen, next_count};
 ghost use Rattle.st_outside.specs.Sink.{Appends};
-ghost use Rattle.st_outside.specs.MemorySink.{will_fail, taken_of};
+ghost use Rattle.st_outside.specs.MemorySink.{will_fail, accepted_len};
 
 use crate::count::{contains_call, one_more};
 use crate::sink::{Failed, Sink};
@@ -90,12 +90,12 @@ impl Sink for MemorySink {
         ensures within { IfOk result (λ n. n ≤ length piece.now) }
         ensures taken { IfOk result (λ n. Appends (Some self.old.bytes) (Some self.new.bytes) (take n piece.now)) }
         ensures quiet { OnOk result (self.new.faults ≡ self.old.faults) }
-        ensures failed { OnErr result (Rises self.old.faults self.new.faults) }
+        ensures failed { OnErr result (HasRisen self.old.faults self.new.faults) }
         ensures unwritten { OnErr result (Some self.new.bytes ≡ Some self.old.bytes) }
 
         // Exactly when it fails, how much it takes, and what it leaves.
         ensures fails { IsErr result ↔ IsTrue (will_fail self.old) }
-        ensures count { IfOk result (λ n. n ≡ taken_of self.old (length piece.now)) }
+        ensures count { IfOk result (λ n. n ≡ accepted_len self.old (length piece.now)) }
         ensures ok { OnOk result (self.new ≡ record self.old { bytes = self.new.bytes; calls = next_count self.old.calls }) }
         ensures err { OnErr result (self.new ≡ record self.old { calls = next_count self.old.calls; faults = next_count self.old.faults }) }
     {

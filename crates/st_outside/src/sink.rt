@@ -1,9 +1,12 @@
 ghost use Rattle.std.specs.Prelude.{◌≡◌, ℕ, ◌<◌, ◌≤◌, List, length, take, Option, IfOk, OnOk, OnErr};
-ghost use Rattle.st_outside.specs.Count.{Rises};
+ghost use Rattle.st_outside.specs.Count.{HasRisen};
 ghost use Rattle.st_outside.specs.Sink.{Appends, AppendsFront};
 
+use thiserror::Error;
+
 /// A sink took nothing, and counted a fault.
-#[derive(Clone, Copy, Debug, PartialEq, Eq)]
+#[derive(Clone, Copy, Debug, PartialEq, Eq, Drop, Error)]
+#[error("writing failed")]
 pub struct Failed;
 
 /// Takes bytes in order. It tells the bytes written so far or does not, and a count of faults never falls.
@@ -19,7 +22,7 @@ pub trait Sink {
         ensures within { IfOk result (λ n. n ≤ length piece.now) }
         ensures taken { IfOk result (λ n. Appends (written self.old) (written self.new) (take n piece.now)) }
         ensures quiet { OnOk result (faults self.new ≡ faults self.old) }
-        ensures failed { OnErr result (Rises (faults self.old) (faults self.new)) }
+        ensures failed { OnErr result (HasRisen (faults self.old) (faults self.new)) }
         ensures unwritten { OnErr result (written self.new ≡ written self.old) };
 }
 
@@ -27,7 +30,7 @@ pub trait Sink {
 pub fn write_all<S: Sink>(out: &mut S, text: &[u8]) -> Result<(), Failed>
     ensures ok { OnOk result (Appends (S.written out.old) (S.written out.new) text.now) }
     ensures quiet { OnOk result (S.faults out.new ≡ S.faults out.old) }
-    ensures failed { OnErr result (Rises (S.faults out.old) (S.faults out.new)) }
+    ensures failed { OnErr result (HasRisen (S.faults out.old) (S.faults out.new)) }
     ensures front { OnErr result (AppendsFront (S.written out.old) (S.written out.new) text.now) }
 {
     let mut done = 0;

@@ -1,5 +1,5 @@
 ghost use Rattle.std.specs.Prelude.{◌≡◌, ◌≢◌, ℕ, ◌<◌, ◌≤◌, length, IfOk, IfSome};
-ghost use Rattle.st_outside.specs.Files.{Untold};
+ghost use Rattle.st_outside.specs.Files.{Unknown};
 
 use crate::count::one_more;
 use crate::files::{FILE_LIMIT, FetchFault, Files};
@@ -41,7 +41,7 @@ impl<'a, R: rt::Files> StdFiles<'a, R> {
 }
 
 impl<'a, R: rt::Files> Files for StdFiles<'a, R> {
-    ghost held = { λ _ _. Untold };
+    ghost held = { λ _ _. Unknown };
 
     ghost faults = { λ f. f };
 

@@ -9,4 +9,4 @@ pub returns-in-Differs-clause-fills : goal.returns-in-Differs-clause-fills
 returns-in-Differs-clause-fills c = glob-fills false c.args.pattern.now c.args.text.now (sym c.in-Differs.ensures.is)
 
 pub returns-in-Run-clause-fills : goal.returns-in-Run-clause-fills
-returns-in-Run-clause-fills c = glob-fills c.glob_behind_run.result c.args.pattern.now c.args.text.now (c.glob_behind_run.ensures ∙ sym c.in-Run.ensures.is.0)
+returns-in-Run-clause-fills c = glob-fills c.glob_after_run.result c.args.pattern.now c.args.text.now (c.glob_after_run.ensures ∙ sym c.in-Run.ensures.is.0)

@@ -1,12 +1,12 @@
 use Rattle.std.proofs.Common.{◌≡◌, ◌+◌, ◌-◌, ◌≤◌, length, drop}
-use Rattle.st_lex.specs.Tokens.{lexed_of, tokens_from}
+use Rattle.st_lex.specs.Tokens.{lexed_text, tokens_from}
 use Rattle.st_lex.proofs.Skips.{before}
 use Rattle.st_lex.proofs.lexer.tokens.Given as goal
 
 -- the tokens so far, and those of the rest
 abbrev pub invariant-loop-at : goal.invariant-loop-at
 invariant-loop-at l = record {
-  same : lexed_of l.text ≡ before l.tokens (tokens_from 0 l.at l.line (drop l.at l.text));
+  same : lexed_text l.text ≡ before l.tokens (tokens_from 0 l.at l.line (drop l.at l.text));
   place : l.at ≤ length l.text;
   line : l.line ≤ l.at + 1;
 }

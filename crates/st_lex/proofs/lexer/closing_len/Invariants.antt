@@ -1,5 +1,5 @@
 use Rattle.st_lex.proofs.Scans.{Closes}
-use Rattle.st_lex.proofs.lexer.closing.Given as goal
+use Rattle.st_lex.proofs.lexer.closing_len.Given as goal
 
 abbrev pub invariant-loop-index : goal.invariant-loop-index
 invariant-loop-index l = Closes l.escaped l.bytes l.index

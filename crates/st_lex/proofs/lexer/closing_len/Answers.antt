@@ -1,7 +1,7 @@
 use Rattle.std.proofs.Common.{sym, arith}
-use Rattle.st_lex.proofs.Scans.{Closes-start, Closes-behind, Closes-plain, Closes-newline, Closes-quote}
-use Rattle.st_lex.proofs.lexer.closing.Goals as goal
-use Rattle.st_lex.proofs.lexer.closing.Goals.{then-escaped, else-escaped+else-byte-eq34}
+use Rattle.st_lex.proofs.Scans.{Closes-start, Closes-after, Closes-plain, Closes-newline, Closes-quote}
+use Rattle.st_lex.proofs.lexer.closing_len.Goals as goal
+use Rattle.st_lex.proofs.lexer.closing_len.Goals.{then-escaped, else-escaped+else-byte-eq34}
 
 pub loop-index-init : goal.loop-index-init
 loop-index-init c = Closes-start c.args.bytes.now
@@ -15,6 +15,6 @@ returns-then-byte-eq34-clause-is c = sym (Closes-quote c.loop-index.escaped c.ar
 pub loop-index-preserved : goal.loop-index-preserved
 loop-index-preserved c =
     elim c.if-escaped.branch [
-      | then-escaped w ↦ Closes-behind c.loop-index.escaped c.if-escaped.escaped c.args.bytes.now c.loop-index.index (omega arith) c.if-byte-eq10.false w.if-escaped.true w.escaped-is c.loop-index.invariant
+      | then-escaped w ↦ Closes-after c.loop-index.escaped c.if-escaped.escaped c.args.bytes.now c.loop-index.index (omega arith) c.if-byte-eq10.false w.if-escaped.true w.escaped-is c.loop-index.invariant
       | else-escaped+else-byte-eq34 w ↦ Closes-plain c.loop-index.escaped c.if-escaped.escaped c.args.bytes.now c.loop-index.index (omega arith) c.if-byte-eq10.false w.if-byte-eq34.false w.if-escaped.false w.escaped-is c.loop-index.invariant
     ]
