@@ -1,26 +1,36 @@
 -- Names as lists of components, and the texts that spell them.
-use Rattle.std.specs.Prelude.{ℕ, ◌-◌, Bool, ◌==◌, ◌&&◌, not, nat_lt, List, [], ◌∷◌, length, take, codes}
+use Rattle.std.specs.Prelude.{◌≡◌, ◌<◌, ℕ, ◌+◌, ◌-◌, Bool, true, false, ◌==◌, ◌&&◌, not, nat_lt, List, [], ◌∷◌, length, slice_index_or, take, drop, codes, All}
 use Rattle.std.specs.List.{filter, flat_map, list_any, slice_split}
 use Rattle.std.specs.Str.{bytes_eq}
+use Rattle.st_names.specs.declared.limits.TheConstants.{LONGEST_PART}
 
 -- a name: its components from the root, or those that lead on from some other name
 abbrev pub Components : Type 0
 Components = List (List ℕ)
 
+-- the byte `/`
 abbrev pub slash : ℕ
 slash = 47
 
--- the most bytes that a name may have
-abbrev pub longest_name : ℕ
-longest_name = 1024
-
--- the most bytes that a component may have
-abbrev pub longest_part : ℕ
-longest_part = 255
+-- whether a byte is a slash
+abbrev pub is_slash : ℕ → Bool
+is_slash byte = byte == slash
 
 -- what stands between the slashes
-abbrev pub parts : List ℕ → Components
-parts text = slice_split (λ byte. byte == slash) text
+abbrev pub split_at_slashes : List ℕ → Components
+split_at_slashes text = slice_split (λ byte. byte == slash) text
+
+-- what stands behind the slashes
+abbrev pub parts_behind : List ℕ → Components
+parts_behind text = drop 1 (split_at_slashes text)
+
+-- whether a text has a slash, as no component of a name does
+abbrev pub has_slash : List ℕ → Bool
+has_slash text = list_any is_slash text
+
+-- texts that may be a name's components: none of them has a slash
+abbrev pub AreParts : Components → Type 0
+AreParts texts = All (λ text. has_slash text ≡ false) texts
 
 -- whether a part leads anywhere: it is neither empty nor `.`
 abbrev pub is_component : List ℕ → Bool
@@ -28,21 +38,40 @@ is_component part = nat_lt 0 (length part) && not (bytes_eq part (codes "."))
 
 -- the components of a text, `..` among them
 abbrev pub components_of : List ℕ → Components
-components_of text = filter is_component (parts text)
+components_of text = filter is_component (split_at_slashes text)
 
 -- whether a part of the text is longer than a component may be
 abbrev pub has_long_part : List ℕ → Bool
-has_long_part text = list_any (λ part. nat_lt longest_part (length part)) (parts text)
+has_long_part text = list_any (λ part. nat_lt LONGEST_PART (length part)) (split_at_slashes text)
 
 -- a component behind a slash
-abbrev pub slashed : List ℕ → List ℕ
-slashed part = slash ∷ part
+abbrev pub with_slash : List ℕ → List ℕ
+with_slash part = slash ∷ part
+
+-- a text that is a slash before each component of some name, and so empty for the root
+abbrev pub IsSpelled : List ℕ → Type 0
+IsSpelled text = flat_map with_slash (parts_behind text) ≡ text
 
 -- how an absolute name is printed: `/` for the root, else a slash before each component
 abbrev pub printed_name : Components → List ℕ
 printed_name [] = codes "/"
-printed_name (part ∷ rest) = flat_map slashed (part ∷ rest)
+printed_name (part ∷ rest) = flat_map with_slash (part ∷ rest)
 
 -- a name without its last component; the root stays the root
 abbrev pub parent : Components → Components
 parent name = take (length name - 1) name
+
+-- the last component of a name that is not the root's
+abbrev pub last_part : Components → List ℕ
+last_part name = slice_index_or name (length name - 1) []
+
+-- what the last slash of a name's text parts: the directory's text and the last component
+pub record IsLastSlash (text : List ℕ) (at : ℕ) : Type 0 where
+  pub front : parts_behind (take at text) ≡ parent (parts_behind text)
+  pub spelled : IsSpelled (take at text)
+  pub last : 0 < length (parts_behind text) → drop (at + 1) text ≡ last_part (parts_behind text)
+
+-- whether a name is the root's
+abbrev pub is_root : Components → Bool
+is_root [] = true
+is_root (part ∷ rest) = false

@@ -1,6 +1,8 @@
-ghost use Rattle.std.specs.Prelude.{◌≡◌, ◌↔◌, ◌+◌, ◌-◌, ◌^◌, ◌<◌, min, [], ◌∷◌, ◌++◌, length, take, slice_index_or, IsTrue, IfOk, OnOk, OnErr};
-ghost use Rattle.st_names.specs.Name.{parent, printed_name};
+ghost use Rattle.std.specs.Prelude.{◌≡◌, ◌↔◌, ◌-◌, ◌^◌, ◌<◌, ◌≤◌, false, min, [], ◌∷◌, ◌++◌, length, take, count_by, IsTrue, IfOk, OnOk, OnErr};
+ghost use Rattle.std.specs.List.{position_or_len};
+ghost use Rattle.st_names.specs.Name.{components_of, has_slash, is_slash, last_part, parent, split_at_slashes, printed_name, IsLastSlash, IsSpelled};
 
+use crate::is_component;
 use st_base::Text;
 use std::alloc::{AllocError, Global};
 use std::marker::Model;
@@ -8,15 +10,86 @@ use std::marker::Model;
 /// An absolute name: its components from the root, which has none.
 #[derive(Debug, Drop)]
 pub struct AbsName {
-    parts: Vec<Text>,
+    // A slash before each component.
+    text: Vec<u8>,
 }
 
 impl Model for AbsName {
     ghost use Rattle.std.specs.Prelude.{List, ℕ};
+    ghost use Rattle.st_names.specs.Name.{parts_behind, IsSpelled};
 
     ghost Value = { List (List ℕ) };
 
-    ghost view = { λ n. n.parts.items };
+    ghost view = { λ n. parts_behind n.text.items };
+
+    ghost invariant = { λ n. IsSpelled n.text.items };
+}
+
+/// The components of a name that are left to go through, the first one next.
+#[derive(Drop)]
+pub struct NameParts<'a> {
+    // A slash before each of them.
+    text: &'a [u8],
+}
+
+impl<'a> Model for NameParts<'a> {
+    ghost use Rattle.std.specs.Prelude.{List, ℕ};
+    ghost use Rattle.st_names.specs.Name.{parts_behind, IsSpelled};
+
+    ghost Value = { List (List ℕ) };
+
+    ghost view = { λ p. parts_behind p.text.now };
+
+    ghost invariant = { λ p. IsSpelled p.text.now };
+}
+
+impl<'a> Iterator for NameParts<'a> {
+    ghost use Rattle.std.specs.Iterator.{YieldsFirstRef, item_count};
+
+    type Item = &'a [u8];
+
+    ghost next_gives = { YieldsFirstRef (λ p. p) };
+
+    ghost remaining = { item_count (λ p. p) };
+
+    fn next(&mut self) -> Option<&'a [u8]> {
+        let (_, text) = self.text.split_first()?;
+        let (part, rest) = text.split_at(first_slash(text));
+        self.text = rest;
+        Some(part)
+    }
+}
+
+// Where the first slash is, or the text's length where there is none.
+fn first_slash(text: &[u8]) -> usize
+    ensures place { result ≡ position_or_len is_slash text.now }
+    ensures within { result ≤ length text.now }
+{
+    text.iter()
+        .position(|byte| *byte == b'/')
+        .unwrap_or(text.len())
+}
+
+// Where the last slash of a name's text is, or 0 in that of the root.
+fn last_slash(text: &[u8]) -> usize
+    requires { IsSpelled text.now }
+    ensures last { IsLastSlash text.now result }
+    ensures within { result ≤ length text.now }
+{
+    let mut at = text.len();
+    while at > 0 {
+        at -= 1;
+        if text[at] == b'/' {
+            return at;
+        }
+    }
+    0
+}
+
+fn slash_count(text: &[u8]) -> usize
+    ensures { result ≡ count_by is_slash text.now }
+{
+    text.iter().filter(|byte| **byte == b'/').count()
 }
 
 impl AbsName {
@@ -25,38 +98,82 @@ impl AbsName {
         ensures { result ≡ [] }
     {
         AbsName {
-            parts: Vec::new(alloc),
+            text: Vec::new(alloc),
         }
     }
 
-    /// How many components there are.
+    /// The name that a text's components spell from the root.
+    pub fn of(alloc: Global, text: &[u8]) -> Result<Self, AllocError>
+        ensures { IfOk result (λ name. name ≡ components_of text.now) }
+    {
+        let mut name = AbsName::root(alloc);
+        for part in text.split(|byte| *byte == b'/') {
+            if is_component(part) {
+                name.push(part)?;
+            }
+        }
+        Ok(name)
+    }
+
+    /// The name whose components are all that stands between a text's slashes.
+    pub fn of_parts(alloc: Global, text: &[u8]) -> Result<Self, AllocError>
+        ensures { IfOk result (λ name. name ≡ split_at_slashes text.now) }
+    {
+        let mut spelled = Vec::with_capacity(alloc, text.len() + 1)?;
+        spelled.push_reserved(b'/');
+        spelled.extend_from_slice(text)?;
+        Ok(AbsName { text: spelled })
+    }
+
+    /// How many components there are; this goes through the text.
     pub fn len(&self) -> usize
         ensures { result ≡ length self.now }
     {
-        self.parts.len()
+        slash_count(&self.text)
     }
 
     /// Whether this is the root's name.
     pub fn is_root(&self) -> bool
         ensures { IsTrue result ↔ (self.now ≡ []) }
     {
-        self.parts.is_empty()
+        self.text.is_empty()
     }
 
-    /// A component, counted from 0 at the root.
-    pub fn part(&self, i: usize) -> &[u8]
-        requires { i < length self.now }
-        ensures { result.now ≡ slice_index_or self.now i [] }
+    /// The components from the root, one after another.
+    pub fn parts(&self) -> NameParts<'_>
+        ensures { result ≡ self.now }
     {
-        self.parts[i].bytes()
+        NameParts { text: &self.text }
     }
 
-    /// Adds a component at the end; without memory it is dropped.
-    pub fn push(&mut self, part: Text) -> Result<(), AllocError>
-        ensures ok { OnOk result (self.new ≡ self.old ++ part ∷ []) }
+    /// The components but for the last; the root has none.
+    pub fn parent(&self) -> NameParts<'_>
+        ensures { result ≡ parent self.now }
+    {
+        let text = self.text.as_slice();
+        NameParts {
+            text: &text[..last_slash(text)],
+        }
+    }
+
+    /// The last component of a name that is not the root's.
+    pub fn last(&self) -> &[u8]
+        requires { 0 < length self.now }
+        ensures { result.now ≡ last_part self.now }
+    {
+        let text = self.text.as_slice();
+        &text[last_slash(text) + 1..]
+    }
+
+    /// Adds a component at the end; without memory the name stays as it is.
+    pub fn push(&mut self, part: &[u8]) -> Result<(), AllocError>
+        requires { has_slash part.now ≡ false }
+        ensures ok { OnOk result (self.new ≡ self.old ++ part.now ∷ []) }
         ensures err { OnErr result (self.new ≡ self.old) }
     {
-        self.parts.push(part)?;
+        self.text.reserve(part.len() + 1)?;
+        self.text.push_reserved(b'/');
+        self.text.extend_from_slice(part)?;
         Ok(())
     }
 
@@ -64,63 +181,48 @@ impl AbsName {
     pub fn pop(&mut self)
         ensures { self.new ≡ parent self.old }
     {
-        self.parts.pop();
+        let end = last_slash(&self.text);
+        self.text.truncate(end);
     }
 
-    /// An equal name of its own.
+    /// An equal name of its own, which takes one piece of memory.
     pub fn copy(&self, alloc: Global) -> Result<Self, AllocError>
         ensures { IfOk result (λ name. name ≡ self.now) }
     {
-        let mut parts = Vec::new(alloc);
-        for part in &self.parts {
-            parts.push(part.copy(alloc)?)?;
-        }
-        Ok(AbsName { parts })
+        let text = Vec::from_slice(alloc, &self.text)?;
+        Ok(AbsName { text })
     }
 
     /// The name's text: `/` for the root, else a slash before each component.
     pub fn print(&self, alloc: Global) -> Result<Text, AllocError>
         ensures { IfOk result (λ text. text ≡ printed_name self.now) }
     {
-        if self.parts.is_empty() {
-            return Text::of(alloc, b"/");
+        if self.text.is_empty() {
+            Text::of(alloc, b"/")
+        } else {
+            Text::of(alloc, &self.text)
         }
-        let mut text = Text::new(alloc);
-        for part in &self.parts {
-            text.push(b'/')?;
-            text.append(part.bytes())?;
-        }
-        Ok(text)
     }
 
     /// The length of the printed name, or 2^64 - 1 where it is longer.
     pub fn print_len(&self) -> u64
         ensures { result ≡ min (length (printed_name self.now)) (2 ^ 64 - 1) }
     {
-        if self.parts.is_empty() {
-            return 1;
+        if self.text.is_empty() {
+            1
+        } else {
+            self.text.len() as u64
         }
-        let mut len: u64 = 0;
-        for part in &self.parts {
-            len = len
-                .saturating_add(1)
-                .saturating_add(part.bytes().len() as u64);
-        }
-        len
     }
 
     /// Whether the other name is this one or leads on from it.
     pub fn begins(&self, other: &AbsName) -> bool
         ensures { IsTrue result ↔ (self.now ≡ take (length self.now) other.now) }
     {
-        if self.len() > other.len() {
+        let other = other.text.as_slice();
+        let Some(rest) = other.strip_prefix(self.text.as_slice()) else {
             return false;
-        }
-        for i in 0..self.len() {
-            if self.part(i) != other.part(i) {
-                return false;
-            }
-        }
-        true
+        };
+        rest.is_empty() || rest[0] == b'/'
     }
 }

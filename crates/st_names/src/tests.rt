@@ -1,15 +1,6 @@
 use crate::{AbsName, NameFault, Seen, SeenText, components};
-use st_base::Text;
 use std::alloc::{AllocError, Global};
 use std::test::Fail;
-
-fn name_of(alloc: Global, parts: &[&[u8]]) -> Result<AbsName, AllocError> {
-    let mut name = AbsName::root(alloc);
-    for part in parts {
-        name.push(Text::of(alloc, part)?)?;
-    }
-    Ok(name)
-}
 
 fn prints(alloc: Global, name: &AbsName, text: &[u8]) -> Result<bool, AllocError> {
     let printed = name.print(alloc)?;
@@ -20,11 +11,13 @@ fn prints(alloc: Global, name: &AbsName, text: &[u8]) -> Result<bool, AllocError
 fn names_are_printed(rt: HostRuntime) -> Result<(), Fail> {
     let alloc = rt.alloc();
     assert!(rt; prints(alloc, &AbsName::root(alloc), b"/")?);
-    let mut name = name_of(alloc, &[b"etc", b"passwd"])?;
+    let mut name = AbsName::root(alloc);
+    name.push(b"etc")?;
+    name.push(b"passwd")?;
     assert!(rt; prints(alloc, &name.copy(alloc)?, b"/etc/passwd")?);
     name.pop();
     assert!(rt; prints(alloc, &name, b"/etc")?);
-    assert!(rt; name.len() == 1 && name.part(0) == b"etc".as_slice());
+    assert!(rt; name.len() == 1 && name.last() == b"etc".as_slice());
     name.pop();
     name.pop();
     assert!(rt; name.is_root());
@@ -32,29 +25,34 @@ fn names_are_printed(rt: HostRuntime) -> Result<(), Fail> {
 }
 
 #[test]
+fn names_are_gone_through(rt: HostRuntime) -> Result<(), Fail> {
+    let alloc = rt.alloc();
+    let name = AbsName::of_parts(alloc, b"etc/rc.d//sshd")?;
+    let mut left = name.parts();
+    assert!(rt; left.next() == Some(b"etc".as_slice()));
+    assert!(rt; left.next() == Some(b"rc.d".as_slice()));
+    assert!(rt; left.next() == Some(b"".as_slice()));
+    assert!(rt; left.next() == Some(b"sshd".as_slice()));
+    assert!(rt; left.next().is_none());
+    assert!(rt; name.parent().count() == 3);
+    assert!(rt; AbsName::root(alloc).parts().next().is_none());
+    Ok(())
+}
+
+#[test]
 fn names_begin_names(rt: HostRuntime) -> Result<(), Fail> {
     let alloc = rt.alloc();
-    let etc = name_of(alloc, &[b"etc"])?;
-    let passwd = name_of(alloc, &[b"etc", b"passwd"])?;
-    let longer = name_of(alloc, &[b"etcetera"])?;
+    let etc = AbsName::of(alloc, b"/etc")?;
+    let passwd = AbsName::of(alloc, b"/etc/passwd")?;
+    let longer = AbsName::of(alloc, b"/etcetera")?;
     assert!(rt; AbsName::root(alloc).begins(&etc));
     assert!(rt; etc.begins(&passwd) && etc.begins(&etc));
     assert!(rt; !passwd.begins(&etc) && !etc.begins(&longer));
     Ok(())
 }
 
-// The name that a text's components make from the root, printed.
-fn from_root(alloc: Global, text: &[u8]) -> Result<Text, NameFault> {
-    let parts = components(alloc, text)?;
-    let mut name = AbsName::root(alloc);
-    for part in parts.as_slice() {
-        name.push(part.copy(alloc)?)?;
-    }
-    Ok(name.print(alloc)?)
-}
-
 #[test]
-fn texts_have_components(rt: HostRuntime) {
+fn texts_have_components(rt: HostRuntime) -> Result<(), Fail> {
     let cases = [
         (b"/a//./b/..".as_slice(), b"/a/b/..".as_slice()),
         (b".hidden/...", b"/.hidden/..."),
@@ -62,11 +60,10 @@ fn texts_have_components(rt: HostRuntime) {
         (b"", b"/"),
     ];
     for (text, printed) in cases {
-        match from_root(rt.alloc(), text) {
-            Ok(name) => assert_eq!(rt; name.bytes(), printed),
-            Err(fault) => assert!(rt; false, "{fault:?}"),
-        }
+        let name = AbsName::of(rt.alloc(), text)?;
+        assert!(rt; prints(rt.alloc(), &name, printed)?);
     }
+    Ok(())
 }
 
 #[test]

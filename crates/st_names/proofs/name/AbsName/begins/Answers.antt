@@ -1,13 +1,58 @@
-use Rattle.std.proofs.Common.{◌≡◌, get_or, arith, [], ◌∙◌, sym}
-use Rattle.std.proofs.lemmas.List.{take_more_same}
-use Rattle.st_names.proofs.Prefixes.{same_part, differs}
+use Rattle.std.proofs.Common.{◌≡◌, ◌⊎◌, ◌∙◌, ⊎_elim, ap, sym, subst₂, arith, ◌<◌, ℕ, List, [], ◌∷◌, ◌++◌, length, take, drop, get_or, nat_eq, false, true}
+use Rattle.std.proofs.lemmas.Bool.{eq-eqb, eqb-true}
+use Rattle.std.specs.Cmp.Lexicographic.{pointwise}
+use Rattle.st_names.specs.Name.{Components, IsSpelled, parts_behind, slash}
+use Rattle.st_names.proofs.Spelled.{begins_all, begins_more, begins_none, begun_rest, prefix_rest}
 use Rattle.st_names.proofs.name.AbsName.begins.Goals as goal
 
-pub returns-then-ne : goal.returns-then-ne
-returns-then-ne c = (λ h. cc, λ e. absurd (differs c.args.self.now c.args.other.now c.loop-i.i _ _ (omega arith) c.part.ensures c.part-in-loop-i.ensures (sym c.ne.ensures ∙ c.if-ne.true) e))
+abbrev Begins : Components → Components → Type 0
+Begins name other = name ≡ take (length name) other
 
-pub loop-i-preserved : goal.loop-i-preserved
-loop-i-preserved c =
-    let same : get_or c.args.self.now c.loop-i.i [] ≡ get_or c.args.other.now c.loop-i.i [] =
-    sym c.part.ensures ∙ same_part _ _ (sym c.ne.ensures ∙ c.if-ne.false) ∙ c.part-in-loop-i.ensures in
-    take_more_same _ _ c.loop-i.i [] (omega arith) (omega arith) c.loop-i.invariant same
+by_texts : (text other : List ℕ) (name begun : Components) → parts_behind text ≡ name → parts_behind other ≡ begun → Begins name begun → Begins (parts_behind text) (parts_behind other)
+by_texts text other name begun e f h = subst₂ Begins (sym e) (sym f) h
+
+by_names : (text other : List ℕ) (name begun : Components) → parts_behind text ≡ name → parts_behind other ≡ begun → Begins (parts_behind text) (parts_behind other) → Begins name begun
+by_names text other name begun e f h = subst₂ Begins e f h
+
+none : (rest : List ℕ) → nat_eq (length rest) 0 ≡ true → rest ≡ []
+none [] e = cc
+none (x ∷ rest) e = absurd (omega (arith, eqb-true (length (x ∷ rest)) 0 e))
+
+some : (rest : List ℕ) → nat_eq (length rest) 0 ≡ false → 0 < length rest
+some [] e = cc
+some (x ∷ rest) e = omega arith
+
+first_slash : (rest : List ℕ) → 0 < length rest → (rest ≡ []) ⊎ (get_or rest 0 0 ≡ slash) → nat_eq (get_or rest 0 0) slash ≡ true
+first_slash rest more = ⊎_elim (λ empty. let e = ap length empty in absurd (omega arith)) (eq-eqb (get_or rest 0 0) slash)
+
+text_rest : (text other prefix whole rest : List ℕ) → prefix ≡ text → whole ≡ other → pointwise nat_eq (take (length prefix) whole) prefix ≡ true → rest ≡ drop (length prefix) whole → other ≡ text ++ rest
+text_rest text other prefix whole rest e f same is = sym f ∙ prefix_rest prefix whole rest same is ∙ ap (λ (front : List ℕ). front ++ rest) e
+
+no_rest : (text other prefix whole : List ℕ) → prefix ≡ text → whole ≡ other → IsSpelled text → IsSpelled other → pointwise nat_eq (take (length prefix) whole) prefix ≡ false → Begins (parts_behind text) (parts_behind other) → ⊥
+no_rest text other prefix whole e f spelled spelled_other differs begins =
+    begins_none text other spelled spelled_other (subst₂ (λ (p w : List ℕ). pointwise nat_eq (take (length p) w) p ≡ false) e f differs) begins
+
+pub returns-in_default : goal.returns-in_default
+returns-in_default c = (
+  λ h. cc,
+  λ h. absurd (no_rest c.self.inside.text.items c.other.inside.text.items c.as_slice.result.now c.as_slice-other.result.now c.as_slice.ensures.value c.as_slice-other.ensures.value c.self.invariant c.other.invariant c.in_default.ensures.cases
+      (by_texts c.self.inside.text.items c.other.inside.text.items c.args.self.now c.args.other.now c.self.view_is c.other.view_is h)),
+)
+
+pub returns-then-is_empty : goal.returns-then-is_empty
+returns-then-is_empty c =
+    let rest = text_rest c.self.inside.text.items c.other.inside.text.items c.as_slice.result.now c.as_slice-other.result.now c.in-Some.rest.now c.as_slice.ensures.value c.as_slice-other.ensures.value c.in-Some.ensures.cases.0 c.in-Some.ensures.cases.1 in (
+      λ h. by_names c.self.inside.text.items c.other.inside.text.items c.args.self.now c.args.other.now c.self.view_is c.other.view_is
+          (begins_all c.self.inside.text.items c.other.inside.text.items c.in-Some.rest.now rest (none c.in-Some.rest.now (sym c.is_empty.ensures ∙ c.if-is_empty.true))),
+      λ h. c.if-is_empty.true,
+    )
+
+pub returns-else-is_empty : goal.returns-else-is_empty
+returns-else-is_empty c =
+    let rest = text_rest c.self.inside.text.items c.other.inside.text.items c.as_slice.result.now c.as_slice-other.result.now c.in-Some.rest.now c.as_slice.ensures.value c.as_slice-other.ensures.value c.in-Some.ensures.cases.0 c.in-Some.ensures.cases.1 in
+    let more = some c.in-Some.rest.now (sym c.is_empty.ensures ∙ c.if-is_empty.false) in (
+      λ h. by_names c.self.inside.text.items c.other.inside.text.items c.args.self.now c.args.other.now c.self.view_is c.other.view_is
+          (begins_more c.self.inside.text.items c.other.inside.text.items c.in-Some.rest.now rest more (eqb-true _ _ h)),
+      λ h. first_slash c.in-Some.rest.now more (begun_rest c.self.inside.text.items c.other.inside.text.items c.in-Some.rest.now c.self.invariant c.other.invariant rest
+          (by_texts c.self.inside.text.items c.other.inside.text.items c.args.self.now c.args.other.now c.self.view_is c.other.view_is h)),
+    )

@@ -1,0 +1,237 @@
+-- Names as their texts: a slash before each component.
+use Rattle.std.proofs.Common.{◌≡◌, ◌⊎◌, inl, inr, ◌<◌, ◌≤◌, ℕ, suc, ◌+◌, ◌-◌, ◌==◌, Bool, true, false, cond, not, ◌||◌, List, [], ◌∷◌, ◌++◌, length, take, drop, get_or, refl, ap, sym, ◌∙◌, subst, arith, length-append, length-drop, drop-cons, add-one}
+use Rattle.std.specs.Cmp.Lexicographic.{other_text, pointwise, same_text}
+use Rattle.std.specs.List.{count_by, flat_map, onto_first, position, position_or_len}
+use Rattle.std.specs.Prelude.{Some, None, nat_eq, nat_lt, unwrap_or}
+use Rattle.std.proofs.lemmas.Bool.{eqb-true, ltb-false}
+use Rattle.std.proofs.lemmas.Grind.{flat_map-append}
+use Rattle.std.proofs.lemmas.List.{append-nil, append_cancel_left, take-append-drop}
+use Rattle.std.proofs.lemmas.List.Elements.{All-cons, All-filter, All-head, All-tail}
+use Rattle.std.proofs.lemmas.List.Sums.{prefix_len-le-length}
+use Rattle.std.proofs.lemmas.List.Splits.{length-slice_split}
+use Rattle.std.proofs.Math.Seq.{take-append_seam, take-length}
+use Rattle.st_names.specs.Name.{AreParts, Components, IsLastSlash, IsSpelled, components_of, has_slash, is_component, is_slash, parent, split_at_slashes, parts_behind, slash, with_slash}
+
+-- ---- cutting at slashes
+
+slashed_front : (b : Bool) (x : ℕ) (xs : List ℕ) (texts : Components) → (b ≡ true → x ≡ slash) → flat_map with_slash texts ≡ slash ∷ xs → flat_map with_slash (cond b ([] ∷ texts) (onto_first x texts)) ≡ slash ∷ x ∷ xs
+slashed_front true x xs texts is h = let e = is refl in cc
+slashed_front false x xs [] is h = cc
+slashed_front false x xs (part ∷ texts) is h = cc
+
+-- what stands between slashes is spelled behind one more
+pub slashed-parts : (text : List ℕ) → flat_map with_slash (split_at_slashes text) ≡ slash ∷ text
+slashed-parts [] = refl
+slashed-parts (x ∷ xs) = slashed_front (x == slash) x xs (split_at_slashes xs) (eqb-true x slash) (slashed-parts xs)
+
+pub parts_some : (text : List ℕ) → 0 < length (split_at_slashes text)
+parts_some text = omega (arith, length-slice_split is_slash text)
+
+append_front : (b : Bool) (x : ℕ) (whole left right : Components) → 0 < length left → whole ≡ left ++ right → cond b ([] ∷ whole) (onto_first x whole) ≡ cond b ([] ∷ left) (onto_first x left) ++ right
+append_front true x whole left right some e = ap (λ (texts : Components). [] ∷ texts) e
+append_front false x whole [] right some e = absurd (omega arith)
+append_front false x whole (part ∷ left) right some e = ap (onto_first x) e
+
+-- a slash cuts a text in two
+pub parts-append : (front back : List ℕ) → split_at_slashes (front ++ slash ∷ back) ≡ split_at_slashes front ++ split_at_slashes back
+parts-append [] back = refl
+parts-append (x ∷ xs) back = append_front (x == slash) x _ (split_at_slashes xs) (split_at_slashes back) (parts_some xs) (parts-append xs back)
+
+plain_front : (b c : Bool) (x : ℕ) (xs : List ℕ) (texts : Components) → (b || c) ≡ false → (c ≡ false → texts ≡ xs ∷ []) → cond b ([] ∷ texts) (onto_first x texts) ≡ (x ∷ xs) ∷ []
+plain_front true c x xs texts none e = cc
+plain_front false true x xs texts none e = cc
+plain_front false false x xs texts none e = ap (onto_first x) (e refl)
+
+-- a text without a slash is one part
+pub parts_plain : (text : List ℕ) → has_slash text ≡ false → split_at_slashes text ≡ text ∷ []
+parts_plain [] none = refl
+parts_plain (x ∷ xs) none = plain_front (x == slash) (has_slash xs) x xs (split_at_slashes xs) none (parts_plain xs)
+
+behind_front : (left right : Components) → 0 < length left → drop 1 (left ++ right) ≡ drop 1 left ++ right
+behind_front [] right some = absurd (omega arith)
+behind_front (part ∷ left) right some = refl
+
+pub parts_behind-append : (front back : List ℕ) → parts_behind (front ++ slash ∷ back) ≡ parts_behind front ++ split_at_slashes back
+parts_behind-append front back = ap (drop 1) (parts-append front back) ∙ behind_front (split_at_slashes front) (split_at_slashes back) (parts_some front)
+
+-- a component more
+pub parts_behind_push : (text part : List ℕ) → has_slash part ≡ false → parts_behind (text ++ slash ∷ part) ≡ parts_behind text ++ part ∷ []
+parts_behind_push text part plain = parts_behind-append text part ∙ ap (λ (texts : Components). parts_behind text ++ texts) (parts_plain part plain)
+
+-- ---- texts that spell names
+
+pub spelled_after : (text : List ℕ) → IsSpelled (slash ∷ text)
+spelled_after text = slashed-parts text
+
+begins_slashed : (texts : Components) (x : ℕ) (xs : List ℕ) → flat_map with_slash texts ≡ x ∷ xs → x ≡ slash
+begins_slashed [] x xs e = cc
+begins_slashed (part ∷ texts) x xs e = cc
+
+pub spelled_begins : (x : ℕ) (xs : List ℕ) → IsSpelled (x ∷ xs) → x ≡ slash
+spelled_begins x xs spelled = begins_slashed _ x xs spelled
+
+spelled_from : (x : ℕ) (xs : List ℕ) → x ≡ slash → IsSpelled (x ∷ xs)
+spelled_from x xs is = subst (λ (y : ℕ). IsSpelled (y ∷ xs)) (sym is) (spelled_after xs)
+
+-- a text that spells a name still does with something more behind a slash
+pub spelled-append : (front back : List ℕ) → IsSpelled front → IsSpelled (front ++ slash ∷ back)
+spelled-append front back spelled =
+    ap (flat_map with_slash) (parts_behind-append front back) ∙ flat_map-append with_slash (parts_behind front) (split_at_slashes back)
+    ∙ ap (λ (text : List ℕ). text ++ flat_map with_slash (split_at_slashes back)) spelled ∙ ap (λ (text : List ℕ). front ++ text) (slashed-parts back)
+
+-- and without what stands behind a slash
+pub spelled_front : (front back : List ℕ) → IsSpelled (front ++ slash ∷ back) → IsSpelled front
+spelled_front [] back spelled = refl
+spelled_front (x ∷ xs) back spelled = spelled_from x xs (spelled_begins x (xs ++ slash ∷ back) spelled)
+
+-- only the root's text is empty
+pub spelled_root : (text : List ℕ) → IsSpelled text → parts_behind text ≡ [] → text ≡ []
+spelled_root text spelled root = sym spelled ∙ ap (flat_map with_slash) root
+
+-- ---- the first component
+
+first_by : (b : Bool) (x : ℕ) (xs : List ℕ) (n : ℕ) → (b ≡ (x == slash)) → split_at_slashes xs ≡ take n xs ∷ parts_behind (drop n xs) → split_at_slashes (x ∷ xs) ≡ take (cond (not b) (1 + n) 0) (x ∷ xs) ∷ parts_behind (drop (cond (not b) (1 + n) 0) (x ∷ xs))
+first_by true x xs n is e = let cut : split_at_slashes (x ∷ xs) ≡ [] ∷ split_at_slashes xs = ap (λ (b : Bool). cond b ([] ∷ split_at_slashes xs) (onto_first x (split_at_slashes xs))) (sym is) in cut ∙ ap (λ (texts : Components). [] ∷ texts) (sym (ap (drop 1) cut))
+first_by false x xs n is e =
+    let one : 1 + n ≡ suc n = omega arith in
+    let cut : split_at_slashes (x ∷ xs) ≡ onto_first x (split_at_slashes xs) = ap (λ (b : Bool). cond b ([] ∷ split_at_slashes xs) (onto_first x (split_at_slashes xs))) (sym is) in
+    rw one (cut ∙ ap (onto_first x) e)
+
+-- the first part of a text ends at its first slash
+pub parts_first : (text : List ℕ) → split_at_slashes text ≡ take (position_or_len is_slash text) text ∷ parts_behind (drop (position_or_len is_slash text) text)
+parts_first [] = refl
+parts_first (x ∷ xs) = first_by (x == slash) x xs (position_or_len is_slash xs) refl (parts_first xs)
+
+rest_by : (b : Bool) (x : ℕ) (xs : List ℕ) (n : ℕ) → (b ≡ true → x ≡ slash) → IsSpelled (drop n xs) → IsSpelled (drop (cond (not b) (1 + n) 0) (x ∷ xs))
+rest_by true x xs n is spelled = spelled_from x xs (is refl)
+rest_by false x xs n is spelled = let one : 1 + n ≡ suc n = omega arith in rw one spelled
+
+-- what comes from there on spells a name
+pub spelled_rest : (text : List ℕ) → IsSpelled (drop (position_or_len is_slash text) text)
+spelled_rest [] = refl
+spelled_rest (x ∷ xs) = rest_by (x == slash) x xs (position_or_len is_slash xs) (eqb-true x slash) (spelled_rest xs)
+
+-- ---- the last component
+
+parent_push : (name : Components) (part : List ℕ) → parent (name ++ part ∷ []) ≡ name
+parent_push name part =
+    let front : length (name ++ part ∷ []) - 1 ≡ length name = omega (arith, length-append name (part ∷ [])) in
+    ap (λ (n : ℕ). take n (name ++ part ∷ [])) front ∙ take-append_seam name (part ∷ [])
+
+last_push : (name : Components) (part : List ℕ) → get_or (name ++ part ∷ []) (length (name ++ part ∷ []) - 1) [] ≡ part
+last_push name part =
+    let front : length (name ++ part ∷ []) - 1 ≡ length name = omega (arith, length-append name (part ∷ [])) in
+    ap (λ (n : ℕ). get_or (name ++ part ∷ []) n []) front ∙ get_or_end name part where
+      get_or_end : (name : Components) (part : List ℕ) → get_or (name ++ part ∷ []) (length name) [] ≡ part
+      get_or_end [] part = refl
+      get_or_end (first ∷ name) part = get_or_end name part
+
+cut_at : (text : List ℕ) (at : ℕ) → at < length text → get_or text at 0 ≡ slash → text ≡ take at text ++ slash ∷ drop (at + 1) text
+cut_at text at within is = sym (take-append-drop at text) ∙ ap (λ (back : List ℕ). take at text ++ back) (rw (add-one, drop-cons text at 0) (ap (λ (x : ℕ). x ∷ drop (suc at) text) is))
+
+last_of_cut : (text front back : List ℕ) → IsSpelled text → text ≡ front ++ slash ∷ back → has_slash back ≡ false → IsSpelled front × (parts_behind front ≡ parent (parts_behind text)) × (back ≡ get_or (parts_behind text) (length (parts_behind text) - 1) [])
+last_of_cut text front back spelled cut plain =
+    let pushed : parts_behind text ≡ parts_behind front ++ back ∷ [] = ap parts_behind cut ∙ parts_behind_push front back plain in
+    (spelled_front front back (subst IsSpelled cut spelled), sym (ap parent pushed ∙ parent_push (parts_behind front) back), sym (ap (λ (name : Components). get_or name (length name - 1) []) pushed ∙ last_push (parts_behind front) back))
+
+pub is_last_slash : (text : List ℕ) (at : ℕ) → IsSpelled text → at < length text → get_or text at 0 ≡ slash → has_slash (drop (at + 1) text) ≡ false → IsLastSlash text at
+is_last_slash text at spelled within is plain =
+    let cut = last_of_cut text (take at text) (drop (at + 1) text) spelled (cut_at text at within is) plain in
+    record { front = cut.1; spelled = cut.0; last = λ _. cut.2 }
+
+-- without a slash it spells the root
+pub no_last_slash : (text : List ℕ) → IsSpelled text → has_slash text ≡ false → IsLastSlash text 0
+no_last_slash [] spelled plain = record { front = refl; spelled = refl; last = λ some. absurd (omega arith) }
+no_last_slash (x ∷ xs) spelled plain = absurd (has x xs (spelled_begins x xs spelled) plain) where
+  has : (x : ℕ) (xs : List ℕ) → x ≡ slash → has_slash (x ∷ xs) ≡ false → ⊥
+  has x xs is none = let first : (true || has_slash xs) ≡ false = subst (λ (y : ℕ). has_slash (y ∷ xs) ≡ false) is none in cc
+
+-- ---- parts without slashes
+
+plain_parts : (b : Bool) (x : ℕ) (texts : Components) → (x == slash) ≡ b → AreParts texts → AreParts (cond b ([] ∷ texts) (onto_first x texts))
+plain_parts true x texts is plain = All-cons (λ text. has_slash text ≡ false) [] texts refl plain
+plain_parts false x [] is plain = All-cons (λ text. has_slash text ≡ false) (x ∷ []) [] (ap (λ (b : Bool). b || false) is) plain
+plain_parts false x (part ∷ texts) is plain =
+    All-cons (λ text. has_slash text ≡ false) (x ∷ part) texts (ap (λ (b : Bool). b || has_slash part) is ∙ All-head (λ text. has_slash text ≡ false) part texts plain)
+    (All-tail (λ text. has_slash text ≡ false) part texts plain)
+
+-- what stands between slashes has none
+pub plain-parts : (text : List ℕ) → AreParts (split_at_slashes text)
+plain-parts [] = All-cons (λ text. has_slash text ≡ false) [] [] refl (λ k d below. absurd (omega arith))
+plain-parts (x ∷ xs) = plain_parts (x == slash) x (split_at_slashes xs) refl (plain-parts xs)
+
+pub plain-components : (text : List ℕ) → AreParts (components_of text)
+plain-components text = All-filter is_component (λ part. has_slash part ≡ false) (split_at_slashes text) (plain-parts text)
+
+place_by : (b : Bool) (place len : ℕ) → nat_lt place len ≡ b → place ≤ len → unwrap_or (cond b (Some place) None) len ≡ place
+place_by true place len is within = refl
+place_by false place len is within = let end : len ≤ place = ltb-false place len is in omega arith
+
+-- the first slash stands where the text's first part ends
+pub first_slash_place : (text : List ℕ) → unwrap_or (position is_slash text) (length text) ≡ position_or_len is_slash text
+first_slash_place text = place_by _ _ _ refl (prefix_len-le-length (λ byte. not (is_slash byte)) text)
+
+-- a byte before a text without slashes
+pub has_slash_drop : (text : List ℕ) (at : ℕ) → at < length text → (get_or text at 0 ≡ slash → ⊥) → has_slash (drop (at + 1) text) ≡ false → has_slash (drop at text) ≡ false
+has_slash_drop text at within differs none =
+    rw (drop-cons text at 0) (plain (get_or text at 0 == slash) (λ is. differs (eqb-true _ _ is)) (rw add-one at none)) where
+      plain : (b : Bool) → (b ≡ true → ⊥) → has_slash (drop (suc at) text) ≡ false → (b || has_slash (drop (suc at) text)) ≡ false
+      plain true not_so none = absurd (not_so refl)
+      plain false not_so none = none
+
+-- ---- names that begin as others do
+
+begun_text : (text other : List ℕ) → IsSpelled text → IsSpelled other → parts_behind text ≡ take (length (parts_behind text)) (parts_behind other) → other ≡ text ++ flat_map with_slash (drop (length (parts_behind text)) (parts_behind other))
+begun_text text other spelled spelled_other begins =
+    let n = length (parts_behind text) in
+    let more = drop n (parts_behind other) in
+    let whole : parts_behind other ≡ parts_behind text ++ more = sym (take-append-drop n (parts_behind other)) ∙ ap (λ (front : Components). front ++ more) (sym begins) in
+    sym spelled_other ∙ ap (flat_map with_slash) whole ∙ flat_map-append with_slash (parts_behind text) more ∙ ap (λ (front : List ℕ). front ++ flat_map with_slash more) spelled
+
+begun_slashed : (text rest : List ℕ) → parts_behind text ≡ take (length (parts_behind text)) (parts_behind (text ++ slash ∷ rest))
+begun_slashed text rest = sym (ap (take (length (parts_behind text))) (parts_behind-append text rest) ∙ take-append_seam (parts_behind text) (split_at_slashes rest))
+
+-- the text of a name that begins as another goes on behind that one's with nothing or with a slash
+pub begun_rest : (text other rest : List ℕ) → IsSpelled text → IsSpelled other → other ≡ text ++ rest → parts_behind text ≡ take (length (parts_behind text)) (parts_behind other) → (rest ≡ []) ⊎ (get_or rest 0 0 ≡ slash)
+begun_rest text other rest spelled spelled_other is begins =
+    by rest (drop (length (parts_behind text)) (parts_behind other)) (append_cancel_left text _ _ (sym is ∙ begun_text text other spelled spelled_other begins)) where
+      by : (rest : List ℕ) (more : Components) → rest ≡ flat_map with_slash more → (rest ≡ []) ⊎ (get_or rest 0 0 ≡ slash)
+      by rest [] e = inl e
+      by rest (part ∷ more) e = inr (ap (λ (xs : List ℕ). get_or xs 0 0) e)
+
+pub begins_all : (text other rest : List ℕ) → other ≡ text ++ rest → rest ≡ [] → parts_behind text ≡ take (length (parts_behind text)) (parts_behind other)
+begins_all text other rest is none =
+    let same : other ≡ text = is ∙ ap (λ (xs : List ℕ). text ++ xs) none ∙ append-nil text in
+    sym (ap (λ (xs : List ℕ). take (length (parts_behind text)) (parts_behind xs)) same ∙ take-length (parts_behind text))
+
+pub begins_more : (text other rest : List ℕ) → other ≡ text ++ rest → 0 < length rest → get_or rest 0 0 ≡ slash → parts_behind text ≡ take (length (parts_behind text)) (parts_behind other)
+begins_more text other [] is some first = absurd (omega arith)
+begins_more text other (x ∷ rest) is some first =
+    begun_slashed text rest ∙ ap (λ (xs : List ℕ). take (length (parts_behind text)) (parts_behind xs)) (sym (is ∙ ap (λ (y : ℕ). text ++ y ∷ rest) first))
+
+pub begins_none : (text other : List ℕ) → IsSpelled text → IsSpelled other → pointwise nat_eq (take (length text) other) text ≡ false → parts_behind text ≡ take (length (parts_behind text)) (parts_behind other) → ⊥
+begins_none text other spelled spelled_other differs begins =
+    other_text (take (length text) other) text (sym differs)
+    (ap (take (length text)) (begun_text text other spelled spelled_other begins) ∙ take-append_seam text (flat_map with_slash (drop (length (parts_behind text)) (parts_behind other))))
+
+-- a text whose prefix was taken off is the prefix and the rest
+pub prefix_rest : (text other rest : List ℕ) → pointwise nat_eq (take (length text) other) text ≡ true → rest ≡ drop (length text) other → other ≡ text ++ rest
+prefix_rest text other rest same is = sym (take-append-drop (length text) other) ∙ ap (λ (front : List ℕ). front ++ drop (length text) other) (same_text (take (length text) other) text (sym same)) ∙ ap (λ (back : List ℕ). text ++ back) (sym is)
+
+-- how many components a text spells
+pub length-parts_behind : (text : List ℕ) → length (parts_behind text) ≡ count_by is_slash text
+length-parts_behind text = omega (arith, length-drop 1 (split_at_slashes text), length-slice_split is_slash text)
+
+-- ---- one component after another
+
+parts_slashed : (text rest : List ℕ) (first : ℕ) → text ≡ first ∷ rest → first ≡ slash → parts_behind text ≡ split_at_slashes rest
+parts_slashed text rest first is slashes = ap parts_behind (is ∙ ap (λ (x : ℕ). x ∷ rest) slashes)
+
+-- the first component is what stands up to the second slash
+pub part_taken : (text behind part rest : List ℕ) (first n : ℕ) → text ≡ first ∷ behind → IsSpelled text → n ≡ position_or_len is_slash behind → part ≡ take n behind → rest ≡ drop n behind → IsSpelled rest × (parts_behind text ≡ part ∷ parts_behind rest)
+part_taken text behind part rest first n is spelled place taken left = (
+  subst IsSpelled (sym (left ∙ ap (λ (m : ℕ). drop m behind) place)) (spelled_rest behind),
+  parts_slashed text behind first is (spelled_begins first behind (subst IsSpelled is spelled)) ∙ parts_first behind
+      ∙ ap (λ (m : ℕ). take m behind ∷ parts_behind (drop m behind)) (sym place)
+      ∙ ap (λ (p : List ℕ). p ∷ parts_behind (drop n behind)) (sym taken) ∙ ap (λ (r : List ℕ). part ∷ parts_behind r) (sym left),
+)

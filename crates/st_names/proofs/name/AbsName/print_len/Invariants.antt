@@ -1,7 +1,0 @@
-use Rattle.std.proofs.Common.{◌≡◌, ◌-◌, ◌^◌, min, length, take}
-use Rattle.std.specs.List.{flat_map}
-use Rattle.st_names.specs.Name.{slashed}
-use Rattle.st_names.proofs.name.AbsName.print_len.Given as goal
-
-abbrev pub invariant-loop-part : goal.invariant-loop-part
-invariant-loop-part l = l.len ≡ min (length (flat_map slashed (take l.part-index l.part-items))) (2 ^ 64 - 1)

@@ -1,5 +1,0 @@
-use Rattle.st_names.proofs.Endings.{resolve_ends}
-use Rattle.st_names.proofs.walk.a_resolution_ends.Goals as goal
-
-pub returns : goal.returns
-returns c = resolve_ends
