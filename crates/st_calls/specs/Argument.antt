@@ -1,4 +1,4 @@
-use Rattle.std.specs.Prelude.{ℕ, Bool, ◌&&◌, ◌==◌, List, [], ◌∷◌, codes, find, Option}
+use Rattle.std.specs.Prelude.{ℕ, Bool, ◌&&◌, ◌==◌, if◌then◌else◌, List, [], ◌∷◌, ◌++◌, codes, decimal, find, Option}
 use Rattle.std.specs.List.{list_any}
 use Rattle.std.specs.Str.{bytes_eq}
 use Rattle.st_calls.specs.declared.call.SysCall.{SysCall}
@@ -86,3 +86,7 @@ has_label rule word = list_any (λ spec. bytes_eq (name_of_label spec.label) wor
 -- a rule has an argument with a label of this name and this index
 abbrev pub has_argument : Rule → List ℕ → ℕ → Bool
 has_argument rule word index = list_any (λ spec. bytes_eq (name_of_label spec.label) word && spec.index == index) (args_of rule)
+
+-- which of the arguments with one label is meant: nothing for the first, and [N] for another
+abbrev pub index_text : ℕ → List ℕ
+index_text n = if n == 0 then [] else codes "[" ++ decimal n ++ codes "]"

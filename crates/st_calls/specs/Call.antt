@@ -4,6 +4,7 @@ use Rattle.st_calls.specs.declared.call.SysCall.{SysCall}
 use Rattle.st_calls.specs.declared.call.SysCall.TheVariants.{Open, Close, Read, Write, Lseek, Dup, Stat, Lstat, Access, Readlink, Unlink, Link, Symlink, Rename, Mkdir, Rmdir, Chdir, Chmod, Chown, Truncate, Fork, Execve, Exit, Kill, GetPid, GetUid, GetEuid, SetUid, SetEuid, SetGid, SetEgid, Socket, Bind, Connect}
 use Rattle.st_calls.specs.declared.rule.Rule.{Rule}
 use Rattle.st_calls.specs.declared.rule.Rule.TheVariants.{Call, FsRead, FsWrite}
+use Rattle.st_calls.specs.declared.flags.TheConstants.{O_ACCMODE, O_CREAT, O_TRUNC, O_EXCL}
 
 -- how a script and a policy name a call
 abbrev pub name_of_call : SysCall → List ℕ
@@ -53,28 +54,13 @@ every_call =
 abbrev pub call_named : List ℕ → Option SysCall
 call_named word = find (λ call. bytes_eq (name_of_call call) word) every_call
 
--- the flags of open: the bits that say which access is asked, which are zero for reading alone
-abbrev pub access_bits : ℕ
-access_bits = 3
-
--- a file that is missing is made
-abbrev pub creates : ℕ
-creates = 0x200
-
--- the file is cut to no bytes
-abbrev pub truncates : ℕ
-truncates = 0x400
-
--- with creates: a file that is there is an error
-abbrev pub exclusive : ℕ
-exclusive = 0x800
-
+-- whether flags have this one among them
 abbrev pub has_flag : ℕ → ℕ → Bool
 has_flag flags flag = not (bit_and flags flag == 0)
 
 -- an open with these flags reads alone: it asks for no other access, and neither makes a file nor cuts one
 abbrev pub reads_alone : ℕ → Bool
-reads_alone flags = not (has_flag flags access_bits) && (not (has_flag flags creates) && not (has_flag flags truncates))
+reads_alone flags = not (has_flag flags O_ACCMODE) && (not (has_flag flags O_CREAT) && not (has_flag flags O_TRUNC))
 
 -- the rule of a call by the aliases of systrace(1), under which some calls on files are judged as one
 abbrev pub alias_of : SysCall → List ℕ → Rule
@@ -155,7 +141,7 @@ index_of_rule FsWrite = 35
 
 -- whether a call follows a link that its name ends in, the register having the place of the name
 abbrev pub follows : SysCall → List ℕ → ℕ → Bool
-follows Open regs register = not (has_flag (get_or regs 1 0) creates && has_flag (get_or regs 1 0) exclusive)
+follows Open regs register = not (has_flag (get_or regs 1 0) O_CREAT && has_flag (get_or regs 1 0) O_EXCL)
 follows Stat regs register = true
 follows Access regs register = true
 follows Link regs register = register == 0

@@ -1,4 +1,3 @@
 pub mod Argument
 pub mod Call
-pub mod Identity
-pub mod Spelling
+pub mod Rules

@@ -4,6 +4,7 @@
 pub mod argument;
 pub mod call;
 pub mod flags;
+pub mod index;
 pub mod judged;
 pub mod rule;
 
@@ -12,6 +13,7 @@ pub use call::{SysCall, follows};
 pub use flags::{
     O_ACCMODE, O_APPEND, O_CREAT, O_EXCL, O_RDONLY, O_RDWR, O_TRUNC, O_WRONLY, has_flag,
 };
+pub use index::append_index;
 pub use judged::{Snapshot, Verdict};
 pub use rule::{FastAnswer, RULES, Rule};
 
