@@ -1,0 +1,10 @@
+pub mod DescriptorCalls
+pub mod Descriptors
+pub mod Identity
+pub mod Memory
+pub mod Permission
+pub mod Process
+pub mod Processes
+pub mod Spelling
+pub mod Tree
+pub mod Walk

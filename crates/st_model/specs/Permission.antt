@@ -1,0 +1,48 @@
+-- Who may do what with an object.
+use Rattle.std.specs.Prelude.{ℕ, ◌/◌, ◌%◌, ◌==◌, ◌||◌, if◌then◌else◌, Bool, true}
+use Rattle.st_model.specs.Tree.{Node}
+use Rattle.st_model.specs.declared.permission.Permission.{Permission}
+use Rattle.st_model.specs.declared.permission.Want.{Want}
+use Rattle.st_model.specs.declared.permission.Want.TheVariants.{Read, Write, Search, Execute}
+
+-- the bit of three that a want asks for
+abbrev pub bit_of : Want → ℕ
+bit_of Read = 4
+bit_of Write = 2
+bit_of Search = 1
+bit_of Execute = 1
+
+-- the three bits that stand for a user and a group: the owner's, else the group's, else the others'
+abbrev pub permission_bits : Permission → ℕ → ℕ → ℕ
+permission_bits permission uid gid =
+    if uid == permission.uid then permission.mode / 64 % 8
+    else if gid == permission.gid then permission.mode / 8 % 8
+    else permission.mode % 8
+
+-- whether bits have this one
+abbrev pub has_bit : ℕ → ℕ → Bool
+has_bit bits bit = (bits / bit) % 2 == 1
+
+-- whether the owner, the group or the others may execute
+abbrev pub is_executable : ℕ → Bool
+is_executable mode = has_bit mode 64 || has_bit mode 8 || has_bit mode 1
+
+-- what the user 0 may: all but to execute what nobody may
+abbrev pub root_is_allowed : ℕ → Want → Bool
+root_is_allowed mode Read = true
+root_is_allowed mode Write = true
+root_is_allowed mode Search = true
+root_is_allowed mode Execute = is_executable mode
+
+-- whether a user and a group may do what is wanted
+abbrev pub is_permitted : Permission → ℕ → ℕ → Want → Bool
+is_permitted permission uid gid want =
+    if uid == 0 then root_is_allowed permission.mode want else has_bit (permission_bits permission uid gid) (bit_of want)
+
+-- an object's owner, group and mode
+abbrev pub permission_of : Node → Permission
+permission_of node = record { uid = node.uid; gid = node.gid; mode = node.mode }
+
+-- whether a user and a group may do this with an object
+abbrev pub allowed : Node → ℕ → ℕ → Want → Bool
+allowed node uid gid want = is_permitted (permission_of node) uid gid want

@@ -1,0 +1,111 @@
+-- How a name is resolved: one component after the other, each by what is seen of the name so far.
+use Rattle.std.specs.Prelude.{ℕ, zero, suc, ◌+◌, ◌*◌, max, nat_lt, nat_eq, Bool, true, false, ◌&&◌, not, if◌then◌else◌, List, [], ◌∷◌, ◌++◌, length, codes}
+use Rattle.std.specs.List.{starts_with}
+use Rattle.std.specs.Str.{bytes_eq}
+use Rattle.st_base.specs.declared.errno.Errno.{Errno}
+use Rattle.st_base.specs.declared.errno.Errno.TheVariants.{ENOENT, ENOTDIR, ELOOP, ENAMETOOLONG}
+use Rattle.st_names.specs.Name.{Components, components_of, has_long_part, parent, printed_name}
+use Rattle.st_model.specs.Tree.{Tree, Node, look}
+use Rattle.st_names.specs.declared.seen.SeenText.{SeenText}
+use Rattle.st_names.specs.declared.seen.SeenText.TheVariants.{Missing, NotDir, Dir, File, Link}
+use Rattle.st_names.specs.declared.limits.TheConstants.{LONGEST_NAME}
+use Rattle.st_model.specs.declared.limits.TheConstants.{MOST_LINKS}
+
+-- what a walk has come to: its name, the name that is looked up next, or a fault
+pub data WalkState : Type 0 where
+  -- the walk is finished: this name is meant
+  Name : Components → WalkState
+  -- the name that is looked at next
+  Next : Components → WalkState
+  Fault : Errno → WalkState
+
+-- whether another look is needed
+abbrev pub needs_lookup : WalkState → Bool
+needs_lookup (Name name) = false
+needs_lookup (Next name) = true
+needs_lookup (Fault errno) = false
+
+-- whether a part of a name is `..`
+abbrev pub is_up : List ℕ → Bool
+is_up part = bytes_eq part (codes "..")
+
+-- the name that is reached once each leading `..` of the rest has dropped a component
+abbrev pub name_after_ups : Components → Components → Components
+name_after_ups done [] = done
+name_after_ups done (part ∷ rest) = if is_up part then name_after_ups (parent done) rest else done
+
+-- the rest without its leading `..`
+abbrev pub rest_after_ups : Components → Components
+rest_after_ups [] = []
+rest_after_ups (part ∷ rest) = if is_up part then rest_after_ups rest else part ∷ rest
+
+-- the end of a walk at this name
+abbrev pub walk_end : Components → WalkState
+walk_end done = if nat_lt LONGEST_NAME (length (printed_name done)) then Fault ENAMETOOLONG else Name done
+
+-- where a text begins: at the root if it is absolute, else at this name
+abbrev pub start_of_name : List ℕ → Components → Components
+start_of_name text from = if starts_with nat_eq text (codes "/") then [] else from
+
+-- whether no component is left behind this one
+abbrev pub is_last : Components → Bool
+is_last rest = nat_eq (length rest) 0
+
+-- A walk whose rest does not begin with `..`: `done` is the name that is reached, n counts the links that were followed,
+-- and the first of the seens is what is seen of `done` with the next component. A link that is last is followed only on
+-- demand; what stands before a `..` is not last.
+abbrev pub walk_on : Components → Components → ℕ → List SeenText → Bool → WalkState
+walk_on done [] n lookups follow = walk_end done
+walk_on done (part ∷ rest) n [] follow = Next (done ++ part ∷ [])
+walk_on done (part ∷ rest) n (Dir ∷ lookups) follow =
+    walk_on (name_after_ups (done ++ part ∷ []) rest) (rest_after_ups rest) n lookups follow
+walk_on done (part ∷ rest) n (File ∷ lookups) follow =
+    if is_last rest then walk_end (done ++ part ∷ []) else Fault ENOTDIR
+walk_on done (part ∷ rest) n (Missing ∷ lookups) follow =
+    if is_last rest then walk_end (done ++ part ∷ []) else Fault ENOENT
+walk_on done (part ∷ rest) n (NotDir ∷ lookups) follow = Fault ENOTDIR
+walk_on done (part ∷ rest) n (Link text ∷ lookups) follow =
+    if is_last rest && not follow then walk_end (done ++ part ∷ [])
+    else if nat_eq n MOST_LINKS then Fault ELOOP
+    else walk_on (name_after_ups (start_of_name text done) (components_of text ++ rest)) (rest_after_ups (components_of text ++ rest)) (n + 1) lookups follow
+
+-- the walk from `done` over the rest, with n links followed, by what was seen so far; `..` takes no look
+abbrev pub walk : Components → Components → ℕ → List SeenText → Bool → WalkState
+walk done rest n lookups follow = walk_on (name_after_ups done rest) (rest_after_ups rest) n lookups follow
+
+-- the walk of a text; two faults come before any look
+abbrev pub start_walk : List ℕ → Components → Bool → List SeenText → WalkState
+start_walk text cwd follow lookups =
+    if nat_eq (length text) 0 then Fault ENOENT
+    else if has_long_part text then Fault ENAMETOOLONG
+    else walk (start_of_name text cwd) (components_of text) 0 lookups follow
+
+-- the length of the longest content of these objects
+abbrev pub longest_content_of : List Node → ℕ
+longest_content_of [] = 0
+longest_content_of (node ∷ nodes) = max (length node.content) (longest_content_of nodes)
+
+-- the longest content of an object
+abbrev pub longest_content : Tree → ℕ
+longest_content tree = longest_content_of tree.objects
+
+-- Each look takes a component of the text or of one of the links that are followed, and no text has more components than
+-- bytes: this many looks are enough.
+abbrev pub most_lookups : Tree → List ℕ → ℕ
+most_lookups tree text = length text + MOST_LINKS * longest_content tree
+
+-- the walk's value, where a name that it asks for leads on to this one
+abbrev pub walk_through : (Components → WalkState) → WalkState → WalkState
+walk_through further (Name name) = Name name
+walk_through further (Next name) = further name
+walk_through further (Fault errno) = Fault errno
+
+-- the walk over what was seen, and over that many looks at the tree for as long as it asks
+abbrev pub resolve_within : ℕ → Tree → Components → List ℕ → Bool → List SeenText → WalkState
+resolve_within zero tree cwd text follow lookups = start_walk text cwd follow lookups
+resolve_within (suc looks) tree cwd text follow lookups =
+    walk_through (λ name. resolve_within looks tree cwd text follow (lookups ++ look tree name ∷ [])) (start_walk text cwd follow lookups)
+
+-- the walk in which each seen is a look at the tree
+abbrev pub resolve : Tree → Components → List ℕ → Bool → WalkState
+resolve tree cwd text follow = resolve_within (most_lookups tree text) tree cwd text follow []

@@ -1,0 +1,20 @@
+//! The modelled system as plain data: memory, descriptors and ports, the file tree, permission, processes, how names are resolved and
+//! how arguments are spelled. What stands here is what the crates that keep these things at run time are proved to do.
+#![tactic(auto)]
+
+pub mod limits;
+pub mod object;
+pub mod open_file;
+pub mod permission;
+pub mod tree;
+pub mod walk;
+
+pub use limits::{
+    ARGV_BYTES, ARGV_PARTS, LONGEST_FILE, LONGEST_TEXT, MOST_LINKS, MOST_OBJECTS, SPACE_BYTES,
+    SPACE_WORDS,
+};
+pub use object::{Kind, NewKind, NewNode};
+pub use open_file::{DESCRIPTORS, FileKind, OpenFile};
+pub use permission::{Permission, Want};
+pub use tree::a_tree_is_a_map;
+pub use walk::{a_resolution_ends, a_walk_asks_in_order};
