@@ -1,10 +1,12 @@
+-- The bytes of spaces once a word is written or a space is added, and the words that bytes make.
 use Rattle.std.proofs.Common.{zero, suc, ◌≡◌, ℕ, ◌+◌, ◌-◌, ◌*◌, ◌/◌, ◌%◌, ◌^◌, ◌<◌, ◌≤◌, inl, inr, Bool, true, false, cond, List, [], ◌∷◌, ◌++◌, length, get_or, set, replicate, eqb, refl, ap, sym, ◌∙◌, arith, subst}
 use Rattle.std.proofs.lemmas.Bool.{cases_eq, eq-eqb, ne_eqb, cond-true, cond-false}
 use Rattle.std.proofs.lemmas.List.{get_or-set_same, get_or-set_other, ext_get_or}
 use Rattle.std.proofs.lemmas.List.FromFn.{get_or-map-range_with_len, map-range_with_len_more}
 use Rattle.std.proofs.lemmas.Nat.{from_le_bytes-to_le_bytes_8}
 use Rattle.std.specs.Int.{w64, to_le_bytes, from_le_bytes}
-use Rattle.st_memory.specs.Memory.{bytes_from, word_of, stored_in, byte_of, byte_in}
+use Rattle.st_memory.specs.Memory.{byte_of, byte_in}
+use Rattle.st_model.specs.Memory.{bytes_from, word_of, bytes_after_store}
 
 get_or-set : {A : Type 0} (xs : List A) (i : ℕ) (y : A) (s : ℕ) (d : A) → i < length xs → get_or (set xs i y) s d ≡ cond (eqb s i) y (get_or xs s d)
 get_or-set xs i y s d inside = elim (cases_eq s i) [
@@ -17,7 +19,7 @@ under_cond f true x y = refl
 under_cond f false x y = refl
 
 -- a word written at a place
-pub byte_of-set : (words : List ℕ) (place word b : ℕ) → place < length words → byte_of (set words place word) b ≡ stored_in (byte_of words) place word b
+pub byte_of-set : (words : List ℕ) (place word b : ℕ) → place < length words → byte_of (set words place word) b ≡ bytes_after_store (byte_of words) place word b
 byte_of-set words place word b inside =
     let f : ℕ → ℕ = λ (w : ℕ). get_or (to_le_bytes w64 w) (b % 8) 0 in
     ap f (get_or-set words place word (b / 8) 0 inside) ∙ under_cond f (eqb (b / 8) place) word (get_or words (b / 8) 0)

@@ -1,24 +1,26 @@
+-- Bytes that are put into parts of words.
 use Rattle.std.proofs.Common.{zero, suc, ◌≡◌, ℕ, ◌+◌, ◌-◌, ◌/◌, ◌%◌, ◌^◌, ◌<◌, ◌≤◌, ◌⊎◌, inl, inr, ◌&&◌, List, ◌++◌, length, get_or, set, take, drop, eqb, nat_le, nat_lt, refl, ap, sym, ◌∙◌, arith, subst}
 use Rattle.std.proofs.lemmas.Bool.{cases_lt, cases_eq, le-leb, lt-leb, lt-ltb, le-ltb, eq-eqb, ne_eqb, cond-true, cond-false, and_from, and_left, and_right, cond_both}
 use Rattle.std.proofs.lemmas.List.{get_or-take, get_or-drop, length-take-le, length-drop, length-append, get_or_append_left, get_or-append_right}
 use Rattle.std.proofs.lemmas.Nat.{mod_below, le_bytes_8}
 use Rattle.std.specs.Int.{w64, to_le_bytes, from_le_bytes, byte_at, bytes_low_first}
 use borrow.Rule.Slice.PartMut.{put_mid}
-use Rattle.st_memory.specs.Memory.{put_in, byte_of}
+use Rattle.st_memory.specs.Memory.{byte_of}
+use Rattle.st_model.specs.Memory.{bytes_after_put}
 use Rattle.st_memory.proofs.Bytes.{byte_of-set}
 
 -- a byte that is put, one below them and one above
-put_in-inside : (before : ℕ → ℕ) (at : ℕ) (bytes : List ℕ) (b : ℕ) → at ≤ b → b < at + length bytes → put_in before at bytes b ≡ get_or bytes (b - at) 0
+put_in-inside : (before : ℕ → ℕ) (at : ℕ) (bytes : List ℕ) (b : ℕ) → at ≤ b → b < at + length bytes → bytes_after_put before at bytes b ≡ get_or bytes (b - at) 0
 put_in-inside before at bytes b low high =
     cond-true (nat_le at b && nat_lt b (at + length bytes)) (get_or bytes (b - at) 0) (before b)
     (and_from (nat_le at b) (nat_lt b (at + length bytes)) (le-leb at b low) (lt-ltb b (at + length bytes) high))
 
-put_in-below : (before : ℕ → ℕ) (at : ℕ) (bytes : List ℕ) (b : ℕ) → b < at → put_in before at bytes b ≡ before b
+put_in-below : (before : ℕ → ℕ) (at : ℕ) (bytes : List ℕ) (b : ℕ) → b < at → bytes_after_put before at bytes b ≡ before b
 put_in-below before at bytes b low =
     cond-false (nat_le at b && nat_lt b (at + length bytes)) (get_or bytes (b - at) 0) (before b)
     (and_left (nat_le at b) (nat_lt b (at + length bytes)) (lt-leb at b low))
 
-put_in-above : (before : ℕ → ℕ) (at : ℕ) (bytes : List ℕ) (b : ℕ) → at + length bytes ≤ b → put_in before at bytes b ≡ before b
+put_in-above : (before : ℕ → ℕ) (at : ℕ) (bytes : List ℕ) (b : ℕ) → at + length bytes ≤ b → bytes_after_put before at bytes b ≡ before b
 put_in-above before at bytes b high =
     cond-false (nat_le at b && nat_lt b (at + length bytes)) (get_or bytes (b - at) 0) (before b)
     (and_right (nat_le at b) (nat_lt b (at + length bytes)) (le-ltb b (at + length bytes) high))
@@ -32,8 +34,8 @@ lies at n b = elim (cases_lt b at) [
 
 -- the bytes so far, and then more from where they end, are the bytes up to there
 pub put_in-more : (before between : ℕ → ℕ) (at : ℕ) (bytes : List ℕ) (done end : ℕ) → done ≤ end → end ≤ length bytes
-    → ((b : ℕ) → between b ≡ put_in before at (take done bytes) b) → (b : ℕ)
-    → put_in between (at + done) (take (end - done) (drop done bytes)) b ≡ put_in before at (take end bytes) b
+    → ((b : ℕ) → between b ≡ bytes_after_put before at (take done bytes) b) → (b : ℕ)
+    → bytes_after_put between (at + done) (take (end - done) (drop done bytes)) b ≡ bytes_after_put before at (take end bytes) b
 put_in-more before between at bytes done end order inside so_far b =
     let n_part : length (take (end - done) (drop done bytes)) ≡ end - done = length-take-le (end - done) (drop done bytes) (omega (arith, length-drop done bytes)) in
     let n_done : length (take done bytes) ≡ done = length-take-le done bytes (omega arith) in
@@ -65,8 +67,8 @@ put_in-more before between at bytes done end order inside so_far b =
 
 -- what is made of the one word into which the bytes fall is made of the page
 pub byte_of-merged : (words : List ℕ) (place old word at : ℕ) (part : List ℕ) → old ≡ get_or words place 0 → place ≡ at / 8 → place < length words → at % 8 + length part ≤ 8
-    → ((k : ℕ) → k < 8 → get_or (to_le_bytes w64 word) k 0 ≡ put_in (λ (n : ℕ). get_or (to_le_bytes w64 old) n 0) (at % 8) part k)
-    → (b : ℕ) → byte_of (set words place word) b ≡ put_in (byte_of words) at part b
+    → ((k : ℕ) → k < 8 → get_or (to_le_bytes w64 word) k 0 ≡ bytes_after_put (λ (n : ℕ). get_or (to_le_bytes w64 old) n 0) (at % 8) part k)
+    → (b : ℕ) → byte_of (set words place word) b ≡ bytes_after_put (byte_of words) at part b
 byte_of-merged words place old word at part read is inside one merged b =
     let was : ℕ → ℕ = λ (n : ℕ). get_or (to_le_bytes w64 old) n 0 in
     byte_of-set words place word b inside ∙ elim (cases_eq (b / 8) place) [
@@ -104,7 +106,7 @@ bytes-small i (suc count) n zero = byte_at-small i n
 bytes-small i (suc count) n (suc k) = bytes-small (suc i) count n k
 
 -- bytes written over a part of a list are put there
-put_mid-put_in : (old part : List ℕ) (from width k : ℕ) → from + width ≤ length old → length part ≡ width → get_or (put_mid from width old part) k 0 ≡ put_in (λ (n : ℕ). get_or old n 0) from part k
+put_mid-put_in : (old part : List ℕ) (from width k : ℕ) → from + width ≤ length old → length part ≡ width → get_or (put_mid from width old part) k 0 ≡ bytes_after_put (λ (n : ℕ). get_or old n 0) from part k
 put_mid-put_in old part from width k inside is =
     let was : ℕ → ℕ = λ (n : ℕ). get_or old n 0 in
     let rest : List ℕ = drop width (drop from old) in
@@ -123,20 +125,20 @@ put_mid-put_in old part from width k inside is =
       ]
     ]
 
-put_in-small : (before : ℕ → ℕ) (at : ℕ) (bytes : List ℕ) (b : ℕ) → before b < 256 → get_or bytes (b - at) 0 < 256 → put_in before at bytes b < 256
+put_in-small : (before : ℕ → ℕ) (at : ℕ) (bytes : List ℕ) (b : ℕ) → before b < 256 → get_or bytes (b - at) 0 < 256 → bytes_after_put before at bytes b < 256
 put_in-small before at bytes b old new =
     cond_both (nat_le at b && nat_lt b (at + length bytes)) (get_or bytes (b - at) 0) (before b) (λ (x : ℕ). x < 256) (λ e. new) (λ e. old)
 
 -- the word of eight bytes of which some were written over
 pub merged-is : (word from width result : ℕ) (old part new : List ℕ) → old ≡ to_le_bytes w64 word → new ≡ part → length part ≡ width → from + width ≤ 8 → ((i : ℕ) → get_or part i 0 < 256)
     → result ≡ from_le_bytes w64 (put_mid from width old new)
-    → (k : ℕ) → k < 8 → get_or (to_le_bytes w64 result) k 0 ≡ put_in (λ (n : ℕ). get_or (to_le_bytes w64 word) n 0) from part k
+    → (k : ℕ) → k < 8 → get_or (to_le_bytes w64 result) k 0 ≡ bytes_after_put (λ (n : ℕ). get_or (to_le_bytes w64 word) n 0) from part k
 merged-is word from width result old part new old_is new_is width_is inside small is k low =
     let before : List ℕ = to_le_bytes w64 word in
     let bytes : List ℕ = put_mid from width before part in
     let same : put_mid from width old new ≡ bytes = ap (λ (xs : List ℕ). put_mid from width xs new) old_is ∙ ap (λ (xs : List ℕ). put_mid from width before xs) new_is in
     let eight : length before ≡ 8 = refl in
-    let put_is : (i : ℕ) → get_or bytes i 0 ≡ put_in (λ (n : ℕ). get_or before n 0) from part i = λ (i : ℕ). put_mid-put_in before part from width i (omega arith) width_is in
+    let put_is : (i : ℕ) → get_or bytes i 0 ≡ bytes_after_put (λ (n : ℕ). get_or before n 0) from part i = λ (i : ℕ). put_mid-put_in before part from width i (omega arith) width_is in
     let each : (i : ℕ) → get_or bytes i 0 < 256 = λ (i : ℕ). subst (λ (x : ℕ). x < 256) (sym (put_is i)) (put_in-small (λ (n : ℕ). get_or before n 0) from part i (bytes-small 0 8 word i) (small (i - from))) in
     let count : length bytes ≡ 8 = omega (arith, length-append (take from before) (part ++ drop width (drop from before)), length-append part (drop width (drop from before)), length-drop width (drop from before), length-drop from before, length-take-le from before (omega arith)) in
     ap (λ (xs : List ℕ). get_or xs k 0) (le_bytes_8 bytes result count each (is ∙ ap (from_le_bytes w64) same)) ∙ put_is k

@@ -1,8 +1,8 @@
 -- The memories of processes, as the words that they are kept in.
-pub use Rattle.st_base.specs.Memory.{bytes_from, word_of, stored_in, put_in, stored, put}
+pub use Rattle.st_model.specs.Memory.{bytes_from, word_of, bytes_after_store, bytes_after_put, memory_after_store, memory_after_put}
 use Rattle.std.specs.Prelude.{ℕ, ◌+◌, ◌/◌, ◌%◌, ◌<◌, ◌≤◌, List, [], ◌∷◌, length, slice_index, slice_index_or}
 use Rattle.std.specs.Int.{w64, to_le_bytes}
-use Rattle.st_memory.specs.declared.page.TheConstants.{SPACE_BYTES}
+use Rattle.st_model.specs.declared.limits.TheConstants.{SPACE_BYTES}
 
 -- byte b of a space of these words; behind the last word, 0
 abbrev pub byte_of : List ℕ → ℕ → ℕ

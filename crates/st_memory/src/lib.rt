@@ -4,8 +4,8 @@
 mod page;
 pub mod spaces;
 
-pub use page::{SPACE_BYTES, SPACE_WORDS};
-pub use spaces::{MemFault, Space, Spaces};
+pub use spaces::{MemFault, Spaces};
+pub use st_model::{SPACE_BYTES, SPACE_WORDS};
 
 #[cfg(test)]
 mod tests;

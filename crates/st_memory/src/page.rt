@@ -1,15 +1,11 @@
 ghost use Rattle.std.specs.Prelude.{◌≡◌, ℕ, ◌+◌, ◌%◌, ◌<◌, ◌≤◌, length, slice_index, IfOk};
 ghost use Rattle.std.specs.Int.{w64, to_le_bytes};
-ghost use Rattle.st_memory.specs.Memory.{byte_of, put_in, stored_in, word_of};
+ghost use Rattle.st_memory.specs.Memory.{byte_of};
+ghost use Rattle.st_model.specs.Memory.{bytes_after_put, bytes_after_store, word_of};
 
+use st_model::{SPACE_BYTES, SPACE_WORDS};
 use std::alloc::{AllocError, Global};
 use std::marker::Model;
-
-/// How many words a space has.
-pub const SPACE_WORDS: u32 = 8_192;
-
-/// How many bytes a space has.
-pub const SPACE_BYTES: u64 = 65_536;
 
 /// The words of one space.
 #[derive(Debug, Drop)]
@@ -19,12 +15,11 @@ pub struct Page {
 
 impl Model for Page {
     ghost use Rattle.std.specs.Prelude.{◌≡◌, List, ℕ, length};
+    ghost use Rattle.st_model.specs.declared.limits.TheConstants.{SPACE_WORDS};
 
     ghost Value = { List ℕ };
 
     ghost view = { λ p. p.words.items };
-
-    ghost use Rattle.st_memory.specs.declared.page.TheConstants.{SPACE_WORDS};
 
     ghost invariant = { λ p. length p.words.items ≡ SPACE_WORDS };
 }
@@ -58,7 +53,7 @@ impl Page {
     /// Stores a word at a place.
     pub fn put_word(&mut self, place: usize, word: u64)
         requires { place < SPACE_WORDS }
-        ensures { (b : ℕ) → byte_of self.new b ≡ stored_in (byte_of self.old) place word b }
+        ensures { (b : ℕ) → byte_of self.new b ≡ bytes_after_store (byte_of self.old) place word b }
     {
         self.words[place] = word;
     }
@@ -67,7 +62,7 @@ impl Page {
     fn put_part(&mut self, at: usize, part: &[u8])
         requires inside { at < SPACE_BYTES }
         requires one_word { at % 8 + length part.now ≤ 8 }
-        ensures { (b : ℕ) → byte_of self.new b ≡ put_in (byte_of self.old) at part.now b }
+        ensures { (b : ℕ) → byte_of self.new b ≡ bytes_after_put (byte_of self.old) at part.now b }
     {
         let place = at / 8;
         self.words[place] = merged(self.words[place], at % 8, part);
@@ -76,7 +71,7 @@ impl Page {
     /// Puts bytes from this one on, a word at a time.
     pub fn put_bytes(&mut self, at: usize, bytes: &[u8])
         requires { 0 < length bytes.now → at + length bytes.now ≤ SPACE_BYTES }
-        ensures { (b : ℕ) → byte_of self.new b ≡ put_in (byte_of self.old) at bytes.now b }
+        ensures { (b : ℕ) → byte_of self.new b ≡ bytes_after_put (byte_of self.old) at bytes.now b }
     {
         let mut done = 0;
         while done < bytes.len() {
@@ -91,7 +86,7 @@ impl Page {
 // A word with some of its bytes replaced, from this one on.
 fn merged(word: u64, from: usize, part: &[u8]) -> u64
     requires { from + length part.now ≤ 8 }
-    ensures { (k : ℕ) → k < 8 → slice_index (to_le_bytes w64 result) k ≡ put_in (slice_index (to_le_bytes w64 word)) from part.now k }
+    ensures { (k : ℕ) → k < 8 → slice_index (to_le_bytes w64 result) k ≡ bytes_after_put (slice_index (to_le_bytes w64 word)) from part.now k }
 {
     let mut bytes = word.to_le_bytes();
     bytes[from..from + part.len()].copy_from_slice(part);

@@ -1,20 +1,22 @@
 ghost use Rattle.std.specs.Prelude.{◌≡◌, ℕ, ◌+◌, ◌-◌, ◌^◌, ◌<◌, ◌≤◌, ◌↔◌, [], length, IsTrue, IsNone, IsErr, IsErrOf, IfSome, IfOk, IfErr, OnOk, OnErr};
-ghost use Rattle.st_memory.specs.Memory.{byte_in, bytes_from, put, stored, word_of, IsMade, IsOutside};
+ghost use Rattle.st_memory.specs.Memory.{byte_in, IsMade, IsOutside};
+ghost use Rattle.st_model.specs.Memory.{bytes_from, memory_after_put, memory_after_store, word_of};
 
-use crate::page::{Page, SPACE_BYTES, SPACE_WORDS};
-use st_base::Text;
+use crate::page::Page;
+use st_base::{Space, Text};
+use st_model::{SPACE_BYTES, SPACE_WORDS};
 use std::alloc::{AllocError, Global};
 use std::marker::Model;
-
-/// The number of a memory space, from 1.
-pub type Space = u32;
+use thiserror::Error;
 
 /// Why memory could not be read or written.
-#[derive(Clone, Copy, Debug, PartialEq, Eq)]
+#[derive(Clone, Copy, Debug, PartialEq, Eq, Drop, Error)]
 pub enum MemFault {
     /// Something past the end of the space is meant.
+    #[error("past the end of the memory")]
     Outside,
     /// There is no memory for the answer.
+    #[error("out of memory")]
     NoMemory,
 }
 
@@ -83,7 +85,7 @@ impl Spaces {
     /// Stores a word at a place of a space, and changes nothing else.
     pub fn put_word(&mut self, space: Space, place: u32, word: u64) -> Result<(), MemFault>
         requires { IsMade self.old space }
-        ensures ok { OnOk result ((s b : ℕ) → byte_in self.new s b ≡ stored (byte_in self.old) space place word s b) }
+        ensures ok { OnOk result ((s b : ℕ) → byte_in self.new s b ≡ memory_after_store (byte_in self.old) space place word s b) }
         ensures made { length self.new ≡ length self.old }
 
         ensures outside { IsErr result ↔ (SPACE_WORDS ≤ place) }
@@ -100,7 +102,7 @@ impl Spaces {
     /// Puts bytes into a space, from this byte on, and changes nothing else.
     pub fn put_bytes(&mut self, space: Space, at: u64, bytes: &[u8]) -> Result<(), MemFault>
         requires { IsMade self.old space }
-        ensures ok { OnOk result ((s b : ℕ) → byte_in self.new s b ≡ put (byte_in self.old) space at bytes.now s b) }
+        ensures ok { OnOk result ((s b : ℕ) → byte_in self.new s b ≡ memory_after_put (byte_in self.old) space at bytes.now s b) }
         ensures made { length self.new ≡ length self.old }
 
         ensures outside { IsErr result ↔ IsOutside at (length bytes.now) }

@@ -1,5 +1,6 @@
 use Rattle.std.proofs.Common.{◌≡◌}
-use Rattle.st_memory.specs.Memory.{byte_of, bytes_from}
+use Rattle.st_memory.specs.Memory.{byte_of}
+use Rattle.st_model.specs.Memory.{bytes_from}
 use Rattle.st_memory.proofs.spaces.Spaces.bytes.Given as goal
 
 -- the bytes so far

@@ -1,4 +1,5 @@
-use Rattle.st_memory.specs.Memory.{word_of, IsMade}
+use Rattle.st_memory.specs.Memory.{IsMade}
+use Rattle.st_model.specs.Memory.{word_of}
 use Rattle.st_memory.proofs.Bytes.{read-in}
 use Rattle.st_memory.proofs.spaces.Spaces.word.Goals as goal
 
