@@ -1,3 +1,4 @@
+-- An entry that is put and taken out again, and one that is written.
 use Rattle.std.proofs.Common.{◌≡◌, ◌∙◌, arith, ℕ, true, false, cond, List, [], ◌∷◌, Some, refl, ap, sym, subst}
 use Rattle.std.proofs.lemmas.Bool.{true≢false}
 use Rattle.std.specs.Prelude.{is_some}
@@ -20,19 +21,6 @@ module _ {K X : Type 0} (cmp : K → K → Ordering) (k : K) (v : X) (same : cmp
   taken_out-cmp : (es : List (K × X)) → is_some (lookup (is_at (cmp k)) es) ≡ false → remove_entry (is_at (cmp k)) (insert_entry cmp es k v) ≡ es
   taken_out-cmp [] none = rw same refl
   taken_out-cmp (e ∷ es) none = taken_out-by (cmp k e.0) e es refl none (taken_out-cmp es)
-
-  looked_up-by : (o : Ordering) (e : K × X) (es : List (K × X)) → cmp k e.0 ≡ o → lookup (is_at (cmp k)) (insert_entry cmp es k v) ≡ Some v → lookup (is_at (cmp k)) (insert_entry cmp (e ∷ es) k v) ≡ Some v
-  looked_up-by Less e es is more = rw (is, same) refl
-  looked_up-by Equal e es is more = rw (is, is) refl
-  looked_up-by Greater e es is more = rw (is, is) more
-
-  looked_up-cmp : (es : List (K × X)) → lookup (is_at (cmp k)) (insert_entry cmp es k v) ≡ Some v
-  looked_up-cmp [] = rw same refl
-  looked_up-cmp (e ∷ es) = looked_up-by (cmp k e.0) e es refl (looked_up-cmp es)
-
--- what was put in is found
-pub looked_up : {X : Type 0} (k : ℕ) (v : X) (es : List (ℕ × X)) → lookup (is_at (nat_cmp k)) (insert_entry nat_cmp es k v) ≡ Some v
-looked_up k v es = looked_up-cmp nat_cmp k v (sym (nat_cmp_is k k Equal refl)) es
 
 -- an entry that was put in where its key had none, and is taken out
 pub taken_out : {X : Type 0} (k : ℕ) (v : X) (es : List (ℕ × X)) → is_some (lookup (is_at (nat_cmp k)) es) ≡ false → remove_entry (is_at (nat_cmp k)) (insert_entry nat_cmp es k v) ≡ es

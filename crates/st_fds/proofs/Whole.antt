@@ -1,3 +1,4 @@
+-- What keeps a table whole, and what a whole table says of its descriptors.
 use Rattle.std.proofs.Common.{◌≡◌, ℕ, ◌+◌, ◌<◌, ◌≤◌, Bool, true, false, cond, List, [], ◌∷◌, Option, Some, None, inl, inr, length, get_or, set, replicate, refl, ap, sym, ◌∙◌, subst, arith}
 use Rattle.std.proofs.lemmas.Bool.{true≢false, ltb-true, ltb-false, not-false}
 use Rattle.std.proofs.lemmas.List.{length-set}
@@ -11,10 +12,10 @@ use Rattle.std.specs.Ordering.{nat_cmp}
 use Rattle.std.specs.Map.{lookup, remove_entry, values_of}
 use Rattle.std.specs.BTreeMap.{insert_entry, is_at}
 use Rattle.std.specs.List.{prefix_len}
-use Rattle.st_base.specs.declared.open_file.OpenFile.{OpenFile}
-use Rattle.st_base.specs.declared.open_file.TheConstants.{DESCRIPTORS}
-use Rattle.st_base.specs.Opening.{all_free, three_from}
-use Rattle.st_base.specs.Descriptors.{Table, has_table, places_in, numbered, least_free, number_at}
+use Rattle.st_model.specs.declared.open_file.OpenFile.{OpenFile}
+use Rattle.st_model.specs.declared.open_file.TheConstants.{DESCRIPTORS}
+use Rattle.st_model.specs.DescriptorCalls.{all_free, first_three_places}
+use Rattle.st_model.specs.Descriptors.{Table, has_table, places_in, file_of_number, least_free, file_number_at}
 use Rattle.st_fds.specs.Table.{IsPlace, ArePlaces, IsWhole, IsLeastFree, AreOpenBelow}
 
 -- more open files
@@ -25,16 +26,16 @@ place_more m n (Some number) more is = omega arith
 pub places_more : (m n : ℕ) (places : List (Option ℕ)) → m ≤ n → ArePlaces m places → ArePlaces n places
 places_more m n places more are = (are.0, λ k d inside. place_more m n (get_or places k d) more (are.1 k d inside))
 
-pub more : (m n : ℕ) (es : List (ℕ × List (Option ℕ))) → m ≤ n → IsWhole es m → IsWhole es n
-more m n es larger whole = λ k d inside. places_more m n (get_or (values_of es) k d) larger (whole k d inside)
+pub whole-more_files : (m n : ℕ) (es : List (ℕ × List (Option ℕ))) → m ≤ n → IsWhole es m → IsWhole es n
+whole-more_files m n es larger whole = λ k d inside. places_more m n (get_or (values_of es) k d) larger (whole k d inside)
 
 -- one place changes
-pub placed : (count : ℕ) (places : List (Option ℕ)) (fd : ℕ) (place : Option ℕ) → IsPlace count place → ArePlaces count places → ArePlaces count (set places fd place)
-placed count places fd place is are = (length-set places fd place ∙ are.0, All-set (IsPlace count) places fd place is are.1)
+pub places-set : (count : ℕ) (places : List (Option ℕ)) (fd : ℕ) (place : Option ℕ) → IsPlace count place → ArePlaces count places → ArePlaces count (set places fd place)
+places-set count places fd place is are = (length-set places fd place ∙ are.0, All-set (IsPlace count) places fd place is are.1)
 
 -- one process changes
-pub put : (count : ℕ) (es : List (ℕ × List (Option ℕ))) (pid : ℕ) (places : List (Option ℕ)) → IsWhole es count → ArePlaces count places → IsWhole (insert_entry nat_cmp es pid places) count
-put count es pid places whole are = All-values-insert_entry nat_cmp pid places (ArePlaces count) es whole are
+pub whole-put : (count : ℕ) (es : List (ℕ × List (Option ℕ))) (pid : ℕ) (places : List (Option ℕ)) → IsWhole es count → ArePlaces count places → IsWhole (insert_entry nat_cmp es pid places) count
+whole-put count es pid places whole are = All-values-insert_entry nat_cmp pid places (ArePlaces count) es whole are
 
 pub taken_away : (count : ℕ) (es : List (ℕ × List (Option ℕ))) (pid : ℕ) → IsWhole es count → IsWhole (remove_entry (is_at (nat_cmp pid)) es) count
 taken_away count es pid whole = All-map-remove_entry (is_at (nat_cmp pid)) (λ e. e.1) (ArePlaces count) es whole
@@ -43,7 +44,7 @@ taken_away count es pid whole = All-map-remove_entry (is_at (nat_cmp pid)) (λ e
 pub free_places : (count : ℕ) → ArePlaces count all_free
 free_places count = (refl, All-replicate (IsPlace count) 64 None tt)
 
-pub three_places : (first : ℕ) → ArePlaces (first + 3) (three_from first)
+pub three_places : (first : ℕ) → ArePlaces (first + 3) (first_three_places first)
 three_places first =
     let none : List (Option ℕ) = replicate 61 None in
     let Is : Option ℕ → Type 0 = IsPlace (first + 3) in
@@ -67,7 +68,7 @@ fields_have t u pid is has = subst (λ v. has_table v pid ≡ true) (sym is) has
 pub one_place : (m n : ℕ) (es new : List (ℕ × List (Option ℕ))) (pid fd : ℕ) (place : Option ℕ) (places : List (Option ℕ)) → IsWhole es m → is_some (lookup (is_at (nat_cmp pid)) es) ≡ true → places ≡ places_in es pid → new ≡ insert_entry nat_cmp es pid (set places fd place) → m ≤ n → IsPlace n place → IsWhole new n
 one_place m n es new pid fd place places whole has places_are new_is larger is =
     let before = places_more m n places larger (subst (ArePlaces m) (sym places_are) (places_at m es pid has whole)) in
-    subst (λ es. IsWhole es n) (sym new_is) (put n es pid (set places fd place) (more m n es larger whole) (placed n places fd place is before))
+    subst (λ es. IsWhole es n) (sym new_is) (whole-put n es pid (set places fd place) (whole-more_files m n es larger whole) (places-set n places fd place is before))
 
 -- a place that isn't free leads to an open file
 there : (files : List OpenFile) (number : ℕ) → number < length files → is_some (slice_get files number) ≡ true
@@ -76,18 +77,18 @@ there files number inside = elim (slice_get_cases files number).1 [
   | inr past ↦ absurd (omega (arith, past.0, inside))
 ]
 
-leads : (files : List OpenFile) (place : Option ℕ) → IsPlace (length files) place → not (is_none place) ≡ true → is_some (numbered files place) ≡ true
+leads : (files : List OpenFile) (place : Option ℕ) → IsPlace (length files) place → not (is_none place) ≡ true → is_some (file_of_number files place) ≡ true
 leads files None is taken = absurd (true≢false (sym taken))
 leads files (Some number) is taken = there files number is
 
-free_leads : (files : List OpenFile) (place : Option ℕ) → is_none place ≡ true → numbered files place ≡ None
+free_leads : (files : List OpenFile) (place : Option ℕ) → is_none place ≡ true → file_of_number files place ≡ None
 free_leads files None free = refl
 free_leads files (Some number) free = absurd (true≢false (sym free))
 
 module _ (t : Table) (pid : ℕ) (are : ArePlaces (length t.files) (places_in t.processes pid)) where
   -- each descriptor below the first free place is open
   open_below : (fd : ℕ) → fd ≤ prefix_len (λ place. not (is_none place)) (places_in t.processes pid) → fd ≤ 64 → AreOpenBelow t pid fd
-  open_below fd within most other below = leads t.files (number_at t pid other) (are.1 other None (omega (arith, are.0))) (prefix_len_passes (λ place. not (is_none place)) (places_in t.processes pid) other None (omega arith))
+  open_below fd place_within most other below = leads t.files (file_number_at t pid other) (are.1 other None (omega (arith, are.0))) (prefix_len_passes (λ place. not (is_none place)) (places_in t.processes pid) other None (omega arith))
 
   pub least : (fd : ℕ) → least_free t pid ≡ Some fd → IsLeastFree t pid fd
   least fd is =
@@ -110,9 +111,9 @@ module _ (t : Table) (pid : ℕ) (are : ArePlaces (length t.files) (places_in t.
   full is = full_by _ (prefix_len (λ place. not (is_none place)) (places_in t.processes pid)) refl refl is
 
 -- of a struct's value, where its fields are whole
-pub within : (t u : Table) (place : Option ℕ) → t ≡ u → IsPlace (length t.files) place → IfSome place (λ number. number < length u.files)
-within t u None same is = tt
-within t u (Some number) same is = subst (λ v. number < length v.files) same is
+pub place_within : (t u : Table) (place : Option ℕ) → t ≡ u → IsPlace (length t.files) place → IfSome place (λ number. number < length u.files)
+place_within t u None same is = tt
+place_within t u (Some number) same is = subst (λ v. number < length v.files) same is
 
 pub least_of : (t u : Table) (pid : ℕ) (found : Option ℕ) → t ≡ u → ArePlaces (length t.files) (places_in t.processes pid) → least_free t pid ≡ found → IfSome found (λ fd. IsLeastFree u pid fd)
 least_of t u pid None same are is = tt

@@ -2,23 +2,24 @@
 use Rattle.std.specs.Prelude.{ℕ, Option, Some, None}
 use Rattle.std.specs.declared.result.Result.{Result}
 use Rattle.std.specs.declared.result.Result.TheVariants.{Ok, Err}
-use Rattle.st_base.specs.Descriptors.{Table, file_at, least_free}
+use Rattle.st_model.specs.Descriptors.{Table, file_at, least_free}
 use Rattle.st_base.specs.declared.errno.Errno.{Errno}
 use Rattle.st_base.specs.declared.errno.Errno.TheVariants.{EBADF, EMFILE}
-use Rattle.st_base.specs.declared.open_file.OpenFile.{OpenFile}
+use Rattle.st_model.specs.declared.open_file.OpenFile.{OpenFile}
 use Rattle.st_fds.specs.declared.fds.FdFault.{FdFault}
 use Rattle.st_fds.specs.declared.fds.FdFault.TheVariants.{Os}
 
 -- a call that is refused for a reason, or goes well
-abbrev pub answer : Option Errno → Result (Unit {0}) Errno
-answer None = Ok tt
-answer (Some errno) = Err errno
+abbrev pub result_of_refusal : Option Errno → Result (Unit {0}) Errno
+result_of_refusal None = Ok tt
+result_of_refusal (Some errno) = Err errno
 
 -- first that the descriptor isn't open, then that all are
-abbrev pub dup_answer_at : Option OpenFile → Option ℕ → Result ℕ FdFault
-dup_answer_at None least = Err (Os EBADF)
-dup_answer_at (Some file) None = Err (Os EMFILE)
-dup_answer_at (Some file) (Some least) = Ok least
+abbrev pub dup_result_at : Option OpenFile → Option ℕ → Result ℕ FdFault
+dup_result_at None least = Err (Os EBADF)
+dup_result_at (Some file) None = Err (Os EMFILE)
+dup_result_at (Some file) (Some least) = Ok least
 
-abbrev pub dup_answer : Table → ℕ → ℕ → Result ℕ FdFault
-dup_answer t pid fd = dup_answer_at (file_at t pid fd) (least_free t pid)
+-- what dup answers for a descriptor of a process: the least free one, or why the call is refused
+abbrev pub dup_result : Table → ℕ → ℕ → Result ℕ FdFault
+dup_result t pid fd = dup_result_at (file_at t pid fd) (least_free t pid)

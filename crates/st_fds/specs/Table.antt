@@ -1,8 +1,8 @@
 -- What every table of descriptors keeps to.
 use Rattle.std.specs.Prelude.{◌≡◌, ℕ, ◌<◌, length, All, Bool, true, if◌then◌else◌, ◌==◌, List, Option, Some, None, is_some}
 use Rattle.std.specs.Map.{values_of}
-use Rattle.st_base.specs.Descriptors.{Table, has_table, file_at}
-use Rattle.st_base.specs.declared.open_file.TheConstants.{DESCRIPTORS}
+use Rattle.st_model.specs.Descriptors.{Table, has_table, file_at}
+use Rattle.st_model.specs.declared.open_file.TheConstants.{DESCRIPTORS}
 
 -- a place is free, or leads to one of so many open files
 abbrev pub IsPlace : ℕ → Option ℕ → Type 0

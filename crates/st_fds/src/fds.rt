@@ -1,24 +1,28 @@
 ghost use Rattle.std.specs.Prelude.{◌≡◌, ◌≢◌, [], ℕ, ◌<◌, ◌↔◌, Some, None, true, false, length, IsErrOf, IsNone, IfNone, IfSome, IfOk, IfErr, OnOk, OnErr};
 ghost use Rattle.st_base.specs.declared.errno.Errno.TheVariants.{EBADF, EMFILE};
-ghost use Rattle.st_base.specs.declared.open_file.TheConstants.{DESCRIPTORS};
+ghost use Rattle.st_model.specs.declared.open_file.TheConstants.{DESCRIPTORS};
 ghost use Rattle.st_fds.specs.declared.fds.FdFault.TheVariants.{Os, NoMemory};
-ghost use Rattle.st_base.specs.Descriptors.{Table, file_at, has_table, least_free, number_at, is_taken};
+ghost use Rattle.st_model.specs.Descriptors.{Table, file_at, has_table, least_free, file_number_at, is_port_in_use};
 ghost use Rattle.st_fds.specs.Table.{AreOpenBelow, ChangesTable, IsLeastFree, KeepsTables};
-ghost use Rattle.st_base.specs.Opening.{bind_refused, bound, close_refused, closed, connect_refused, connected, copied, dupped, emptied, opened, seek_refused, sought, started, uncopied};
-ghost use Rattle.st_fds.specs.Calls.{answer, dup_answer};
+ghost use Rattle.st_model.specs.DescriptorCalls.{bind_refused, table_after_bind, close_refused, table_after_close, connect_refused, table_after_connect, table_after_copy, table_after_dup, table_after_close_all, table_after_open, seek_refused, table_after_seek, table_after_start, table_after_uncopy};
+ghost use Rattle.st_fds.specs.Calls.{result_of_refusal, dup_result};
 
 use crate::places::{self, Places};
-use st_base::{DESCRIPTORS, Errno, FileKind, OpenFile, Pid};
+use st_base::{Errno, Pid};
+use st_model::{DESCRIPTORS, FileKind, OpenFile};
 use std::alloc::{AllocError, Global};
 use std::collections::BTreeMap;
 use std::marker::Model;
+use thiserror::Error;
 
 /// Why a descriptor could not be given.
-#[derive(Clone, Copy, Debug, PartialEq, Eq)]
+#[derive(Clone, Copy, Debug, PartialEq, Eq, Drop, Error)]
 pub enum FdFault {
     /// The call fails with this error.
+    #[error("the call fails")]
     Os(Errno),
     /// There is no memory for the open file.
+    #[error("out of memory")]
     NoMemory,
 }
 
@@ -42,7 +46,7 @@ pub struct Fds {
 }
 
 impl Model for Fds {
-    ghost use Rattle.st_base.specs.Descriptors.{Table};
+    ghost use Rattle.st_model.specs.Descriptors.{Table};
 
     ghost Value = { Table };
 
@@ -70,7 +74,7 @@ impl Fds {
     pub fn get(&self, pid: Pid, fd: u64) -> Option<OpenFile>
         requires { has_table self.now pid ≡ true }
         ensures file { result ≡ file_at self.now pid fd }
-        ensures none { IsNone result ↔ (number_at self.now pid fd ≡ None) }
+        ensures none { IsNone result ↔ (file_number_at self.now pid fd ≡ None) }
     {
         match self.number(pid, fd) {
             Some(number) => Some(self.files[number]),
@@ -81,7 +85,7 @@ impl Fds {
     // The number of the open file that a descriptor leads to.
     fn number(&self, pid: Pid, fd: u64) -> Option<usize>
         requires { has_table self.now pid ≡ true }
-        ensures number { result ≡ number_at self.now pid fd }
+        ensures number { result ≡ file_number_at self.now pid fd }
         ensures within { IfSome result (λ number. number < length self.now.files) }
         ensures below { IfSome result (λ _. fd < DESCRIPTORS) }
     {
@@ -96,7 +100,7 @@ impl Fds {
     // The open file of a descriptor and its number; that it isn't open.
     fn find(&self, pid: Pid, fd: u64) -> Result<(usize, OpenFile), Errno>
         requires { has_table self.now pid ≡ true }
-        ensures number { IfOk result (λ found. number_at self.now pid fd ≡ Some found.0) }
+        ensures number { IfOk result (λ found. file_number_at self.now pid fd ≡ Some found.0) }
         ensures file { IfOk result (λ found. file_at self.now pid fd ≡ Some found.1) }
         ensures within { IfOk result (λ found. found.0 < length self.now.files) }
         ensures fault { IfErr result (λ errno. (errno ≡ EBADF) × (file_at self.now pid fd ≡ None)) }
@@ -121,7 +125,7 @@ impl Fds {
     /// nothing changes.
     pub fn start(&mut self, pid: Pid) -> Result<(), AllocError>
         requires { has_table self.old pid ≡ false }
-        ensures ok { OnOk result (self.new ≡ started self.old pid) }
+        ensures ok { OnOk result (self.new ≡ table_after_start self.old pid) }
         ensures tables { OnOk result (ChangesTable self.old pid true self.new) }
         ensures err { OnErr result (self.new ≡ self.old) }
     {
@@ -143,7 +147,7 @@ impl Fds {
     pub fn copy(&mut self, from: Pid, to: Pid) -> Result<(), AllocError>
         requires from { has_table self.old from ≡ true }
         requires to { has_table self.old to ≡ false }
-        ensures ok { OnOk result (self.new ≡ copied self.old from to) }
+        ensures ok { OnOk result (self.new ≡ table_after_copy self.old from to) }
         ensures tables { OnOk result (ChangesTable self.old to true self.new) }
         ensures err { OnErr result (self.new ≡ self.old) }
     {
@@ -155,9 +159,9 @@ impl Fds {
     /// Takes back the table that `copy` made, where nothing was changed since: all is then as before.
     pub fn uncopy(&mut self, to: Pid)
         requires { has_table self.old to ≡ true }
-        ensures table { self.new ≡ uncopied self.old to }
+        ensures table { self.new ≡ table_after_uncopy self.old to }
         ensures tables { ChangesTable self.old to false self.new }
-        ensures undoes { (t : Table) (from : ℕ) → has_table t to ≡ false → self.old ≡ copied t from to → self.new ≡ t }
+        ensures undoes { (t : Table) (from : ℕ) → has_table t to ≡ false → self.old ≡ table_after_copy t from to → self.new ≡ t }
     {
         self.processes.remove(&to);
     }
@@ -168,7 +172,7 @@ impl Fds {
         requires { has_table self.old pid ≡ true }
         ensures descriptor { IfOk result (λ fd. least_free self.old pid ≡ Some fd) }
         ensures least { IfOk result (λ fd. IsLeastFree self.old pid fd) }
-        ensures ok { OnOk result (self.new ≡ opened self.old pid file) }
+        ensures ok { OnOk result (self.new ≡ table_after_open self.old pid file) }
         ensures tables { KeepsTables self.old self.new }
         ensures full { IsErrOf result (Os EMFILE) ↔ AreOpenBelow self.old pid DESCRIPTORS }
         ensures fault { IfErr result (λ fault. (fault ≢ NoMemory) → fault ≡ Os EMFILE) }
@@ -188,10 +192,10 @@ impl Fds {
     /// takes no memory. EBADF where this one isn't open, then EMFILE where all 64 are.
     pub fn dup(&mut self, pid: Pid, fd: u64) -> Result<u32, FdFault>
         requires { has_table self.old pid ≡ true }
-        ensures answer { result ≡ dup_answer self.old pid fd }
+        ensures answer { result ≡ dup_result self.old pid fd }
         ensures least { IfOk result (λ least. IsLeastFree self.old pid least) }
         ensures full { IsErrOf result (Os EMFILE) → AreOpenBelow self.old pid DESCRIPTORS }
-        ensures table { self.new ≡ dupped self.old pid fd }
+        ensures table { self.new ≡ table_after_dup self.old pid fd }
         ensures tables { KeepsTables self.old self.new }
     {
         let Ok((number, _)) = self.find(pid, fd) else {
@@ -207,8 +211,8 @@ impl Fds {
     /// Frees a descriptor, as close(2) does. EBADF where it isn't open.
     pub fn close(&mut self, pid: Pid, fd: u64) -> Result<(), Errno>
         requires { has_table self.old pid ≡ true }
-        ensures answer { result ≡ answer (close_refused self.old pid fd) }
-        ensures table { self.new ≡ closed self.old pid fd }
+        ensures answer { result ≡ result_of_refusal (close_refused self.old pid fd) }
+        ensures table { self.new ≡ table_after_close self.old pid fd }
         ensures tables { KeepsTables self.old self.new }
     {
         let Some(_) = self.number(pid, fd) else {
@@ -221,7 +225,7 @@ impl Fds {
     /// Frees all descriptors of a process, which keeps its table.
     pub fn close_all(&mut self, pid: Pid)
         requires { has_table self.old pid ≡ true }
-        ensures table { self.new ≡ emptied self.old pid }
+        ensures table { self.new ≡ table_after_close_all self.old pid }
         ensures tables { KeepsTables self.old self.new }
     {
         places::put(&mut self.processes, pid, [None; DESCRIPTORS]);
@@ -230,8 +234,8 @@ impl Fds {
     /// Sets the offset of a descriptor's open file, in bytes, for all that share it. EBADF where it isn't open.
     pub fn seek(&mut self, pid: Pid, fd: u64, offset: u64) -> Result<(), Errno>
         requires { has_table self.old pid ≡ true }
-        ensures answer { result ≡ answer (seek_refused self.old pid fd) }
-        ensures table { self.new ≡ sought self.old pid fd offset }
+        ensures answer { result ≡ result_of_refusal (seek_refused self.old pid fd) }
+        ensures table { self.new ≡ table_after_seek self.old pid fd offset }
         ensures tables { KeepsTables self.old self.new }
     {
         let (number, file) = self.find(pid, fd)?;
@@ -243,8 +247,8 @@ impl Fds {
     /// has a port already or the port is 0, then EADDRINUSE where an open socket has the port.
     pub fn bind(&mut self, pid: Pid, fd: u64, port: u16) -> Result<(), Errno>
         requires { has_table self.old pid ≡ true }
-        ensures answer { result ≡ answer (bind_refused self.old pid fd port) }
-        ensures table { self.new ≡ bound self.old pid fd port }
+        ensures answer { result ≡ result_of_refusal (bind_refused self.old pid fd port) }
+        ensures table { self.new ≡ table_after_bind self.old pid fd port }
         ensures tables { KeepsTables self.old self.new }
     {
         let (number, file) = self.find(pid, fd)?;
@@ -258,7 +262,7 @@ impl Fds {
         if port == 0 {
             return Err(Errno::EINVAL);
         }
-        if self.is_taken(port) {
+        if self.is_port_in_use(port) {
             return Err(Errno::EADDRINUSE);
         }
         let kind = FileKind::Socket {
@@ -273,8 +277,8 @@ impl Fds {
     /// socket or is connected, then ECONNREFUSED where no open socket has the port.
     pub fn connect(&mut self, pid: Pid, fd: u64, port: u16) -> Result<(), Errno>
         requires { has_table self.old pid ≡ true }
-        ensures answer { result ≡ answer (connect_refused self.old pid fd port) }
-        ensures table { self.new ≡ connected self.old pid fd port }
+        ensures answer { result ≡ result_of_refusal (connect_refused self.old pid fd port) }
+        ensures table { self.new ≡ table_after_connect self.old pid fd port }
         ensures tables { KeepsTables self.old self.new }
     {
         let (number, file) = self.find(pid, fd)?;
@@ -285,7 +289,7 @@ impl Fds {
         else {
             return Err(Errno::EINVAL);
         };
-        if !self.is_taken(port) {
+        if !self.is_port_in_use(port) {
             return Err(Errno::ECONNREFUSED);
         }
         let kind = FileKind::Socket {
@@ -297,11 +301,11 @@ impl Fds {
     }
 
     // Whether an open socket of some process has this port.
-    fn is_taken(&self, port: u16) -> bool
-        ensures { result ≡ is_taken self.now port }
+    fn is_port_in_use(&self, port: u16) -> bool
+        ensures { result ≡ is_port_in_use self.now port }
     {
         self.processes
             .values()
-            .any(|places| places::is_held(&self.files, port, places))
+            .any(|places| places::has_bound_file(&self.files, port, places))
     }
 }

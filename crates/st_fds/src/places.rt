@@ -1,12 +1,13 @@
 ghost use Rattle.std.specs.Prelude.{◌≡◌, ℕ, ◌<◌, is_none, is_some, slice_set, true};
-ghost use Rattle.st_base.specs.declared.open_file.TheConstants.{DESCRIPTORS};
+ghost use Rattle.st_model.specs.declared.open_file.TheConstants.{DESCRIPTORS};
 ghost use Rattle.std.specs.List.{position};
 ghost use Rattle.std.specs.BTreeMap.{insert_entry, is_at};
 ghost use Rattle.std.specs.Map.{lookup};
 ghost use Rattle.std.specs.Ordering.{nat_cmp};
-ghost use Rattle.st_base.specs.Descriptors.{is_bound_to, is_held, numbered, places_in};
+ghost use Rattle.st_model.specs.Descriptors.{is_bound_to, has_bound_file, file_of_number, places_in};
 
-use st_base::{DESCRIPTORS, FileKind, OpenFile, Pid};
+use st_base::Pid;
+use st_model::{DESCRIPTORS, FileKind, OpenFile};
 use std::collections::BTreeMap;
 
 /// For each descriptor of a process the number of its open file; none where it is free.
@@ -52,17 +53,17 @@ pub fn put(processes: &mut BTreeMap<Pid, Places>, pid: Pid, places: Places)
 }
 
 /// The open file of this number.
-pub fn numbered(files: &[OpenFile], number: Option<usize>) -> Option<OpenFile>
-    ensures { result ≡ numbered files.now number }
+pub fn file_of_number(files: &[OpenFile], number: Option<usize>) -> Option<OpenFile>
+    ensures { result ≡ file_of_number files.now number }
 {
     files.get(number?).copied()
 }
 
 /// Whether the open file of this number is there and is bound to this port.
 pub fn is_bound_to(files: &[OpenFile], number: Option<usize>, port: u16) -> bool
-    ensures { result ≡ is_bound_to port (numbered files.now number) }
+    ensures { result ≡ is_bound_to port (file_of_number files.now number) }
 {
-    match numbered(files, number) {
+    match file_of_number(files, number) {
         Some(
             OpenFile {
                 kind: FileKind::Socket {
@@ -77,8 +78,8 @@ pub fn is_bound_to(files: &[OpenFile], number: Option<usize>, port: u16) -> bool
 }
 
 /// Whether one of these places leads to an open file that is bound to this port.
-pub fn is_held(files: &[OpenFile], port: u16, places: &[Option<usize>]) -> bool
-    ensures { result ≡ is_held files.now port places.now }
+pub fn has_bound_file(files: &[OpenFile], port: u16, places: &[Option<usize>]) -> bool
+    ensures { result ≡ has_bound_file files.now port places.now }
 {
     places
         .iter()

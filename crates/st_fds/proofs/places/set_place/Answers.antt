@@ -3,7 +3,7 @@ use Rattle.std.proofs.lemmas.Cmp.{nat_cmp_total}
 use Rattle.std.specs.Option.{unwrap_or, option_copied_mut}
 use Rattle.std.specs.BTreeMap.{insert_entry}
 use Rattle.std.specs.Ordering.{nat_cmp}
-use Rattle.st_base.specs.Descriptors.{places_in}
+use Rattle.st_model.specs.Descriptors.{places_in}
 use Rattle.st_fds.proofs.Entries.{written}
 use Rattle.st_fds.proofs.places.set_place.Goals as goal
 

@@ -1,5 +1,5 @@
 use Rattle.std.proofs.Common.{◌≡◌, true}
-use Rattle.st_base.specs.Descriptors.{has_table}
+use Rattle.st_model.specs.Descriptors.{has_table}
 use Rattle.st_fds.proofs.tests.a_process_has_64_descriptors.Given as goal
 
 abbrev pub invariant-loop-fd : goal.invariant-loop-fd

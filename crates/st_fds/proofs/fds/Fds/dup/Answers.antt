@@ -1,5 +1,5 @@
 use Rattle.std.proofs.Common.{refl, Some, length, arith, ◌<◌, sym, subst}
-use Rattle.st_base.specs.Descriptors.{Table}
+use Rattle.st_model.specs.Descriptors.{Table}
 use Rattle.st_fds.proofs.Whole.{one_place, fields_have}
 use Rattle.st_fds.proofs.fds.Fds.dup.Goals as goal
 

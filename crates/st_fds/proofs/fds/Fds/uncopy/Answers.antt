@@ -2,7 +2,7 @@ use Rattle.std.proofs.Common.{length, ap, ◌∙◌}
 use Rattle.std.specs.Map.{remove_entry}
 use Rattle.std.specs.BTreeMap.{is_at}
 use Rattle.std.specs.Ordering.{nat_cmp}
-use Rattle.st_base.specs.Descriptors.{Table, places_in}
+use Rattle.st_model.specs.Descriptors.{Table, places_in}
 use Rattle.st_fds.proofs.Entries.{taken_out}
 use Rattle.st_fds.proofs.Whole.{taken_away}
 use Rattle.st_fds.proofs.fds.Fds.uncopy.Goals as goal
