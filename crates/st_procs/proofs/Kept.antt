@@ -1,3 +1,4 @@
+-- What a row that is written changes, and what it keeps.
 use Rattle.std.proofs.Common.{◌≡◌, ℕ, ◌-◌, ◌<◌, ◌≤◌, Bool, true, false, List, ◌++◌, length, Option, Some, None, get_or, set, take, drop, refl, ap, sym, ◌∙◌}
 use Rattle.std.proofs.Math.Seq.{map-set_same, take-append_seam}
 use Rattle.std.proofs.lemmas.List.{length-map}
@@ -5,8 +6,9 @@ use Rattle.std.specs.BTreeMap.{is_at}
 use Rattle.std.specs.Map.{lookup}
 use Rattle.std.specs.Option.{option_map}
 use Rattle.std.specs.Ordering.{nat_cmp}
-use Rattle.st_names.specs.Process.{Process}
-use Rattle.st_names.specs.Processes.{Processes, Thread, at_number, nobody, pid_of, policy_then, put_number, thread_at}
+use Rattle.st_model.specs.Process.{Process}
+use Rattle.st_model.specs.Processes.{Processes, StartedThread, no_process, pid_of, policy_after_exec, thread_at}
+use Rattle.st_base.specs.Numbered.{item_at_number_or, with_item_at_number}
 use Rattle.st_procs.specs.Rows.{counts_of, process_of, processes_of}
 use Rattle.st_procs.specs.declared.rows.Row.{Row}
 use Rattle.st_procs.proofs.Numbered.{at_number-map, put_number-map}
@@ -14,10 +16,10 @@ use Rattle.st_procs.proofs.Numbered.{at_number-map, put_number-map}
 module _ (rows : List Row) (pid : ℕ) (d new : Row) where
   -- a row is written whose process is a change of the one before
   pub changed : (change : Process → Process) → 0 < pid → pid ≤ length rows → process_of new.process ≡ change (process_of (get_or rows (pid - 1) d).process) →
-      processes_of (set rows (pid - 1) new) ≡ put_number (processes_of rows) pid (change (at_number nobody (processes_of rows) pid))
+      processes_of (set rows (pid - 1) new) ≡ with_item_at_number (processes_of rows) pid (change (item_at_number_or no_process (processes_of rows) pid))
   changed change from to is =
       put_number-map (λ (row : Row). process_of row.process) rows new pid from ∙
-      ap (put_number (processes_of rows) pid) (is ∙ ap change (at_number-map (λ (row : Row). process_of row.process) rows nobody d pid from to))
+      ap (with_item_at_number (processes_of rows) pid) (is ∙ ap change (at_number-map (λ (row : Row). process_of row.process) rows no_process d pid from to))
 
   pub same_counts : new.threads ≡ (get_or rows (pid - 1) d).threads → counts_of (set rows (pid - 1) new) ≡ counts_of rows
   same_counts is = map-set_same (λ (row : Row). row.threads) rows (pid - 1) new d is
@@ -26,14 +28,14 @@ module _ (rows : List Row) (pid : ℕ) (d new : Row) where
   same_processes is = map-set_same (λ (row : Row). process_of row.process) rows (pid - 1) new d is
 
 -- which policy applies
-pub taken : (inherit : Bool) (before binary : List ℕ) → inherit ≡ false → binary ≡ policy_then inherit before binary
-taken inherit before binary is = rw is refl
+pub policy-taken : (inherit : Bool) (before binary : List ℕ) → inherit ≡ false → binary ≡ policy_after_exec inherit before binary
+policy-taken inherit before binary is = rw is refl
 
-pub kept : (inherit : Bool) (before binary : List ℕ) → inherit ≡ true → before ≡ policy_then inherit before binary
-kept inherit before binary is = rw is refl
+pub policy-kept : (inherit : Bool) (before binary : List ℕ) → inherit ≡ true → before ≡ policy_after_exec inherit before binary
+policy-kept inherit before binary is = rw is refl
 
 -- a process is there where its counts are
-pub as_many : (rows : List Row) (threads : List (ℕ × Thread)) (processes : Processes) → record { rows = processes_of rows; threads = threads } ≡ processes → length (counts_of rows) ≡ length processes.rows
+pub as_many : (rows : List Row) (threads : List (ℕ × StartedThread)) (processes : Processes) → record { rows = processes_of rows; threads = threads } ≡ processes → length (counts_of rows) ≡ length processes.rows
 as_many rows threads processes is =
     length-map rows (λ (row : Row). row.threads) ∙ sym (length-map rows (λ (row : Row). process_of row.process)) ∙ ap (λ (p : Processes). length p.rows) is
 
@@ -46,5 +48,5 @@ unmapped : {X Y : Type 0} (f : X → Y) (o : Option X) → option_map f o ≡ No
 unmapped f None is = refl
 unmapped f (Some x) is = cc
 
-pub not_started : (rows : List Row) (threads : List (ℕ × Thread)) (processes : Processes) (tid : ℕ) → record { rows = processes_of rows; threads = threads } ≡ processes → pid_of processes tid ≡ None → lookup (is_at (nat_cmp tid)) threads ≡ None
-not_started rows threads processes tid is none = ap (λ (p : Processes). thread_at p tid) is ∙ unmapped (λ (thread : Thread). thread.pid) (thread_at processes tid) none
+pub not_started : (rows : List Row) (threads : List (ℕ × StartedThread)) (processes : Processes) (tid : ℕ) → record { rows = processes_of rows; threads = threads } ≡ processes → pid_of processes tid ≡ None → lookup (is_at (nat_cmp tid)) threads ≡ None
+not_started rows threads processes tid is none = ap (λ (p : Processes). thread_at p tid) is ∙ unmapped (λ (thread : StartedThread). thread.pid) (thread_at processes tid) none

@@ -1,3 +1,4 @@
+-- Values in a map by number: where one that passes stands, and the keys after one is written.
 use Rattle.std.proofs.Common.{◌≡◌, ◌≢◌, ℕ, ◌==◌, Bool, true, false, cond, List, [], ◌∷◌, Some, inl, inr, refl, ap, sym, ◌∙◌, subst, arith}
 use Rattle.std.proofs.lemmas.Bool.{cases_eq, eq-eqb, ne_eqb}
 use Rattle.std.proofs.lemmas.Cmp.{eq_by_cmp_equiv, nat_cmp_total, ranked}
@@ -15,41 +16,9 @@ use Rattle.std.specs.Ordering.{is_eq, match_ordering, nat_cmp}
 use Rattle.std.specs.declared.cmp.Ordering.{Ordering}
 use Rattle.std.specs.declared.cmp.Ordering.TheVariants.{Less, Equal, Greater}
 
--- a key is found where it is the one that is looked for
-at_key-by : (q k : ℕ) (o : Ordering) → o ≡ nat_cmp q k → is_eq o ≡ (q == k)
-at_key-by q k Less is = let below = ranked q k Less is in sym (ne_eqb q k (λ e. omega (arith, e, below)))
-at_key-by q k Equal is = sym (eq-eqb q k (ranked q k Equal is))
-at_key-by q k Greater is = let above = ranked q k Greater is in sym (ne_eqb q k (λ e. omega (arith, e, above)))
-
-at_key : (q k : ℕ) → is_at (nat_cmp q) k ≡ (q == k)
-at_key q k = at_key-by q k (nat_cmp q k) refl
-
-module _ {X : Type 0} (q k : ℕ) (v : X) where
-  abbrev Goes : List (ℕ × X) → List (ℕ × X) → Type 0
-  Goes es new = lookup (is_at (nat_cmp q)) new ≡ cond (q == k) (Some v) (lookup (is_at (nat_cmp q)) es)
-
-  over : (e : ℕ × X) (es : List (ℕ × X)) → k ≡ e.0 → (b : Bool) → is_at (nat_cmp q) e.0 ≡ b → Goes (e ∷ es) ((e.0, v) ∷ es)
-  over e es is b found = rw (found, is, ← at_key q e.0, found) (elim b as (λ b. cond b (Some v) (lookup (is_at (nat_cmp q)) es) ≡ cond b (Some v) (cond b (Some e.1) (lookup (is_at (nat_cmp q)) es))) [ true ↦ refl | false ↦ refl ])
-
-  behind : (e : ℕ × X) (es new : List (ℕ × X)) → k ≢ e.0 → Goes es new → Goes (e ∷ es) (e ∷ new)
-  behind e es new differ more = elim (cases_eq q e.0) [
-    | inl is ↦ rw (at_key q e.0, eq-eqb q e.0 is, ne_eqb q k (λ same. differ (sym same ∙ is))) refl
-    | inr not ↦ rw (at_key q e.0, ne_eqb q e.0 not) more
-  ]
-
-  put-by : (o : Ordering) (e : ℕ × X) (es : List (ℕ × X)) → o ≡ nat_cmp k e.0 → Goes es (insert_entry nat_cmp es k v) → Goes (e ∷ es) (match_ordering o ((k, v) ∷ e ∷ es) ((e.0, v) ∷ es) (e ∷ insert_entry nat_cmp es k v))
-  put-by Less e es is more = rw (at_key q k) refl
-  put-by Equal e es is more = over e es (ranked k e.0 Equal is) (is_at (nat_cmp q) e.0) refl
-  put-by Greater e es is more = let above = ranked k e.0 Greater is in behind e es (insert_entry nat_cmp es k v) (λ same. omega (arith, same, above)) more
-
-  -- what is found once a value is put in
-  pub put : (es : List (ℕ × X)) → Goes es (insert_entry nat_cmp es k v)
-  put [] = rw (at_key q k) refl
-  put (e ∷ es) = put-by (nat_cmp k e.0) e es refl (put es)
-
 -- a value that passes is found at some key
-pub present : {X : Type 0} (p : X → Bool) (es : List (ℕ × X)) → IsStrictlySortedBy nat_cmp (keys_of es) → list_any p (values_of es) ≡ true → (k : ℕ) × (x : X) × (lookup (is_at (nat_cmp k)) es ≡ Some x) × (p x ≡ true)
-present {X} p es sorted some =
+pub present-any : {X : Type 0} (p : X → Bool) (es : List (ℕ × X)) → IsStrictlySortedBy nat_cmp (keys_of es) → list_any p (values_of es) ≡ true → (k : ℕ) × (x : X) × (lookup (is_at (nat_cmp k)) es ≡ Some x) × (p x ≡ true)
+present-any {X} p es sorted some =
     let one = Any-from_list_any p (values_of es) some in
     let entry = Contains-from_values_of es one.1 (one.0, one.2, one.3) in
     let place : _ = entry.1 in
@@ -64,7 +33,7 @@ kept-by k v x Greater e es is sorted found more =
     let tail : lookup (is_at (nat_cmp k)) es ≡ Some x = subst (λ (o : Ordering). cond (is_eq o) (Some e.1) (lookup (is_at (nat_cmp k)) es) ≡ Some x) (sym is) found in
     ap (λ ks. e.0 ∷ ks) (more tail)
 
-pub kept : {X : Type 0} (k : ℕ) (v x : X) (es : List (ℕ × X)) → IsStrictlySortedBy nat_cmp (keys_of es) → lookup (is_at (nat_cmp k)) es ≡ Some x → keys_of (insert_entry nat_cmp es k v) ≡ keys_of es
+pub keys-kept : {X : Type 0} (k : ℕ) (v x : X) (es : List (ℕ × X)) → IsStrictlySortedBy nat_cmp (keys_of es) → lookup (is_at (nat_cmp k)) es ≡ Some x → keys_of (insert_entry nat_cmp es k v) ≡ keys_of es
 unfolding IsStrictlySortedBy
-kept k v x [] sorted found = cc
-kept k v x (e ∷ es) sorted found = kept-by k v x (nat_cmp k e.0) e es refl sorted found (kept k v x es sorted.1)
+keys-kept k v x [] sorted found = cc
+keys-kept k v x (e ∷ es) sorted found = kept-by k v x (nat_cmp k e.0) e es refl sorted found (keys-kept k v x es sorted.1)

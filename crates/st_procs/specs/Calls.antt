@@ -16,6 +16,6 @@ SetsIds SetEgid = Unit {0}
 SetsIds _ = ⊥
 
 -- a call that is refused for a reason, or gives ids
-abbrev pub ids_answer : Option Errno → Ids → Result Ids Errno
-ids_answer None ids = Ok ids
-ids_answer (Some errno) ids = Err errno
+abbrev pub set_ids_result : Option Errno → Ids → Result Ids Errno
+set_ids_result None ids = Ok ids
+set_ids_result (Some errno) ids = Err errno

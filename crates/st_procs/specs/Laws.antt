@@ -5,8 +5,8 @@ use Rattle.std.specs.Map.{keys_of}
 use Rattle.std.specs.Ordering.{nat_cmp}
 use Rattle.st_base.specs.declared.ids.Ids.{Ids}
 use Rattle.st_names.specs.Name.{Components}
-use Rattle.st_names.specs.Process.{Process}
-use Rattle.st_names.specs.Processes.{Processes, Thread, IsPid, process_at, next_pid, pid_of, is_running, is_live, thread_at, started, forked, executing, execed, with_ids, with_cwd, thread_ended}
+use Rattle.st_model.specs.Process.{Process}
+use Rattle.st_model.specs.Processes.{Processes, StartedThread, IsPid, process_at, next_pid, pid_of, is_running, is_live, thread_at, processes_after_start, processes_after_fork, process_after_exec, processes_after_exec, with_ids, with_cwd, processes_after_end}
 
 -- each thread stands once, in the order of the numbers
 abbrev pub AreOrdered : Processes → Type 0
@@ -31,7 +31,7 @@ ThreadStarts old tid pid new = (other : ℕ) → thread_at new other ≡ (if oth
 
 -- this thread has ended now, and the others are as they were
 abbrev pub ThreadEnds : Processes → ℕ → Processes → Type 0
-ThreadEnds old tid new = (other : ℕ) → thread_at new other ≡ (if other == tid then option_map (λ (thread : Thread). record thread { ended = true }) (thread_at old tid) else thread_at old other)
+ThreadEnds old tid new = (other : ℕ) → thread_at new other ≡ (if other == tid then option_map (λ (thread : StartedThread). record thread { ended = true }) (thread_at old tid) else thread_at old other)
 
 -- the row of a process is this one now, and the others' are as they were
 abbrev pub ChangesRow : Processes → ℕ → Process → Processes → Type 0
@@ -39,20 +39,22 @@ ChangesRow old pid process new = (other : ℕ) → process_at new other ≡ (if 
 
 -- a process that starts has its row, and no other row changes
 abbrev pub StartsAdd : Type 0
-StartsAdd = (p : Processes) (process : Process) → ChangesRow p (next_pid p) process (started p process)
+StartsAdd = (p : Processes) (process : Process) → ChangesRow p (next_pid p) process (processes_after_start p process)
 
 -- a child has its parent's row but for its memory, and no other row changes
 abbrev pub ChildrenAreLikeParents : Type 0
-ChildrenAreLikeParents = (p : Processes) (pid tid space : ℕ) → ChangesRow p (next_pid p) (record (process_at p pid) { space = space }) (forked p pid tid space)
+ChildrenAreLikeParents = (p : Processes) (pid tid space : ℕ) → ChangesRow p (next_pid p) (record (process_at p pid) { space = space }) (processes_after_fork p pid tid space)
 
 -- a binary, ids and a directory are those of one process
 abbrev pub BinariesAreOwn : Type 0
 BinariesAreOwn = (p : Processes) (pid : ℕ) (binary : List ℕ) (space : ℕ) (inherit : Bool) → IsPid p pid →
-    ChangesRow p pid (executing (process_at p pid) binary space inherit) (execed p pid binary space inherit)
+    ChangesRow p pid (process_after_exec (process_at p pid) binary space inherit) (processes_after_exec p pid binary space inherit)
 
+-- ids that are set are those of one process, and no other row changes
 abbrev pub IdsAreOwn : Type 0
 IdsAreOwn = (p : Processes) (pid : ℕ) (ids : Ids) → IsPid p pid → ChangesRow p pid (record (process_at p pid) { ids = ids }) (with_ids p pid ids)
 
+-- a directory that is set is that of one process, and no other row changes
 abbrev pub DirectoriesAreOwn : Type 0
 DirectoriesAreOwn = (p : Processes) (pid : ℕ) (cwd : Components) → IsPid p pid → ChangesRow p pid (record (process_at p pid) { cwd = cwd }) (with_cwd p pid cwd)
 
@@ -62,4 +64,4 @@ NewOnesLive = (p : Processes) (pid : ℕ) → AreOrdered p → IsPid p pid → H
 
 -- a process ends with its last thread
 abbrev pub LastOnesEnd : Type 0
-LastOnesEnd = (p : Processes) (tid pid : ℕ) → AreOrdered p → pid_of p tid ≡ Some pid → IsLast p tid → is_live (thread_ended p tid) pid ≡ false
+LastOnesEnd = (p : Processes) (tid pid : ℕ) → AreOrdered p → pid_of p tid ≡ Some pid → IsLast p tid → is_live (processes_after_end p tid) pid ≡ false

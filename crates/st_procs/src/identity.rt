@@ -1,13 +1,13 @@
 ghost use Rattle.std.specs.Prelude.{◌≡◌};
-ghost use Rattle.st_calls.specs.Identity.{ids_set, set_refused};
-ghost use Rattle.st_procs.specs.Calls.{ids_answer};
+ghost use Rattle.st_model.specs.Identity.{ids_after_set, set_refused};
+ghost use Rattle.st_procs.specs.Calls.{set_ids_result};
 
 use st_base::{Errno, Ids};
 use st_calls::SysCall;
 
 /// The ids that a process with these has after a call that sets them. EINVAL for what is no id, then EPERM.
 pub fn ids_after(call: SysCall, ids: Ids, value: u64) -> Result<Ids, Errno>
-    ensures { result ≡ ids_answer (set_refused call ids value) (ids_set call ids value) }
+    ensures { result ≡ set_ids_result (set_refused call ids value) (ids_after_set call ids value) }
 {
     let Ok(id) = u32::try_from(value) else {
         return Err(Errno::EINVAL);

@@ -1,13 +1,13 @@
 ghost use Rattle.std.specs.Prelude.{◌≡◌, suc, ◌^◌, ◌-◌, ◌<◌, ◌↔◌, Some, None, true, false, [], not, IsTrue, IfSome, IfOk, OnOk, OnErr};
-ghost use Rattle.st_calls.specs.Identity.{ids_set, set_refused};
-ghost use Rattle.st_names.specs.Processes.{IsPid, begun, execed, forked, is_live, is_running, next_pid, pid_of, process_at, started, thread_ended, with_cwd, with_ids};
-ghost use Rattle.st_procs.specs.Calls.{SetsIds, ids_answer};
+ghost use Rattle.st_model.specs.Identity.{ids_after_set, set_refused};
+ghost use Rattle.st_model.specs.Processes.{IsPid, processes_after_begin, processes_after_exec, processes_after_fork, is_live, is_running, next_pid, pid_of, process_at, processes_after_start, processes_after_end, with_cwd, with_ids};
+ghost use Rattle.st_procs.specs.Calls.{SetsIds, set_ids_result};
 ghost use Rattle.st_procs.specs.Laws.{AreOrdered, HasEnded, IsLast, ThreadEnds, ThreadStarts};
 ghost use Rattle.st_procs.specs.Rows.{process_of};
 
 use crate::identity;
 use crate::rows::{self, ProcRow, Row, ThreadCounts};
-use crate::threads::{self, Thread};
+use crate::threads::{self, StartedThread};
 use st_base::{Errno, Ids, Pid, Space, Text, Tid};
 use st_calls::SysCall;
 use st_names::AbsName;
@@ -20,11 +20,11 @@ use std::marker::Model;
 pub struct Procs {
     // Process p stands at p - 1.
     rows: Vec<Row>,
-    threads: BTreeMap<Tid, Thread>,
+    threads: BTreeMap<Tid, StartedThread>,
 }
 
 impl Model for Procs {
-    ghost use Rattle.st_names.specs.Processes.{Processes};
+    ghost use Rattle.st_model.specs.Processes.{Processes};
 
     ghost Value = { Processes };
 
@@ -58,7 +58,7 @@ impl Procs {
     pub fn start(&mut self, row: ProcRow) -> Result<Pid, AllocError>
         requires { next_pid self.old < 2 ^ 32 - 1 }
         ensures pid { IfOk result (λ pid. pid ≡ next_pid self.old) }
-        ensures ok { OnOk result (self.new ≡ started self.old (process_of row)) }
+        ensures ok { OnOk result (self.new ≡ processes_after_start self.old (process_of row)) }
         ensures pids { OnOk result (next_pid self.new ≡ suc (next_pid self.old)) }
         ensures err { OnErr result (self.new ≡ self.old) }
     {
@@ -139,7 +139,7 @@ impl Procs {
     pub fn begin(&mut self, tid: Tid, pid: Pid) -> Result<(), AllocError>
         requires process { IsPid self.old pid }
         requires thread { pid_of self.old tid ≡ None }
-        ensures ok { OnOk result (self.new ≡ begun self.old tid pid) }
+        ensures ok { OnOk result (self.new ≡ processes_after_begin self.old tid pid) }
         ensures threads { OnOk result (ThreadStarts self.old tid pid self.new) }
         ensures pids { next_pid self.new ≡ next_pid self.old }
         ensures err { OnErr result (self.new ≡ self.old) }
@@ -161,7 +161,7 @@ impl Procs {
         requires thread { pid_of self.old tid ≡ None }
         requires room { next_pid self.old < 2 ^ 32 - 1 }
         ensures pid { IfOk result (λ child. child ≡ next_pid self.old) }
-        ensures ok { OnOk result (self.new ≡ forked self.old pid tid space) }
+        ensures ok { OnOk result (self.new ≡ processes_after_fork self.old pid tid space) }
         ensures threads { OnOk result (ThreadStarts self.old tid (next_pid self.old) self.new) }
         ensures pids { OnOk result (next_pid self.new ≡ suc (next_pid self.old)) }
         ensures err { OnErr result (self.new ≡ self.old) }
@@ -182,7 +182,7 @@ impl Procs {
     /// does. It takes no memory.
     pub fn exec(&mut self, pid: Pid, binary: Text, space: Space, inherit: bool)
         requires { IsPid self.old pid }
-        ensures rows { self.new ≡ execed self.old pid binary space inherit }
+        ensures rows { self.new ≡ processes_after_exec self.old pid binary space inherit }
         ensures pids { next_pid self.new ≡ next_pid self.old }
     {
         rows::execute(&mut self.rows, pid, binary, space, inherit);
@@ -193,7 +193,7 @@ impl Procs {
     pub fn set_ids(&mut self, pid: Pid, call: SysCall, value: u64) -> Result<Ids, Errno>
         requires process { IsPid self.old pid }
         requires call { SetsIds call }
-        ensures answer { result ≡ ids_answer (set_refused call (process_at self.old pid).ids value) (ids_set call (process_at self.old pid).ids value) }
+        ensures answer { result ≡ set_ids_result (set_refused call (process_at self.old pid).ids value) (ids_after_set call (process_at self.old pid).ids value) }
         ensures ok { IfOk result (λ ids. self.new ≡ with_ids self.old pid ids) }
         ensures pids { next_pid self.new ≡ next_pid self.old }
         ensures err { OnErr result (self.new ≡ self.old) }
@@ -216,7 +216,7 @@ impl Procs {
     /// Ends a thread, and says whether its process ends with it: whether it was the last that hadn't ended.
     pub fn end_thread(&mut self, tid: Tid) -> bool
         requires { is_running self.old tid ≡ true }
-        ensures ended { self.new ≡ thread_ended self.old tid }
+        ensures ended { self.new ≡ processes_after_end self.old tid }
         ensures threads { ThreadEnds self.old tid self.new }
         ensures pids { next_pid self.new ≡ next_pid self.old }
         ensures last { IsTrue result ↔ IsLast self.old tid }
@@ -229,7 +229,7 @@ impl Procs {
     // Ends a thread, and gives its process.
     fn finish(&mut self, tid: Tid) -> Pid
         requires { is_running self.old tid ≡ true }
-        ensures ended { self.new ≡ thread_ended self.old tid }
+        ensures ended { self.new ≡ processes_after_end self.old tid }
         ensures pid { pid_of self.old tid ≡ Some result }
         ensures there { IsPid self.old result }
         ensures pids { next_pid self.new ≡ next_pid self.old }

@@ -1,5 +1,6 @@
 ghost use Rattle.std.specs.Prelude.{◌≡◌, ◌<◌, ◌≤◌, length, IfOk};
-ghost use Rattle.st_names.specs.Processes.{at_number, executing, nobody, put_number};
+ghost use Rattle.st_model.specs.Processes.{process_after_exec, no_process};
+ghost use Rattle.st_base.specs.Numbered.{item_at_number_or, with_item_at_number};
 ghost use Rattle.st_procs.specs.Rows.{counts_of, no_threads, process_of, processes_of};
 
 use st_base::{Ids, Pid, Space, Text};
@@ -53,7 +54,7 @@ pub struct Row {
 pub fn process(rows: &[Row], pid: Pid) -> &ProcRow
     requires from { 0 < pid }
     requires to { pid ≤ length rows.now }
-    ensures { process_of result.now ≡ at_number nobody (processes_of rows.now) pid }
+    ensures { process_of result.now ≡ item_at_number_or no_process (processes_of rows.now) pid }
 {
     &rows[pid as usize - 1].process
 }
@@ -62,7 +63,7 @@ pub fn process(rows: &[Row], pid: Pid) -> &ProcRow
 pub fn counts(rows: &[Row], pid: Pid) -> ThreadCounts
     requires from { 0 < pid }
     requires to { pid ≤ length rows.now }
-    ensures { result ≡ at_number no_threads (counts_of rows.now) pid }
+    ensures { result ≡ item_at_number_or no_threads (counts_of rows.now) pid }
 {
     rows[pid as usize - 1].threads
 }
@@ -71,7 +72,7 @@ pub fn counts(rows: &[Row], pid: Pid) -> ThreadCounts
 pub fn set_count(rows: &mut [Row], pid: Pid, threads: ThreadCounts)
     requires from { 0 < pid }
     requires to { pid ≤ length rows.old }
-    ensures counts { counts_of rows.new ≡ put_number (counts_of rows.old) pid threads }
+    ensures counts { counts_of rows.new ≡ with_item_at_number (counts_of rows.old) pid threads }
     ensures processes { processes_of rows.new ≡ processes_of rows.old }
 {
     rows[pid as usize - 1].threads = threads;
@@ -82,7 +83,7 @@ pub fn execute(rows: &mut [Row], pid: Pid, binary: Text, space: Space, inherit: 
     requires from { 0 < pid }
     requires to { pid ≤ length rows.old }
     ensures counts { counts_of rows.new ≡ counts_of rows.old }
-    ensures processes { processes_of rows.new ≡ put_number (processes_of rows.old) pid (executing (at_number nobody (processes_of rows.old) pid) binary space inherit) }
+    ensures processes { processes_of rows.new ≡ with_item_at_number (processes_of rows.old) pid (process_after_exec (item_at_number_or no_process (processes_of rows.old) pid) binary space inherit) }
 {
     let process = &mut rows[pid as usize - 1].process;
     process.space = space;
@@ -96,7 +97,7 @@ pub fn set_ids(rows: &mut [Row], pid: Pid, ids: Ids)
     requires from { 0 < pid }
     requires to { pid ≤ length rows.old }
     ensures counts { counts_of rows.new ≡ counts_of rows.old }
-    ensures processes { processes_of rows.new ≡ put_number (processes_of rows.old) pid (record (at_number nobody (processes_of rows.old) pid) { ids = ids }) }
+    ensures processes { processes_of rows.new ≡ with_item_at_number (processes_of rows.old) pid (record (item_at_number_or no_process (processes_of rows.old) pid) { ids = ids }) }
 {
     rows[pid as usize - 1].process.ids = ids;
 }
@@ -106,7 +107,7 @@ pub fn set_cwd(rows: &mut [Row], pid: Pid, cwd: AbsName)
     requires from { 0 < pid }
     requires to { pid ≤ length rows.old }
     ensures counts { counts_of rows.new ≡ counts_of rows.old }
-    ensures processes { processes_of rows.new ≡ put_number (processes_of rows.old) pid (record (at_number nobody (processes_of rows.old) pid) { cwd = cwd }) }
+    ensures processes { processes_of rows.new ≡ with_item_at_number (processes_of rows.old) pid (record (item_at_number_or no_process (processes_of rows.old) pid) { cwd = cwd }) }
 {
     rows[pid as usize - 1].process.cwd = cwd;
 }

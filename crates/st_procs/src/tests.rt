@@ -1,7 +1,8 @@
-ghost use Rattle.st_procs.specs.Calls.{SetsIds};
+ghost use Rattle.std.specs.Prelude.{IfOk};
+ghost use Rattle.st_model.specs.Processes.{IsPid};
 
 use crate::{ProcRow, Procs};
-use st_base::{Errno, Ids, Space, Text};
+use st_base::{Errno, Ids, Pid, Space, Text};
 use st_calls::SysCall;
 use st_names::AbsName;
 use std::alloc::{AllocError, Global};
@@ -18,59 +19,48 @@ fn row(alloc: Global, binary: &[u8], ids: Ids, space: Space) -> Result<ProcRow, 
     })
 }
 
-// What a process with these ids has after a call that sets them.
-fn set(alloc: Global, ids: Ids, call: SysCall, value: u64) -> Result<Result<Ids, Errno>, AllocError>
-    requires { SetsIds call }
+// A process of `/bin/sh` with these ids.
+fn started(alloc: Global, ids: Ids) -> Result<(Procs, Pid), AllocError>
+    ensures { IfOk result (λ made. IsPid made.0 made.1) }
 {
     let mut procs = Procs::new(alloc);
     let pid = procs.start(row(alloc, b"/bin/sh", ids, 1)?)?;
-    let answer = procs.set_ids(pid, call, value);
-    Ok(answer)
-}
-
-// The name of one component.
-fn name(alloc: Global, part: &[u8]) -> Result<AbsName, AllocError> {
-    let mut name = AbsName::root(alloc);
-    name.push(Text::of(alloc, part)?)?;
-    Ok(name)
+    Ok((procs, pid))
 }
 
 #[test]
 fn a_child_is_like_its_parent(rt: HostRuntime) -> Result<(), Fail> {
     let alloc = rt.alloc();
     let mut procs = Procs::new(alloc);
-    assert_eq!(rt; procs.next_pid(), 1);
+    let parent = procs.start(row(alloc, b"/bin/sh", Ids::of(7, 70), 1)?)?;
+    procs.begin(1, parent)?;
+    procs.set_cwd(parent, AbsName::of(alloc, b"/home")?);
+    let child = procs.fork(parent, 2, 5)?;
+    assert_eq!(rt; (parent, child, procs.next_pid()), (1, 2, 3));
+    assert_eq!(rt; (procs.pid_of(2), procs.pid_of(3)), (Some(2), None));
+    assert_eq!(rt; (procs.space(parent), procs.space(child)), (1, 5));
     assert_eq!(rt;
-        procs.start(row(alloc, b"/bin/sh", Ids::of(7, 70), 1)?),
-        Ok(1)
+        (procs.ids(child), procs.traced(child)),
+        (Ids::of(7, 70), true)
     );
-    procs.begin(1, 1)?;
-    procs.set_cwd(1, name(alloc, b"home")?);
-    assert_eq!(rt; procs.pid_of(2), None);
-    assert_eq!(rt; procs.fork(1, 2, 5), Ok(2));
-    assert_eq!(rt; procs.pid_of(2), Some(2));
-    assert_eq!(rt; procs.next_pid(), 3);
-    assert_eq!(rt; procs.ids(2), Ids::of(7, 70));
-    assert_eq!(rt; procs.policy(2).bytes(), b"/bin/sh".as_slice());
-    assert_eq!(rt; procs.cwd(2).print(alloc)?.bytes(), b"/home".as_slice());
-    assert_eq!(rt; procs.traced(2), true);
-    assert_eq!(rt; procs.space(2), 5);
-    assert_eq!(rt; procs.space(1), 1);
+    assert_eq!(rt; procs.policy(child).bytes(), b"/bin/sh".as_slice());
+    assert_eq!(rt; procs.cwd(child).print(alloc)?.bytes(), b"/home".as_slice());
     Ok(())
 }
 
+// A binary, whether it inherits the policy, and the policy that it has.
 #[test]
 fn a_binary_brings_its_policy(rt: HostRuntime) -> Result<(), Fail> {
     let alloc = rt.alloc();
-    let mut procs = Procs::new(alloc);
-    let pid = procs.start(row(alloc, b"/bin/sh", Ids::of(7, 70), 1)?)?;
-    procs.exec(pid, Text::of(alloc, b"/bin/ls")?, 2, true);
-    assert_eq!(rt; procs.policy(pid).bytes(), b"/bin/sh".as_slice());
-    assert_eq!(rt; procs.space(pid), 2);
-    procs.exec(pid, Text::of(alloc, b"/bin/cat")?, 3, false);
-    assert_eq!(rt; procs.policy(pid).bytes(), b"/bin/cat".as_slice());
-    assert_eq!(rt; procs.space(pid), 3);
-    assert_eq!(rt; procs.traced(pid), true);
+    for (binary, inherit, policy) in [
+        (b"/bin/ls".as_slice(), true, b"/bin/sh".as_slice()),
+        (b"/bin/cat", false, b"/bin/cat"),
+    ] {
+        let (mut procs, pid) = started(alloc, Ids::of(7, 70))?;
+        procs.exec(pid, Text::of(alloc, binary)?, 2, inherit);
+        assert_eq!(rt; procs.policy(pid).bytes(), policy);
+        assert_eq!(rt; (procs.space(pid), procs.traced(pid)), (2, true));
+    }
     Ok(())
 }
 
@@ -78,31 +68,21 @@ fn a_binary_brings_its_policy(rt: HostRuntime) -> Result<(), Fail> {
 fn a_process_ends_with_its_last_thread(rt: HostRuntime) -> Result<(), Fail> {
     let alloc = rt.alloc();
     let mut procs = Procs::new(alloc);
-    assert_eq!(rt;
-        procs.start(row(alloc, b"/bin/sh", Ids::of(7, 70), 1)?),
-        Ok(1)
-    );
-    assert_eq!(rt;
-        procs.start(row(alloc, b"/bin/ls", Ids::of(8, 80), 2)?),
-        Ok(2)
-    );
-    assert_eq!(rt; procs.alive(1), true);
-    procs.begin(5, 1)?;
-    procs.begin(3, 1)?;
+    let first = procs.start(row(alloc, b"/bin/sh", Ids::of(7, 70), 1)?)?;
+    let second = procs.start(row(alloc, b"/bin/ls", Ids::of(8, 80), 2)?)?;
+    procs.begin(5, first)?;
+    procs.begin(3, first)?;
     assert_eq!(rt; procs.end_thread(5), false);
-    assert_eq!(rt; procs.alive(1), true);
-    procs.begin(4, 1)?;
+    procs.begin(4, first)?;
     assert_eq!(rt; procs.end_thread(3), false);
     assert_eq!(rt; procs.end_thread(4), true);
-    assert_eq!(rt; procs.alive(1), false);
-    assert_eq!(rt; procs.alive(2), true);
+    assert_eq!(rt; (procs.alive(first), procs.alive(second)), (false, true));
     assert_eq!(rt; procs.pid_of(3), Some(1));
     Ok(())
 }
 
 #[test]
 fn who_may_set_which_ids(rt: HostRuntime) -> Result<(), Fail> {
-    let alloc = rt.alloc();
     let root = Ids::of(0, 0);
     let mixed = Ids {
         ruid: 7,
@@ -110,47 +90,49 @@ fn who_may_set_which_ids(rt: HostRuntime) -> Result<(), Fail> {
         rgid: 70,
         egid: 80,
     };
-    let set_uid = Ids {
-        ruid: 9,
-        euid: 9,
-        ..root
-    };
-    assert_eq!(rt; set(alloc, root, SysCall::SetUid, 9)?, Ok(set_uid));
-    assert_eq!(rt;
-        set(alloc, root, SysCall::SetEuid, 9)?,
-        Ok(Ids { euid: 9, ..root })
-    );
-    let set_gid = Ids {
-        rgid: 9,
-        egid: 9,
-        ..root
-    };
-    assert_eq!(rt; set(alloc, root, SysCall::SetGid, 9)?, Ok(set_gid));
-    assert_eq!(rt;
-        set(alloc, root, SysCall::SetEgid, 9)?,
-        Ok(Ids { egid: 9, ..root })
-    );
-    assert_eq!(rt;
-        set(alloc, mixed, SysCall::SetUid, 7)?,
-        Ok(Ids { euid: 7, ..mixed })
-    );
-    assert_eq!(rt; set(alloc, mixed, SysCall::SetEuid, 8)?, Ok(mixed));
-    assert_eq!(rt;
-        set(alloc, mixed, SysCall::SetGid, 70)?,
-        Ok(Ids { egid: 70, ..mixed })
-    );
-    assert_eq!(rt; set(alloc, mixed, SysCall::SetEgid, 80)?, Ok(mixed));
-    assert_eq!(rt; set(alloc, mixed, SysCall::SetUid, 8)?, Err(Errno::EPERM));
-    assert_eq!(rt; set(alloc, mixed, SysCall::SetEuid, 0)?, Err(Errno::EPERM));
-    assert_eq!(rt; set(alloc, mixed, SysCall::SetGid, 80)?, Err(Errno::EPERM));
-    assert_eq!(rt; set(alloc, mixed, SysCall::SetEgid, 7)?, Err(Errno::EPERM));
-    assert_eq!(rt;
-        set(alloc, root, SysCall::SetUid, 1 << 32)?,
-        Err(Errno::EINVAL)
-    );
-    assert_eq!(rt;
-        set(alloc, mixed, SysCall::SetEgid, u64::MAX)?,
-        Err(Errno::EINVAL)
-    );
+    let cases = [
+        (
+            root,
+            SysCall::SetUid,
+            9,
+            Ok(Ids {
+                ruid: 9,
+                euid: 9,
+                ..root
+            }),
+        ),
+        (root, SysCall::SetEuid, 9, Ok(Ids { euid: 9, ..root })),
+        (
+            root,
+            SysCall::SetGid,
+            9,
+            Ok(Ids {
+                rgid: 9,
+                egid: 9,
+                ..root
+            }),
+        ),
+        (root, SysCall::SetEgid, 9, Ok(Ids { egid: 9, ..root })),
+        (mixed, SysCall::SetUid, 7, Ok(Ids { euid: 7, ..mixed })),
+        (mixed, SysCall::SetEuid, 8, Ok(mixed)),
+        (mixed, SysCall::SetGid, 70, Ok(Ids { egid: 70, ..mixed })),
+        (mixed, SysCall::SetEgid, 80, Ok(mixed)),
+        (mixed, SysCall::SetUid, 8, Err(Errno::EPERM)),
+        (mixed, SysCall::SetEuid, 0, Err(Errno::EPERM)),
+        (mixed, SysCall::SetGid, 80, Err(Errno::EPERM)),
+        (mixed, SysCall::SetEgid, 7, Err(Errno::EPERM)),
+        (root, SysCall::SetUid, 1 << 32, Err(Errno::EINVAL)),
+        (mixed, SysCall::SetEgid, u64::MAX, Err(Errno::EINVAL)),
+    ];
+    for (ids, call, value, wanted) in cases {
+        let (mut procs, pid) = started(rt.alloc(), ids)?;
+        assert!(rt;
+            matches!(
+                call,
+                SysCall::SetUid | SysCall::SetEuid | SysCall::SetGid | SysCall::SetEgid
+            )
+        );
+        assert_eq!(rt; procs.set_ids(pid, call, value), wanted);
+    }
     Ok(())
 }

@@ -3,7 +3,7 @@ ghost use Rattle.std.specs.BTreeMap.{insert_entry, is_at};
 ghost use Rattle.std.specs.List.Sorted.{IsStrictlySortedBy};
 ghost use Rattle.std.specs.Map.{keys_of, lookup};
 ghost use Rattle.std.specs.Ordering.{nat_cmp};
-ghost use Rattle.st_names.specs.Processes.{runs};
+ghost use Rattle.st_model.specs.Processes.{has_not_ended};
 
 use st_base::{Pid, Tid};
 use std::alloc::AllocError;
@@ -12,15 +12,15 @@ use std::marker::Model;
 
 /// A thread that has started.
 #[derive(Clone, Copy, Debug)]
-pub struct Thread {
+pub struct StartedThread {
     pub pid: Pid,
     pub ended: bool,
 }
 
-impl Model for Thread {
-    ghost use Rattle.st_names.specs.Processes as processes;
+impl Model for StartedThread {
+    ghost use Rattle.st_model.specs.Processes as processes;
 
-    ghost Value = { processes.Thread };
+    ghost Value = { processes.StartedThread };
 
     ghost view = { λ t. record { pid = t.pid; ended = t.ended } };
 
@@ -28,18 +28,22 @@ impl Model for Thread {
 }
 
 /// Puts in a thread of this process that hasn't ended. Without memory nothing changes.
-pub fn begin(threads: &mut BTreeMap<Tid, Thread>, tid: Tid, pid: Pid) -> Result<(), AllocError>
+pub fn begin(
+    threads: &mut BTreeMap<Tid, StartedThread>,
+    tid: Tid,
+    pid: Pid,
+) -> Result<(), AllocError>
     ensures entries { OnOk result (threads.new.entries ≡ insert_entry nat_cmp threads.old.entries tid (record { pid = pid; ended = false })) }
     ensures ordered { IsStrictlySortedBy nat_cmp (keys_of threads.new.entries) }
     ensures err { OnErr result (threads.new.entries ≡ threads.old.entries) }
 {
-    threads.insert(tid, Thread { pid, ended: false })?;
+    threads.insert(tid, StartedThread { pid, ended: false })?;
     Ok(())
 }
 
 /// Ends a thread that hasn't ended, and gives its process. It takes no memory.
-pub fn end(threads: &mut BTreeMap<Tid, Thread>, tid: Tid) -> Pid
-    requires { runs (lookup (is_at (nat_cmp tid)) threads.old.entries) ≡ true }
+pub fn end(threads: &mut BTreeMap<Tid, StartedThread>, tid: Tid) -> Pid
+    requires { has_not_ended (lookup (is_at (nat_cmp tid)) threads.old.entries) ≡ true }
     ensures pid { lookup (is_at (nat_cmp tid)) threads.old.entries ≡ Some (record { pid = result; ended = false }) }
     ensures entries { threads.new.entries ≡ insert_entry nat_cmp threads.old.entries tid (record { pid = result; ended = true }) }
     ensures ordered { IsStrictlySortedBy nat_cmp (keys_of threads.new.entries) }
@@ -48,6 +52,6 @@ pub fn end(threads: &mut BTreeMap<Tid, Thread>, tid: Tid) -> Pid
         unreachable!()
     };
     let pid = thread.pid;
-    let _ = threads.insert(tid, Thread { pid, ended: true });
+    let _ = threads.insert(tid, StartedThread { pid, ended: true });
     pid
 }

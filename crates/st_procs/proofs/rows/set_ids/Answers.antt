@@ -1,5 +1,5 @@
 use Rattle.std.proofs.Common.{refl}
-use Rattle.st_names.specs.Process.{Process}
+use Rattle.st_model.specs.Process.{Process}
 use Rattle.st_procs.proofs.Kept.{changed, same_counts}
 use Rattle.st_procs.proofs.rows.set_ids.Goals as goal
 

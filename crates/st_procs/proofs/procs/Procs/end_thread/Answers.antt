@@ -1,5 +1,5 @@
 use Rattle.std.proofs.Common.{◌∙◌, ap, subst, sym}
-use Rattle.st_names.specs.Processes.{Processes, is_live}
+use Rattle.st_model.specs.Processes.{Processes, is_live}
 use Rattle.st_procs.specs.Laws.{ThreadEnds}
 use Rattle.st_procs.proofs.Live.{last_iff, threads_end}
 use Rattle.st_procs.proofs.procs.Procs.end_thread.Goals as goal

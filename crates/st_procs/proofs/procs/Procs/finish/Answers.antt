@@ -1,6 +1,6 @@
 use Rattle.std.proofs.Common.{◌≡◌, ◌-◌, List, length, arith, ap, ◌∙◌}
 use Rattle.std.proofs.lemmas.List.{length-map}
-use Rattle.st_names.specs.Processes.{at_number, put_number}
+use Rattle.st_base.specs.Numbered.{item_at_number_or, with_item_at_number}
 use Rattle.st_procs.specs.Rows.{counts_of, no_threads}
 use Rattle.st_procs.specs.declared.rows.Row.{Row}
 use Rattle.st_procs.specs.declared.rows.ThreadCounts.{ThreadCounts}
@@ -19,7 +19,7 @@ counts-counts-requires-clause-to c =
 pub overflow_sub-running : goal.overflow_sub-running
 overflow_sub-running c =
     let rows = c.self.inside.rows.items in
-    let is : c.counts-counts.result ≡ at_number no_threads (counts_of rows) c.end-pid.result = c.counts-counts.ensures ∙ ap (λ (r : List Row). at_number no_threads (counts_of r) c.end-pid.result) c.deref.ensures.value in
+    let is : c.counts-counts.result ≡ item_at_number_or no_threads (counts_of rows) c.end-pid.result = c.counts-counts.ensures ∙ ap (λ (r : List Row). item_at_number_or no_threads (counts_of r) c.end-pid.result) c.deref.ensures.value in
     omega (arith, ap (λ (n : ThreadCounts). n.running) is, one_runs (counts_of rows) c.self.inside.threads.entries c.self.invariant c.args.tid c.end-pid.result c.end-pid.ensures.pid)
 
 pub set_count-requires-clause-from : goal.set_count-requires-clause-from
@@ -35,13 +35,13 @@ invariant_of-self c =
     let rows = c.self.inside.rows.items in
     let threads = c.self.inside.threads.entries in
     let pid = c.end-pid.result in
-    let is : c.counts-counts.result ≡ at_number no_threads (counts_of rows) pid = c.counts-counts.ensures ∙ ap (λ (r : List Row). at_number no_threads (counts_of r) pid) c.deref.ensures.value in
+    let is : c.counts-counts.result ≡ item_at_number_or no_threads (counts_of rows) pid = c.counts-counts.ensures ∙ ap (λ (r : List Row). item_at_number_or no_threads (counts_of r) pid) c.deref.ensures.value in
     ended (counts_of rows) threads c.self.invariant c.args.tid pid c.end-pid.ensures.pid c.end-pid.new.threads.entries c.end-pid.ensures.entries c.ranges.tid.fits c.end-pid.ensures.ordered
     _
     (ap counts_of (written_back rows c.set_count.new.rows c.self.inside.rows.len (omega (arith, c.deref_mut.ensures.len, ap length c.deref_mut.ensures.value)) (omega (arith, c.set_count.auto.rows, ap length c.deref_mut.ensures.value)))
     ∙ c.set_count.ensures.counts
-    ∙ ap (λ (r : List Row). put_number (counts_of r) pid (pair c.counts-counts.result.begun (c.counts-counts.result.running - 1))) c.deref_mut.ensures.value
-    ∙ ap (λ (n : ThreadCounts). put_number (counts_of rows) pid (pair n.begun (n.running - 1))) is)
+    ∙ ap (λ (r : List Row). with_item_at_number (counts_of r) pid (pair c.counts-counts.result.begun (c.counts-counts.result.running - 1))) c.deref_mut.ensures.value
+    ∙ ap (λ (n : ThreadCounts). with_item_at_number (counts_of rows) pid (pair n.begun (n.running - 1))) is)
 
 pub returns-clause-there : goal.returns-clause-there
 returns-clause-there c =

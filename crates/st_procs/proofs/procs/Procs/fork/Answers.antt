@@ -3,12 +3,12 @@ use Rattle.std.proofs.lemmas.List.{length-map, map-append}
 use Rattle.std.specs.BTreeMap.{is_at}
 use Rattle.std.specs.Map.{lookup}
 use Rattle.std.specs.Ordering.{nat_cmp}
-use Rattle.st_names.specs.Processes.{Processes, Thread, thread_at, next_pid}
+use Rattle.st_model.specs.Processes.{Processes, StartedThread, thread_at, next_pid}
 use Rattle.st_procs.specs.Rows.{counts_of}
 use Rattle.st_procs.specs.declared.rows.Row.{Row}
 use Rattle.st_procs.proofs.Counts.{forked}
 use Rattle.st_procs.proofs.Kept.{as_many, not_started}
-use Rattle.st_procs.proofs.Lookups.{put}
+use Rattle.st_base.proofs.Insertions.{lookup-insert_number}
 use Rattle.st_procs.proofs.procs.Procs.fork.Goals as goal
 
 pub invariant_of-self-2 : goal.invariant_of-self-2
@@ -26,9 +26,9 @@ invariant_of-self-2 c =
 pub returns-clause-threads : goal.returns-clause-threads
 returns-clause-threads c = λ other.
     let rows = c.self.inside.rows.items in
-    let fresh : Thread = record { pid = c.len.result + 1; ended = false } in
+    let fresh : StartedThread = record { pid = c.len.result + 1; ended = false } in
     let child : c.len.result + 1 ≡ next_pid c.args.self.now = omega (arith, c.len.ensures, length-map rows (λ (row : Row). row.threads), as_many rows c.self.inside.threads.entries c.args.self.now c.self.view_is) in
     ap (λ es. lookup (is_at (nat_cmp other)) es) c.in_ok-begin.ensures.entries
-    ∙ put other c.args.tid fresh c.self.inside.threads.entries
+    ∙ lookup-insert_number other c.args.tid fresh c.self.inside.threads.entries
     ∙ ap (λ (p : Processes). cond (other == c.args.tid) (Some fresh) (thread_at p other)) c.self.view_is
-    ∙ ap (λ pid. cond {A = Option Thread} (other == c.args.tid) (Some (record { pid = pid; ended = false })) (thread_at c.args.self.now other)) child
+    ∙ ap (λ pid. cond {A = Option StartedThread} (other == c.args.tid) (Some (record { pid = pid; ended = false })) (thread_at c.args.self.now other)) child
