@@ -4,7 +4,7 @@ use Rattle.std.proofs.Math.ListN.{drop_of_length-le}
 use Rattle.std.proofs.Math.Seq.{take-append-add}
 use Rattle.std.proofs.lemmas.Bool.{cases_lt}
 use Rattle.std.proofs.lemmas.List.{append-nil, drop-drop, length-append, length-replicate, nil_from_length, take-append-le, take-replicate, take_all}
-use Rattle.st_names.specs.Tree.{overwritten}
+use Rattle.st_model.specs.Tree.{bytes_after_write}
 use borrow.Rule.Slice.PartMut.{put_mid}
 
 -- as many bytes are written over, from byte at on
@@ -43,7 +43,7 @@ back before end = elim (cases_lt end (length before)) [
 
 -- new bytes over those that were filled up to their end, if that lies behind them
 pub overwritten_is : (before new long : List ℕ) (at len : ℕ) → 0 < length new → length before ≤ len → len - length before ≡ at + length new - length before → long ≡ take len before ++ replicate (len - length before) 0
-    → take at long ++ new ++ drop (at + length new) long ≡ overwritten before at new
+    → take at long ++ new ++ drop (at + length new) long ≡ bytes_after_write before at new
 overwritten_is before [] long at len some larger zeros long_is = absurd (omega (arith, some))
 overwritten_is before (byte ∷ bytes) long at len some larger zeros long_is =
     let new : List ℕ = byte ∷ bytes in

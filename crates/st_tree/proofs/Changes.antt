@@ -12,21 +12,24 @@ use Rattle.std.specs.Map.{keys_of, lookup}
 use Rattle.std.specs.Option.{option_and_then, option_map}
 use Rattle.std.specs.Ordering.{nat_cmp}
 use Rattle.std.specs.Prelude.{if◌then◌else◌, slice_get}
-use Rattle.st_names.specs.Name.{Components, parent}
-use Rattle.st_names.specs.Tree.{Node, Tree, add_object, begins, in_order, is_directory, link_object, most_objects, moved, remove_name, root_node, root_only, with_name, without_name}
+use Rattle.st_names.specs.Name.{Components, last_part, parent}
+use Rattle.st_model.specs.Tree.{Node, Tree, add_object, is_prefix, sorted_names, is_directory, link_object, with_prefix_replaced, remove_name, root_node, root_only, with_name, without_name}
 use Rattle.st_tree.specs.Objects.{dirs_of, entries_at, entries_of_body, is_dir_at, is_dir_of, node_of, tree_of, IsNumber, IsWhole}
-use Rattle.st_tree.specs.Paths.{AreDirectories, Entries, entry, leads, names_under, with_entry, without_entry}
-use Rattle.st_tree.specs.Reached.{last_part, IsEmpty, IsFree, IsWay, Replaces}
-use Rattle.st_tree.specs.Refusals.{renamed}
+use Rattle.st_tree.specs.Paths.{AreDirectories, Entries, dir_entry, object_from, names_under, with_entry, without_entry}
+use Rattle.st_tree.specs.Reached.{IsEmpty, IsFree, IsRenamePlan, Replaces}
+use Rattle.st_tree.specs.Refusals.{tree_after_rename}
 use Rattle.st_tree.specs.declared.object.Object.{Object}
-use Rattle.st_tree.specs.declared.places.Way.{Way}
+use Rattle.st_tree.specs.declared.places.RenamePlan.{RenamePlan}
 use Rattle.st_tree.proofs.Flat.{same_names_under}
 use Rattle.st_tree.proofs.Leads.{same_directories}
 use Rattle.st_tree.proofs.Moves.{directories-added, directories-linked, directories-removed}
 use Rattle.st_tree.proofs.Names.{names-added, names-linked, names-removed, names-renamed}
 use Rattle.st_tree.proofs.Renames.{directories-renamed, with_moved}
 use Rattle.st_tree.proofs.Renamings.{way_apart}
-use Rattle.st_tree.proofs.Reasons.{parted}
+use Rattle.st_tree.proofs.Reasons.{parent-last_part}
+use Rattle.st_model.specs.declared.limits.TheConstants.{MOST_OBJECTS}
+
+-- ---- which objects are directories
 
 -- the nodes tell which objects are directories
 dir_of_node : Option Node → Bool
@@ -52,6 +55,8 @@ dirs_kept old new nodes number = dir_by_nodes new number ∙ ap (λ (ns : List N
 
 pub same_count : (old new : List Object) → map node_of new ≡ map node_of old → length new ≡ length old
 same_count old new nodes = sym (length-map new node_of) ∙ ap length nodes ∙ length-map old node_of
+
+-- ---- names that are linked, removed and renamed
 
 -- the objects make a tree, and this one
 pub record Makes (objects : List Object) (tree : Tree) : Type 0 where
@@ -91,7 +96,7 @@ module _ (old new : List Object) (whole : IsWhole old) (nodes : map node_of new 
       let dirs = whole.directories in
       made_after (with_entry (dirs_of old) holder (last_part name) held) (with_name (tree_of old).names name held) entries
       (directories-linked dirs (parent name) (last_part name) free.place free.dir free.free held above is.1 plainly)
-      (names-linked dirs (parent name) (last_part name) free.place free.dir free.free held above is.1 plainly ∙ ap (λ (n : Components). with_name (tree_of old).names n held) (parted name free.named)) where
+      (names-linked dirs (parent name) (last_part name) free.place free.dir free.free held above is.1 plainly ∙ ap (λ (n : Components). with_name (tree_of old).names n held) (parent-last_part name free.named)) where
         above_by : (held : ℕ) → 1 ≤ held → is_dir_of old held ≡ false → (held ≡ 1 → ⊥) → 1 < held
         above_by held low plain differs = omega (arith, low, differs)
 
@@ -108,28 +113,30 @@ module _ (old new : List Object) (whole : IsWhole old) (nodes : map node_of new 
       let dirs = whole.directories in
       made_after (without_entry (dirs_of old) holder (last_part name)) (without_name (tree_of old).names name) entries
       (directories-removed dirs (parent name) (last_part name) taken.place taken.taken empty.1.1)
-      (names-removed dirs (parent name) (last_part name) taken.place taken.taken empty.1.1 ∙ ap (without_name (tree_of old).names) (parted name taken.named))
+      (names-removed dirs (parent name) (last_part name) taken.place taken.taken empty.1.1 ∙ ap (without_name (tree_of old).names) (parent-last_part name taken.named))
 
   -- an object has another name, in place of what had it
-  pub made_renamed : (name other : Components) (way : Way) → IsWay old name other way
+  pub made_renamed : (name other : Components) (way : RenamePlan) → IsRenamePlan old name other way
       → ((number : ℕ) → dirs_of new number ≡ without_entry (with_entry (dirs_of old) way.to (last_part other) way.obj) way.from (last_part name) number)
-      → Makes new (renamed (tree_of old) name other)
+      → Makes new (tree_after_rename (tree_of old) name other)
   unfolding tree_of
   made_renamed name other way is entries =
       let taken = is.taken in
-      let from_is : parent name ++ last_part name ∷ [] ≡ name = parted name taken.named in
-      let to_is : parent other ++ last_part other ∷ [] ≡ other = parted other is.named in
-      let apart : begins (parent name ++ last_part name ∷ []) (parent other ++ last_part other ∷ []) ≡ false =
-      ap (λ (n : Components). begins n (parent other ++ last_part other ∷ [])) from_is ∙ ap (begins name) to_is ∙ way_apart old whole name other way is in
+      let from_is : parent name ++ last_part name ∷ [] ≡ name = parent-last_part name taken.named in
+      let to_is : parent other ++ last_part other ∷ [] ≡ other = parent-last_part other is.named in
+      let apart : is_prefix (parent name ++ last_part name ∷ []) (parent other ++ last_part other ∷ []) ≡ false =
+      ap (λ (n : Components). is_prefix n (parent other ++ last_part other ∷ [])) from_is ∙ ap (is_prefix name) to_is ∙ way_apart old whole name other way is in
       let dirs = whole.directories in
-      let bare : (number : ℕ) → entry (dirs_of old) way.to (last_part other) ≡ Some number → dirs_of old number ≡ [] = λ number there. (subst (Replaces old way.obj) there is.free).1 in
-      let moves : Components → Components → List (Components × ℕ) = λ a b. in_order (map (λ named. (moved a b named.0, named.1)) (without_name (tree_of old).names b)) in
+      let bare : (number : ℕ) → dir_entry (dirs_of old) way.to (last_part other) ≡ Some number → dirs_of old number ≡ [] = λ number there. (subst (Replaces old way.obj) there is.free).1 in
+      let moves : Components → Components → List (Components × ℕ) = λ a b. sorted_names (map (λ named. (with_prefix_replaced a b named.0, named.1)) (without_name (tree_of old).names b)) in
       let names : names_under (length old) (with_moved (dirs_of old) way.from (last_part name) way.to (last_part other) way.obj) 1 ≡ moves name other =
       names-renamed dirs (parent name) (last_part name) taken.place taken.taken (parent other) (last_part other) is.place is.dir bare apart
       ∙ ap (λ (a : Components). moves a (parent other ++ last_part other ∷ [])) from_is ∙ ap (moves name) to_is in
-      made_after (with_moved (dirs_of old) way.from (last_part name) way.to (last_part other) way.obj) (renamed (tree_of old) name other).names entries
+      made_after (with_moved (dirs_of old) way.from (last_part name) way.to (last_part other) way.obj) (tree_after_rename (tree_of old) name other).names entries
       (directories-renamed dirs (parent name) (last_part name) taken.place taken.taken (parent other) (last_part other) is.place is.dir bare apart)
       (names ∙ sym (ap (λ (one : Bool). if one then (tree_of old).names else moves name other) is.differ))
+
+-- ---- a new object
 
 push_entries : (objects : List Object) (object : Object) (before : ℕ) → entries_of_body object.body ≡ [] → entries_at (slice_get (objects ++ object ∷ []) before) ≡ entries_at (slice_get objects before)
 push_entries [] object zero none = none
@@ -151,7 +158,7 @@ push_dir objects object zero inside = refl
 push_dir objects object (suc before) inside = ap is_dir_at (push_before objects object before (omega (arith, inside)))
 
 -- a new object has a new name
-pub made_added : (old new : List Object) (object : Object) → IsWhole old → length old < most_objects → map node_of new ≡ map node_of old → (name : Components) (holder : ℕ) → IsFree old name holder
+pub made_added : (old new : List Object) (object : Object) → IsWhole old → length old < MOST_OBJECTS → map node_of new ≡ map node_of old → (name : Components) (holder : ℕ) → IsFree old name holder
     → ((number : ℕ) → dirs_of new number ≡ with_entry (dirs_of old) holder (last_part name) (suc (length old)) number) → entries_of_body object.body ≡ []
     → Makes (new ++ object ∷ []) (add_object (tree_of old) name (node_of object))
 unfolding tree_of
@@ -169,7 +176,7 @@ made_added old new object whole room nodes name holder free entries none =
     ap (λ (n : ℕ). names_under n (dirs_of all) 1) count
     ∙ same_names_under (dirs_of all) after dirs (suc (length old)) 1
     ∙ names-added are (parent name) (last_part name) free.place free.dir free.free
-    ∙ ap (λ (n : Components). with_name (tree_of old).names n (suc (length old))) (parted name free.named)
+    ∙ ap (λ (n : Components). with_name (tree_of old).names n (suc (length old))) (parent-last_part name free.named)
     ∙ ap (λ (n : ℕ). with_name (tree_of old).names name (suc n)) (sym counted) in
     record {
       whole = record {
@@ -178,6 +185,8 @@ made_added old new object whole room nodes name holder free entries none =
       };
       view = λ i. record { names = names_are i; objects = nodes_are i };
     }
+
+-- ---- objects in the place that contains them
 
 -- the objects are written back into the place that holds them
 pub written : (objects : Vec Object Global) (new : List Object) (old tree : Tree) (change : Tree → Tree) → length new ≡ length objects.items → old ≡ tree → Makes new (change old) → Makes (with_items objects new).items (change tree)
@@ -203,26 +212,28 @@ written_same objects old at new tree whole view items at_is nodes dirs =
     (made_again old new whole nodes_are (λ number. dirs number ∙ ap (λ (os : List Object). dirs_of os number) at_is))
 
 module _ (object : Object) (node : node_of object ≡ root_node) (none : entries_of_body object.body ≡ []) where
+  -- ---- a tree of the root alone
+
   no_dirs : (number : ℕ) → dirs_of (object ∷ []) number ≡ []
   no_dirs zero = refl
   no_dirs (suc zero) = none
   no_dirs (suc (suc number)) = refl
 
-  no_entry : (number : ℕ) (part : List ℕ) → entry (dirs_of (object ∷ [])) number part ≡ None
+  no_entry : (number : ℕ) (part : List ℕ) → dir_entry (dirs_of (object ∷ [])) number part ≡ None
   no_entry number part = ap (lookup (is_at (slice_cmp nat_cmp part))) (no_dirs number)
 
-  leads_nowhere : (part : List ℕ) (rest : Components) → leads (dirs_of (object ∷ [])) 1 (part ∷ rest) ≡ None
-  leads_nowhere part rest = ap (option_and_then (λ number. leads (dirs_of (object ∷ [])) number rest)) (no_entry 1 part)
+  leads_nowhere : (part : List ℕ) (rest : Components) → object_from (dirs_of (object ∷ [])) 1 (part ∷ rest) ≡ None
+  leads_nowhere part rest = ap (option_and_then (λ number. object_from (dirs_of (object ∷ [])) number rest)) (no_entry 1 part)
 
-  only_root : (number : ℕ) (name other : Components) → leads (dirs_of (object ∷ [])) 1 name ≡ Some number → leads (dirs_of (object ∷ [])) 1 other ≡ Some number → name ≡ other
+  only_root : (number : ℕ) (name other : Components) → object_from (dirs_of (object ∷ [])) 1 name ≡ Some number → object_from (dirs_of (object ∷ [])) 1 other ≡ Some number → name ≡ other
   only_root number [] [] led led_too = refl
   only_root number [] (part ∷ rest) led led_too = absurd (none-some number (sym (leads_nowhere part rest) ∙ led_too))
   only_root number (part ∷ rest) other led led_too = absurd (none-some number (sym (leads_nowhere part rest) ∙ led))
 
   -- the root alone
-  pub root_alone : Makes (object ∷ []) root_only
+  pub root_tree : Makes (object ∷ []) root_only
   unfolding tree_of IsStrictlySortedBy
-  root_alone =
+  root_tree =
       let nodes : node_of object ∷ [] ≡ root_node ∷ [] = ap (λ (n : Node). n ∷ []) node in
       let names : names_under 1 (dirs_of (object ∷ [])) 1 ≡ [] =
       ap (flat_map (λ held. (held.0 ∷ [], held.1) ∷ map (λ named. (held.0 ∷ named.0, named.1)) (names_under 0 (dirs_of (object ∷ [])) held.1))) none in

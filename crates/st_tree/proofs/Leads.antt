@@ -7,47 +7,47 @@ use Rattle.std.specs.Cmp.Lexicographic.{slice_cmp}
 use Rattle.std.specs.Map.{lookup}
 use Rattle.std.specs.Ordering.{nat_cmp}
 use Rattle.st_names.specs.Name.{Components}
-use Rattle.st_names.specs.Tree.{begins}
-use Rattle.st_names.proofs.Ordered.{begins_longer, begins_rest}
+use Rattle.st_model.specs.Tree.{is_prefix}
+use Rattle.st_model.proofs.Ordered.{begins_longer, begins_rest}
 use Rattle.st_tree.proofs.Flat.{leads-append, reached_numbered}
-use Rattle.st_tree.specs.Paths.{Entries, AreDirectories, entry, leads}
+use Rattle.st_tree.specs.Paths.{Entries, AreDirectories, dir_entry, object_from}
 
 -- what leads on from where a name leads
-pub leads_on : (dirs : ℕ → Entries) (from at : ℕ) (name rest : Components) → leads dirs from name ≡ Some at → leads dirs from (name ++ rest) ≡ leads dirs at rest
-leads_on dirs from at name rest is = leads-append dirs from name rest ∙ ap (option_and_then (λ number. leads dirs number rest)) is
+pub leads_on : (dirs : ℕ → Entries) (from at : ℕ) (name rest : Components) → object_from dirs from name ≡ Some at → object_from dirs from (name ++ rest) ≡ object_from dirs at rest
+leads_on dirs from at name rest is = leads-append dirs from name rest ∙ ap (option_and_then (λ number. object_from dirs number rest)) is
 
 -- behind what an option has, the empty name leads to that
-pub ends_there : (dirs : ℕ → Entries) (held : Option ℕ) → option_and_then (λ number. leads dirs number []) held ≡ held
+pub ends_there : (dirs : ℕ → Entries) (held : Option ℕ) → option_and_then (λ number. object_from dirs number []) held ≡ held
 ends_there dirs None = refl
 ends_there dirs (Some number) = refl
 
 -- a name with one component more leads to that component's object where the name leads
-pub leads_end : (dirs : ℕ → Entries) (from at : ℕ) (name : Components) (part : List ℕ) → leads dirs from name ≡ Some at → leads dirs from (name ++ part ∷ []) ≡ entry dirs at part
-leads_end dirs from at name part is = leads_on dirs from at name (part ∷ []) is ∙ ends_there dirs (entry dirs at part)
+pub leads_end : (dirs : ℕ → Entries) (from at : ℕ) (name : Components) (part : List ℕ) → object_from dirs from name ≡ Some at → object_from dirs from (name ++ part ∷ []) ≡ dir_entry dirs at part
+leads_end dirs from at name part is = leads_on dirs from at name (part ∷ []) is ∙ ends_there dirs (dir_entry dirs at part)
 
 -- two directories that hold the same on every way of a name lead it to the same object
 pub leads_alike : (dirs others : ℕ → Entries) (from : ℕ) (name : Components)
-    → ((front : Components) (part : List ℕ) (back : Components) (number : ℕ) → name ≡ front ++ part ∷ back → leads dirs from front ≡ Some number → entry others number part ≡ entry dirs number part)
-    → leads others from name ≡ leads dirs from name
+    → ((front : Components) (part : List ℕ) (back : Components) (number : ℕ) → name ≡ front ++ part ∷ back → object_from dirs from front ≡ Some number → dir_entry others number part ≡ dir_entry dirs number part)
+    → object_from others from name ≡ object_from dirs from name
 leads_alike dirs others from [] same = refl
 leads_alike dirs others from (part ∷ rest) same =
-    ap (option_and_then (λ number. leads others number rest)) (same [] part rest from refl refl)
-    ∙ by (entry dirs from part) (λ number is. leads_alike dirs others number rest (λ front next back at split there.
-    same (part ∷ front) next back at (ap (λ (tail : Components). part ∷ tail) split) (ap (option_and_then (λ other. leads dirs other front)) is ∙ there))) where
-      by : (held : Option ℕ) → ((number : ℕ) → held ≡ Some number → leads others number rest ≡ leads dirs number rest) → option_and_then (λ number. leads others number rest) held ≡ option_and_then (λ number. leads dirs number rest) held
+    ap (option_and_then (λ number. object_from others number rest)) (same [] part rest from refl refl)
+    ∙ by (dir_entry dirs from part) (λ number is. leads_alike dirs others number rest (λ front next back at split there.
+    same (part ∷ front) next back at (ap (λ (tail : Components). part ∷ tail) split) (ap (option_and_then (λ other. object_from dirs other front)) is ∙ there))) where
+      by : (held : Option ℕ) → ((number : ℕ) → held ≡ Some number → object_from others number rest ≡ object_from dirs number rest) → option_and_then (λ number. object_from others number rest) held ≡ option_and_then (λ number. object_from dirs number rest) held
       by None more = refl
       by (Some number) more = more number refl
 
 -- no component leads on from an object without entries
-pub entry_none : (dirs : ℕ → Entries) (number : ℕ) (part : List ℕ) → dirs number ≡ [] → entry dirs number part ≡ None
+pub entry_none : (dirs : ℕ → Entries) (number : ℕ) (part : List ℕ) → dirs number ≡ [] → dir_entry dirs number part ≡ None
 entry_none dirs number part bare = ap (lookup (is_at (slice_cmp nat_cmp part))) bare
 
 -- behind an object without entries no name leads anywhere
-pub leads_none : (dirs : ℕ → Entries) (number : ℕ) (part : List ℕ) (rest : Components) → dirs number ≡ [] → leads dirs number (part ∷ rest) ≡ None
-leads_none dirs number part rest bare = ap (option_and_then (λ other. leads dirs other rest)) (entry_none dirs number part bare)
+pub leads_none : (dirs : ℕ → Entries) (number : ℕ) (part : List ℕ) (rest : Components) → dirs number ≡ [] → object_from dirs number (part ∷ rest) ≡ None
+leads_none dirs number part rest bare = ap (option_and_then (λ other. object_from dirs other rest)) (entry_none dirs number part bare)
 
 -- what leads on from a bare object, or from none
-pub bare_end : (dirs : ℕ → Entries) (held : Option ℕ) (next : List ℕ) (rest : Components) → ((number : ℕ) → held ≡ Some number → dirs number ≡ []) → option_and_then (λ number. leads dirs number (next ∷ rest)) held ≡ None
+pub bare_end : (dirs : ℕ → Entries) (held : Option ℕ) (next : List ℕ) (rest : Components) → ((number : ℕ) → held ≡ Some number → dirs number ≡ []) → option_and_then (λ number. object_from dirs number (next ∷ rest)) held ≡ None
 bare_end dirs None next rest bare = refl
 bare_end dirs (Some number) next rest bare = leads_none dirs number next rest (bare number refl)
 
@@ -61,8 +61,8 @@ pub unmade : {count : ℕ} {is_dir : ℕ → Bool} {dirs : ℕ → Entries} → 
 unmade are number above = are.lost number (λ name is. above (reached_numbered _ _ _ are name number is).1)
 
 -- directories that are equal each lead names to the same objects
-pub leads_equal : (dirs others : ℕ → Entries) → ((number : ℕ) → others number ≡ dirs number) → (from : ℕ) (name : Components) → leads others from name ≡ leads dirs from name
-leads_equal dirs others same from name = λ i. leads (λ number. same number i) from name
+pub leads_equal : (dirs others : ℕ → Entries) → ((number : ℕ) → others number ≡ dirs number) → (from : ℕ) (name : Components) → object_from others from name ≡ object_from dirs from name
+leads_equal dirs others same from name = λ i. object_from (λ number. same number i) from name
 
 -- and each of them is what the other is
 pub same_directories : {count : ℕ} {is_dir is_dir_now : ℕ → Bool} {dirs others : ℕ → Entries} → ((number : ℕ) → is_dir_now number ≡ is_dir number) → ((number : ℕ) → others number ≡ dirs number) → AreDirectories count is_dir dirs → AreDirectories count is_dir_now others
@@ -71,11 +71,11 @@ same_directories {count} alike same are = subst₂ (AreDirectories count) (λ i 
 -- ---- names that begin as others do
 
 -- a name that doesn't begin with another is not that one and some more
-pub apart_from : (name other rest : Components) → begins name other ≡ false → other ≢ name ++ rest
-apart_from name other rest refused is = false≢true (sym refused ∙ ap (begins name) is ∙ begins_longer name rest)
+pub apart_from : (name other rest : Components) → is_prefix name other ≡ false → other ≢ name ++ rest
+apart_from name other rest refused is = false≢true (sym refused ∙ ap (is_prefix name) is ∙ begins_longer name rest)
 
 -- a name doesn't begin with a longer one
-pub longer_apart : (name : Components) (part : List ℕ) (rest : Components) → begins ((name ++ part ∷ []) ++ rest) name ≡ false
+pub longer_apart : (name : Components) (part : List ℕ) (rest : Components) → is_prefix ((name ++ part ∷ []) ++ rest) name ≡ false
 longer_apart name part rest = false_from_ne_true _ (λ yes.
     let longer : length name ≡ length (((name ++ part ∷ []) ++ rest) ++ drop (length ((name ++ part ∷ []) ++ rest)) name) = ap length (begins_rest ((name ++ part ∷ []) ++ rest) name yes) in
     omega (arith, simp length-append at longer))

@@ -7,74 +7,78 @@ use Rattle.std.specs.List.Sorted.{IsStrictlySortedBy}
 use Rattle.std.specs.Map.{keys_of}
 use Rattle.std.specs.Ordering.{nat_cmp}
 use Rattle.st_names.specs.Name.{Components}
-use Rattle.st_names.specs.Tree.{begins, same_name}
-use Rattle.st_names.proofs.Objects.{same_name-Decides}
-use Rattle.st_names.proofs.Ordered.{begins_rest}
+use Rattle.st_model.specs.Tree.{is_prefix, is_same_name}
+use Rattle.st_model.proofs.Objects.{is_same_name-Decides}
+use Rattle.st_model.proofs.Ordered.{begins_rest}
 use Rattle.st_tree.proofs.Flat.{entry_in_directory, reached_numbered}
 use Rattle.st_tree.proofs.Leads.{leads_alike, leads_on, leads_end, ends_there, bare_end, has_or_not, unmade, apart_from, longer_apart, append-end}
 use Rattle.st_tree.proofs.Puts.{is_here, is_here-Decides, entry-with_here, entry-with_apart, with_entry_apart, sorted-with_entry, entry-without_here, entry-without_apart, without_entry_apart, sorted-without_entry}
-use Rattle.st_tree.specs.Paths.{Entries, AreDirectories, entry, leads, with_entry, without_entry}
+use Rattle.st_tree.specs.Paths.{Entries, AreDirectories, dir_entry, object_from, with_entry, without_entry}
+
+-- ---- where names lead
 
 -- one entry has another object or none now; what it had and what it has hold nothing
 pub record OneEntry (dirs others : ℕ → Entries) (holder : ℕ) (part : List ℕ) (now : Option ℕ) : Type 0 where
   pub kept : (number : ℕ) → number ≢ holder → others number ≡ dirs number
-  pub apart : (number : ℕ) (q : List ℕ) → (number ≡ holder → q ≡ part → ⊥) → entry others number q ≡ entry dirs number q
-  pub here : entry others holder part ≡ now
-  pub was_bare : (number : ℕ) → entry dirs holder part ≡ Some number → dirs number ≡ []
+  pub apart : (number : ℕ) (q : List ℕ) → (number ≡ holder → q ≡ part → ⊥) → dir_entry others number q ≡ dir_entry dirs number q
+  pub here : dir_entry others holder part ≡ now
+  pub was_bare : (number : ℕ) → dir_entry dirs holder part ≡ Some number → dirs number ≡ []
   pub is_bare : (number : ℕ) → now ≡ Some number → others number ≡ []
 
-module _ {count : ℕ} {is_dir : ℕ → Bool} {dirs others : ℕ → Entries} (are : AreDirectories count is_dir dirs) (place : Components) {holder : ℕ} {part : List ℕ} {now : Option ℕ} (reach : leads dirs 1 place ≡ Some holder) (dir : is_dir holder ≡ true) (one : OneEntry dirs others holder part now) where
+module _ {count : ℕ} {is_dir : ℕ → Bool} {dirs others : ℕ → Entries} (are : AreDirectories count is_dir dirs) (place : Components) {holder : ℕ} {part : List ℕ} {now : Option ℕ} (reach : object_from dirs 1 place ≡ Some holder) (dir : is_dir holder ≡ true) (one : OneEntry dirs others holder part now) where
   -- a name that doesn't begin with the entry's leads where it led
-  pub leads_elsewhere : (name : Components) → begins (place ++ part ∷ []) name ≡ false → leads others 1 name ≡ leads dirs 1 name
+  pub leads_elsewhere : (name : Components) → is_prefix (place ++ part ∷ []) name ≡ false → object_from others 1 name ≡ object_from dirs 1 name
   leads_elsewhere name outside = leads_alike dirs others 1 name (λ front q back number split there.
       one.apart number q (λ at same.
       let met : front ≡ place = are.single holder front place dir (there ∙ ap (λ (n : ℕ). Some n) at) reach in
       apart_from (place ++ part ∷ []) name back outside (split ∙ ap (λ (a : Components). a ++ q ∷ back) met ∙ ap (λ (p : List ℕ). place ++ p ∷ back) same ∙ sym (append-end place part back))))
 
   -- the directory is reached as before
-  pub reach_kept : leads others 1 place ≡ Some holder
-  reach_kept = leads_elsewhere place (ap (λ (a : Components). begins a place) (sym (append-nil (place ++ part ∷ []))) ∙ longer_apart place part []) ∙ reach
+  pub reach_kept : object_from others 1 place ≡ Some holder
+  reach_kept = leads_elsewhere place (ap (λ (a : Components). is_prefix a place) (sym (append-nil (place ++ part ∷ []))) ∙ longer_apart place part []) ∙ reach
 
   -- a name that begins with the entry's leads on from what it has now
-  pub leads_behind : (rest : Components) → leads others 1 ((place ++ part ∷ []) ++ rest) ≡ option_and_then (λ number. leads others number rest) now
+  pub leads_behind : (rest : Components) → object_from others 1 ((place ++ part ∷ []) ++ rest) ≡ option_and_then (λ number. object_from others number rest) now
   leads_behind rest =
-      ap (leads others 1) (append-end place part rest) ∙ leads_on others 1 holder place (part ∷ rest) reach_kept
-      ∙ ap (option_and_then (λ number. leads others number rest)) one.here
+      ap (object_from others 1) (append-end place part rest) ∙ leads_on others 1 holder place (part ∷ rest) reach_kept
+      ∙ ap (option_and_then (λ number. object_from others number rest)) one.here
 
   -- a name has what the entry has now if it is the entry's, and else leads where it led
-  pub leads_one : (name : Components) → leads others 1 name ≡ (if same_name (place ++ part ∷ []) name then now else leads dirs 1 name)
-  leads_one name = ⊎_elim behind outside (cases_Bool (begins (place ++ part ∷ []) name)) where
-    outside : begins (place ++ part ∷ []) name ≡ false → leads others 1 name ≡ (if same_name (place ++ part ∷ []) name then now else leads dirs 1 name)
+  pub leads_one : (name : Components) → object_from others 1 name ≡ (if is_same_name (place ++ part ∷ []) name then now else object_from dirs 1 name)
+  leads_one name = ⊎_elim behind outside (cases_Bool (is_prefix (place ++ part ∷ []) name)) where
+    outside : is_prefix (place ++ part ∷ []) name ≡ false → object_from others 1 name ≡ (if is_same_name (place ++ part ∷ []) name then now else object_from dirs 1 name)
     outside apart =
-        let differs : same_name (place ++ part ∷ []) name ≡ false = false_from_ne_true _ (λ same. apart_from (place ++ part ∷ []) name [] apart (sym ((same_name-Decides (place ++ part ∷ []) name).0 same) ∙ sym (append-nil (place ++ part ∷ [])))) in
+        let differs : is_same_name (place ++ part ∷ []) name ≡ false = false_from_ne_true _ (λ same. apart_from (place ++ part ∷ []) name [] apart (sym ((is_same_name-Decides (place ++ part ∷ []) name).0 same) ∙ sym (append-nil (place ++ part ∷ [])))) in
         leads_elsewhere name apart ∙ sym (cond-false _ _ _ differs)
 
-    by : (rest : Components) → name ≡ (place ++ part ∷ []) ++ rest → leads others 1 name ≡ (if same_name (place ++ part ∷ []) name then now else leads dirs 1 name)
+    by : (rest : Components) → name ≡ (place ++ part ∷ []) ++ rest → object_from others 1 name ≡ (if is_same_name (place ++ part ∷ []) name then now else object_from dirs 1 name)
     by [] is =
-        let same : same_name (place ++ part ∷ []) name ≡ true = (same_name-Decides (place ++ part ∷ []) name).1 (sym (is ∙ append-nil (place ++ part ∷ []))) in
-        ap (leads others 1) is ∙ leads_behind [] ∙ ends_there others now ∙ sym (cond-true _ _ _ same)
+        let same : is_same_name (place ++ part ∷ []) name ≡ true = (is_same_name-Decides (place ++ part ∷ []) name).1 (sym (is ∙ append-nil (place ++ part ∷ []))) in
+        ap (object_from others 1) is ∙ leads_behind [] ∙ ends_there others now ∙ sym (cond-true _ _ _ same)
     by (next ∷ rest) is =
-        let differs : same_name (place ++ part ∷ []) name ≡ false = false_from_ne_true _ (λ same.
-        let none : [] ≡ next ∷ rest = append_cancel_left (place ++ part ∷ []) [] (next ∷ rest) (append-nil (place ++ part ∷ []) ∙ (same_name-Decides (place ++ part ∷ []) name).0 same ∙ is) in cc) in
-        let nowhere : leads others 1 name ≡ None = ap (leads others 1) is ∙ leads_behind (next ∷ rest) ∙ bare_end others now next rest one.is_bare in
-        let before : leads dirs 1 name ≡ None =
-        ap (leads dirs 1) (is ∙ append-end place part (next ∷ rest)) ∙ leads_on dirs 1 holder place (part ∷ next ∷ rest) reach ∙ bare_end dirs (entry dirs holder part) next rest one.was_bare in
+        let differs : is_same_name (place ++ part ∷ []) name ≡ false = false_from_ne_true _ (λ same.
+        let none : [] ≡ next ∷ rest = append_cancel_left (place ++ part ∷ []) [] (next ∷ rest) (append-nil (place ++ part ∷ []) ∙ (is_same_name-Decides (place ++ part ∷ []) name).0 same ∙ is) in cc) in
+        let nowhere : object_from others 1 name ≡ None = ap (object_from others 1) is ∙ leads_behind (next ∷ rest) ∙ bare_end others now next rest one.is_bare in
+        let before : object_from dirs 1 name ≡ None =
+        ap (object_from dirs 1) (is ∙ append-end place part (next ∷ rest)) ∙ leads_on dirs 1 holder place (part ∷ next ∷ rest) reach ∙ bare_end dirs (dir_entry dirs holder part) next rest one.was_bare in
         nowhere ∙ sym before ∙ sym (cond-false _ _ _ differs)
 
-    behind : begins (place ++ part ∷ []) name ≡ true → leads others 1 name ≡ (if same_name (place ++ part ∷ []) name then now else leads dirs 1 name)
+    behind : is_prefix (place ++ part ∷ []) name ≡ true → object_from others 1 name ≡ (if is_same_name (place ++ part ∷ []) name then now else object_from dirs 1 name)
     behind within = by (drop (length (place ++ part ∷ [])) name) (begins_rest (place ++ part ∷ []) name within)
 
   -- what a number of the old ones is, it stays; what the entry has now is numbered, and a directory only if no name reached it
   module _ {more : ℕ} {is_dir_now : ℕ → Bool} (at_least : count ≤ more) (alike : (number : ℕ) → number ≤ count → is_dir_now number ≡ is_dir number)
       (in_order : IsStrictlySortedBy (slice_cmp nat_cmp) (keys_of (others holder)))
       (numbers : (number : ℕ) → now ≡ Some number → (1 < number) × (number ≤ more))
-      (fresh : (number : ℕ) → now ≡ Some number → is_dir_now number ≡ true → (name : Components) → leads dirs 1 name ≢ Some number) where
+      (fresh : (number : ℕ) → now ≡ Some number → is_dir_now number ≡ true → (name : Components) → object_from dirs 1 name ≢ Some number) where
+    -- ---- what stays of directories
+
     low : holder ≤ count
     low = (reached_numbered _ _ _ are place holder reach).1
 
-    numbered_one : (number : ℕ) (q : List ℕ) (held : ℕ) → entry others number q ≡ Some held → (1 < held) × (held ≤ more)
+    numbered_one : (number : ℕ) (q : List ℕ) (held : ℕ) → dir_entry others number q ≡ Some held → (1 < held) × (held ≤ more)
     numbered_one number q held is = ⊎_elim
-        (λ same. numbers held (sym one.here ∙ ap (λ (n : ℕ). entry others n part) (sym ((is_here-Decides holder part number q).0 same).0) ∙ ap (entry others number) (sym ((is_here-Decides holder part number q).0 same).1) ∙ is))
+        (λ same. numbers held (sym one.here ∙ ap (λ (n : ℕ). dir_entry others n part) (sym ((is_here-Decides holder part number q).0 same).0) ∙ ap (dir_entry others number) (sym ((is_here-Decides holder part number q).0 same).1) ∙ is))
         (λ differs.
         let before = are.numbered number q held (sym (one.apart number q (λ at same. both_ways _ differs ((is_here-Decides holder part number q).1 (at, same)))) ∙ is) in
         (before.0, omega (arith, before.1)))
@@ -89,25 +93,25 @@ module _ {count : ℕ} {is_dir : ℕ → Bool} {dirs others : ℕ → Entries} (
         (cases_lt count number))
         (cases_eq number holder)
 
-    single_by : (number : ℕ) (name other : Components) (b c : Bool) → same_name (place ++ part ∷ []) name ≡ b → same_name (place ++ part ∷ []) other ≡ c → is_dir_now number ≡ true
-        → (if b then now else leads dirs 1 name) ≡ Some number → (if c then now else leads dirs 1 other) ≡ Some number → name ≡ other
-    single_by number name other true true p q d h k = sym ((same_name-Decides (place ++ part ∷ []) name).0 p) ∙ (same_name-Decides (place ++ part ∷ []) other).0 q
+    single_by : (number : ℕ) (name other : Components) (b c : Bool) → is_same_name (place ++ part ∷ []) name ≡ b → is_same_name (place ++ part ∷ []) other ≡ c → is_dir_now number ≡ true
+        → (if b then now else object_from dirs 1 name) ≡ Some number → (if c then now else object_from dirs 1 other) ≡ Some number → name ≡ other
+    single_by number name other true true p q d h k = sym ((is_same_name-Decides (place ++ part ∷ []) name).0 p) ∙ (is_same_name-Decides (place ++ part ∷ []) other).0 q
     single_by number name other true false p q d h k = absurd (fresh number h d other k)
     single_by number name other false true p q d h k = absurd (fresh number k d name h)
     single_by number name other false false p q d h k = are.single number name other (sym (alike number ((reached_numbered _ _ _ are name number h).1)) ∙ d) h k
 
-    single_one : (number : ℕ) (name other : Components) → is_dir_now number ≡ true → leads others 1 name ≡ Some number → leads others 1 other ≡ Some number → name ≡ other
+    single_one : (number : ℕ) (name other : Components) → is_dir_now number ≡ true → object_from others 1 name ≡ Some number → object_from others 1 other ≡ Some number → name ≡ other
     single_one number name other d h k = single_by number name other _ _ refl refl d (sym (leads_one name) ∙ h) (sym (leads_one other) ∙ k)
 
-    lost_one : (number : ℕ) → ((name : Components) → leads others 1 name ≢ Some number) → others number ≡ []
+    lost_one : (number : ℕ) → ((name : Components) → object_from others 1 name ≢ Some number) → others number ≡ []
     lost_one number none =
         one.kept number (λ at. none place (reach_kept ∙ ap (λ (n : ℕ). Some n) (sym at))) ∙ ⊎_elim
         (λ was. one.was_bare number was)
         (λ differs. are.lost number (λ name is. ⊎_elim
-        (λ same. differs (sym (leads_end dirs 1 holder place part reach) ∙ ap (leads dirs 1) ((same_name-Decides (place ++ part ∷ []) name).0 same) ∙ is))
+        (λ same. differs (sym (leads_end dirs 1 holder place part reach) ∙ ap (object_from dirs 1) ((is_same_name-Decides (place ++ part ∷ []) name).0 same) ∙ is))
         (λ apart. none name (leads_one name ∙ cond-false _ _ _ apart ∙ is))
-        (cases_Bool (same_name (place ++ part ∷ []) name))))
-        (has_or_not (entry dirs holder part) number)
+        (cases_Bool (is_same_name (place ++ part ∷ []) name))))
+        (has_or_not (dir_entry dirs holder part) number)
 
     -- so the directories stay directories
     pub directories_one : AreDirectories more is_dir_now others
@@ -124,8 +128,10 @@ module _ {count : ℕ} {is_dir : ℕ → Bool} {dirs others : ℕ → Entries} (
       lost = lost_one;
     }
 
+-- ---- entries that are put
+
 -- an object without entries gets a name that led nowhere
-bare_put : (dirs : ℕ → Entries) (holder : ℕ) (part : List ℕ) (held : ℕ) → entry dirs holder part ≡ None → held ≢ holder → dirs held ≡ [] → OneEntry dirs (with_entry dirs holder part held) holder part (Some held)
+bare_put : (dirs : ℕ → Entries) (holder : ℕ) (part : List ℕ) (held : ℕ) → dir_entry dirs holder part ≡ None → held ≢ holder → dirs held ≡ [] → OneEntry dirs (with_entry dirs holder part held) holder part (Some held)
 bare_put dirs holder part held absent differs bare = record {
   kept = with_entry_apart dirs holder part held;
   apart = entry-with_apart dirs holder part held;
@@ -134,13 +140,13 @@ bare_put dirs holder part held absent differs bare = record {
   is_bare = λ number is. let same : held ≡ number = cc in subst (λ (n : ℕ). with_entry dirs holder part held n ≡ []) same (with_entry_apart dirs holder part held held differs ∙ bare);
 }
 
-module _ {count : ℕ} {is_dir : ℕ → Bool} {dirs : ℕ → Entries} (are : AreDirectories count is_dir dirs) (place : Components) {holder : ℕ} (part : List ℕ) (reach : leads dirs 1 place ≡ Some holder) where
-  module _ (dir : is_dir holder ≡ true) (absent : entry dirs holder part ≡ None) where
+module _ {count : ℕ} {is_dir : ℕ → Bool} {dirs : ℕ → Entries} (are : AreDirectories count is_dir dirs) (place : Components) {holder : ℕ} (part : List ℕ) (reach : object_from dirs 1 place ≡ Some holder) where
+  module _ (dir : is_dir holder ≡ true) (absent : dir_entry dirs holder part ≡ None) where
     added : OneEntry dirs (with_entry dirs holder part (suc count)) holder part (Some (suc count))
     added = bare_put dirs holder part (suc count) absent (λ same. let low : holder ≤ count = (reached_numbered _ _ _ are place holder reach).1 in omega arith) (unmade are (suc count) (λ low. omega arith))
 
     -- a new object has its name, and each other name what it had
-    pub leads-added : (name : Components) → leads (with_entry dirs holder part (suc count)) 1 name ≡ (if same_name (place ++ part ∷ []) name then Some (suc count) else leads dirs 1 name)
+    pub leads-added : (name : Components) → object_from (with_entry dirs holder part (suc count)) 1 name ≡ (if is_same_name (place ++ part ∷ []) name then Some (suc count) else object_from dirs 1 name)
     leads-added = leads_one are place reach dir added
 
     -- directories with a new object in one are directories, whatever it is
@@ -155,7 +161,7 @@ module _ {count : ℕ} {is_dir : ℕ → Bool} {dirs : ℕ → Entries} (are : A
       linked = bare_put dirs holder part held absent (λ same. plain (ap is_dir same ∙ dir)) (are.only held plain)
 
       -- an object that is no directory has one more name
-      pub leads-linked : (name : Components) → leads (with_entry dirs holder part held) 1 name ≡ (if same_name (place ++ part ∷ []) name then Some held else leads dirs 1 name)
+      pub leads-linked : (name : Components) → object_from (with_entry dirs holder part held) 1 name ≡ (if is_same_name (place ++ part ∷ []) name then Some held else object_from dirs 1 name)
       leads-linked = leads_one are place reach dir linked
 
       -- directories stay directories
@@ -165,7 +171,9 @@ module _ {count : ℕ} {is_dir : ℕ → Bool} {dirs : ℕ → Entries} (are : A
           (λ number is. let same : held ≡ number = cc in omega arith)
           (λ number is d name led. let same : held ≡ number = cc in absurd (plain (ap is_dir same ∙ d)))
 
-  module _ {held : ℕ} (has : entry dirs holder part ≡ Some held) (bare : dirs held ≡ []) where
+  module _ {held : ℕ} (has : dir_entry dirs holder part ≡ Some held) (bare : dirs held ≡ []) where
+    -- ---- entries that are taken
+
     removed : OneEntry dirs (without_entry dirs holder part) holder part None
     removed = record {
       kept = without_entry_apart dirs holder part;
@@ -176,7 +184,7 @@ module _ {count : ℕ} {is_dir : ℕ → Bool} {dirs : ℕ → Entries} (are : A
     }
 
     -- a name leads nowhere, and each other name where it led
-    pub leads-removed : (name : Components) → leads (without_entry dirs holder part) 1 name ≡ (if same_name (place ++ part ∷ []) name then None else leads dirs 1 name)
+    pub leads-removed : (name : Components) → object_from (without_entry dirs holder part) 1 name ≡ (if is_same_name (place ++ part ∷ []) name then None else object_from dirs 1 name)
     leads-removed = leads_one are place reach (entry_in_directory _ _ _ are holder part held has) removed
 
     -- directories stay directories

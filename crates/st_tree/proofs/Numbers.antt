@@ -1,11 +1,12 @@
 -- Objects by their numbers, and what a change of one leaves of the others.
 use Rattle.std.proofs.Common.{◌≡◌, ap, sym, ◌∙◌, ℕ, zero, suc, ◌-◌, List, get_or, Some, arith}
 use Rattle.std.proofs.lemmas.Option.{slice_get-get_or}
-use Rattle.st_tree.specs.Objects.{numbered, dirs_of, is_dir_of, entries_at, is_dir_at, entries_of_body, kind_of_body, IsNumber}
-use Rattle.st_names.specs.Tree.{is_directory}
+use Rattle.st_tree.specs.Objects.{dirs_of, is_dir_of, entries_at, is_dir_at, entries_of_body, kind_of_body, IsNumber}
+use Rattle.st_base.specs.Numbered.{item_at_number}
+use Rattle.st_model.specs.Tree.{is_directory}
 use Rattle.st_tree.specs.declared.object.Object.{Object}
 
-pub numbered-get : (objects : List Object) (number : ℕ) (d : Object) → IsNumber objects number → numbered objects number ≡ Some (get_or objects (number - 1) d)
+pub numbered-get : (objects : List Object) (number : ℕ) (d : Object) → IsNumber objects number → item_at_number objects number ≡ Some (get_or objects (number - 1) d)
 numbered-get objects zero d is = absurd (omega (arith, is.0))
 numbered-get objects (suc before) d is =
     let at : suc before - 1 ≡ before = omega arith in

@@ -14,36 +14,9 @@ use Rattle.std.specs.Map.{keys_of, lookup, remove_entry}
 use Rattle.std.specs.Ordering.{nat_cmp, is_eq, match_ordering, eq_by_cmp}
 use Rattle.std.specs.declared.cmp.Ordering.{Ordering}
 use Rattle.std.specs.declared.cmp.Ordering.TheVariants.{Less, Equal, Greater}
-use Rattle.st_names.proofs.Ordered.{sorted-insert_entry, sorted-remove_entry}
-use Rattle.st_tree.specs.Paths.{Entries, entry, with_entry, without_entry}
-
-over : {X : Type 0} (b : Bool) (v w : X) (rest : Option X) → cond b (Some v) rest ≡ cond b (Some v) (cond b (Some w) rest)
-over true v w rest = refl
-over false v w rest = refl
-
-past : {X : Type 0} (b c : Bool) (v w : X) (rest : Option X) → (b ≡ true → c ≡ true → ⊥) → cond b (Some w) (cond c (Some v) rest) ≡ cond c (Some v) (cond b (Some w) rest)
-past false c v w rest apart = refl
-past true false v w rest apart = refl
-past true true v w rest apart = absurd (apart refl refl)
-
-module _ {K X : Type 0} {R : K → K → Ordering} (total : IsTotalOrder R) (k : K) (v : X) where
-  found_by : (q : K) (o : Ordering) (e : K × X) (es : List (K × X)) → R k e.0 ≡ o → lookup (is_at (R q)) (insert_entry R es k v) ≡ cond (is_eq (R q k)) (Some v) (lookup (is_at (R q)) es)
-      → lookup (is_at (R q)) (match_ordering o ((k, v) ∷ e ∷ es) ((e.0, v) ∷ es) (e ∷ insert_entry R es k v)) ≡ cond (is_eq (R q k)) (Some v) (lookup (is_at (R q)) (e ∷ es))
-  found_by q Less e es is more = refl
-  found_by q Equal e es is more =
-      subst (λ (o : Ordering). cond (is_eq (R q e.0)) (Some v) (lookup (is_at (R q)) es) ≡ cond (is_eq o) (Some v) (cond (is_eq (R q e.0)) (Some e.1) (lookup (is_at (R q)) es)))
-      (sym (alike_right total k e.0 q is)) (over (is_eq (R q e.0)) v e.1 (lookup (is_at (R q)) es))
-  found_by q Greater e es is more =
-      ap (cond (is_eq (R q e.0)) (Some e.1)) more
-      ∙ past (is_eq (R q e.0)) (is_eq (R q k)) v e.1 (lookup (is_at (R q)) es) (λ here there.
-      let same : is_eq (R q e.0) ≡ is_eq (R k e.0) = (eq_by_cmp_equiv total).congr q k e.0 there in
-      let wrong : is_eq Greater ≡ true = sym (ap is_eq is) ∙ sym same ∙ here in
-      cc)
-
-  -- what is found after an entry is put: the new value at its key, and what was found before at each other key
-  pub lookup-insert_entry : (q : K) (es : List (K × X)) → lookup (is_at (R q)) (insert_entry R es k v) ≡ cond (is_eq (R q k)) (Some v) (lookup (is_at (R q)) es)
-  lookup-insert_entry q [] = refl
-  lookup-insert_entry q (e ∷ es) = found_by q (R k e.0) e es refl (lookup-insert_entry q es)
+use Rattle.st_base.proofs.Insertions.{lookup-insert_entry}
+use Rattle.st_model.proofs.Ordered.{sorted-insert_entry, sorted-remove_entry}
+use Rattle.st_tree.specs.Paths.{Entries, dir_entry, with_entry, without_entry}
 
 -- ---- one entry of one directory
 
@@ -64,20 +37,20 @@ not_here holder part other q apart = false_from_ne_true _ (λ yes. let same = (i
 
 module _ (dirs : ℕ → Entries) (holder : ℕ) (part : List ℕ) (number : ℕ) where
   -- what each component has after an entry is put
-  pub entry-with_entry : (other : ℕ) (q : List ℕ) → entry (with_entry dirs holder part number) other q ≡ (if is_here holder part other q then Some number else entry dirs other q)
+  pub entry-with_entry : (other : ℕ) (q : List ℕ) → dir_entry (with_entry dirs holder part number) other q ≡ (if is_here holder part other q then Some number else dir_entry dirs other q)
   entry-with_entry other q = by (other == holder) where
-    by : (b : Bool) → lookup (is_at (slice_cmp nat_cmp q)) (if b then insert_entry (slice_cmp nat_cmp) (dirs other) part number else dirs other) ≡ (if b && bytes_eq q part then Some number else entry dirs other q)
+    by : (b : Bool) → lookup (is_at (slice_cmp nat_cmp q)) (if b then insert_entry (slice_cmp nat_cmp) (dirs other) part number else dirs other) ≡ (if b && bytes_eq q part then Some number else dir_entry dirs other q)
     by true =
         lookup-insert_entry nat_list_cmp_total part number q (dirs other)
-        ∙ ap (λ (b : Bool). cond b (Some number) (entry dirs other q)) (is_eq-slice_cmp q part)
+        ∙ ap (λ (b : Bool). cond b (Some number) (dir_entry dirs other q)) (is_eq-slice_cmp q part)
     by false = refl
 
   -- the entry that is put has its object
-  pub entry-with_here : entry (with_entry dirs holder part number) holder part ≡ Some number
+  pub entry-with_here : dir_entry (with_entry dirs holder part number) holder part ≡ Some number
   entry-with_here = entry-with_entry holder part ∙ cond-true _ _ _ ((is_here-Decides holder part holder part).1 (refl, refl))
 
   -- each other entry has what it had
-  pub entry-with_apart : (other : ℕ) (q : List ℕ) → (other ≡ holder → q ≡ part → ⊥) → entry (with_entry dirs holder part number) other q ≡ entry dirs other q
+  pub entry-with_apart : (other : ℕ) (q : List ℕ) → (other ≡ holder → q ≡ part → ⊥) → dir_entry (with_entry dirs holder part number) other q ≡ dir_entry dirs other q
   entry-with_apart other q apart = entry-with_entry other q ∙ cond-false _ _ _ (not_here holder part other q apart)
 
   -- the other directories stay as they were
@@ -93,23 +66,23 @@ module _ (dirs : ℕ → Entries) (holder : ℕ) (part : List ℕ) (number : ℕ
 
 module _ (dirs : ℕ → Entries) (holder : ℕ) (part : List ℕ) where
   -- what each component has after an entry is taken
-  pub entry-without_entry : (other : ℕ) (q : List ℕ) → IsStrictlySortedBy (slice_cmp nat_cmp) (keys_of (dirs other)) → entry (without_entry dirs holder part) other q ≡ (if is_here holder part other q then None else entry dirs other q)
+  pub entry-without_entry : (other : ℕ) (q : List ℕ) → IsStrictlySortedBy (slice_cmp nat_cmp) (keys_of (dirs other)) → dir_entry (without_entry dirs holder part) other q ≡ (if is_here holder part other q then None else dir_entry dirs other q)
   entry-without_entry other q s = by (other == holder) where
     laws : IsEquivalence (eq_by_cmp (slice_cmp nat_cmp))
     laws = eq_by_cmp_equiv nat_list_cmp_total
 
-    by : (b : Bool) → lookup (is_at (slice_cmp nat_cmp q)) (if b then remove_entry (is_at (slice_cmp nat_cmp part)) (dirs other) else dirs other) ≡ (if b && bytes_eq q part then None else entry dirs other q)
+    by : (b : Bool) → lookup (is_at (slice_cmp nat_cmp q)) (if b then remove_entry (is_at (slice_cmp nat_cmp part)) (dirs other) else dirs other) ≡ (if b && bytes_eq q part then None else dir_entry dirs other q)
     by true =
         lookup-remove_entry laws (is_at (slice_cmp nat_cmp part)) (λ x y same. laws.congr part x y same) q (dirs other) (IsDistinct-from_sorted (slice_cmp nat_cmp) (keys_of (dirs other)) s)
-        ∙ ap (λ (b : Bool). cond b None (entry dirs other q)) (laws.symm part q ∙ is_eq-slice_cmp q part)
+        ∙ ap (λ (b : Bool). cond b None (dir_entry dirs other q)) (laws.symm part q ∙ is_eq-slice_cmp q part)
     by false = refl
 
   -- the entry that is taken has none
-  pub entry-without_here : IsStrictlySortedBy (slice_cmp nat_cmp) (keys_of (dirs holder)) → entry (without_entry dirs holder part) holder part ≡ None
+  pub entry-without_here : IsStrictlySortedBy (slice_cmp nat_cmp) (keys_of (dirs holder)) → dir_entry (without_entry dirs holder part) holder part ≡ None
   entry-without_here s = entry-without_entry holder part s ∙ cond-true _ _ _ ((is_here-Decides holder part holder part).1 (refl, refl))
 
   -- each other entry has what it had
-  pub entry-without_apart : (other : ℕ) (q : List ℕ) → IsStrictlySortedBy (slice_cmp nat_cmp) (keys_of (dirs other)) → (other ≡ holder → q ≡ part → ⊥) → entry (without_entry dirs holder part) other q ≡ entry dirs other q
+  pub entry-without_apart : (other : ℕ) (q : List ℕ) → IsStrictlySortedBy (slice_cmp nat_cmp) (keys_of (dirs other)) → (other ≡ holder → q ≡ part → ⊥) → dir_entry (without_entry dirs holder part) other q ≡ dir_entry dirs other q
   entry-without_apart other q s apart = entry-without_entry other q s ∙ cond-false _ _ _ (not_here holder part other q apart)
 
   -- the other directories stay as they were

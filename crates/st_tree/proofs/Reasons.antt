@@ -8,17 +8,18 @@ use Rattle.std.specs.Option.{option_map}
 use Rattle.std.specs.Prelude.{◌&&◌, ◌↔◌, not, is_some, if◌then◌else◌, nat_lt}
 use Rattle.std.specs.Bool.{IsTrue}
 use Rattle.std.specs.Result.{result_ok, result_err}
-use Rattle.st_base.specs.Errno.{first_of, when}
+use Rattle.st_base.specs.Errno.{first_error, error_if}
 use Rattle.st_base.specs.declared.errno.Errno.{Errno}
 use Rattle.st_base.specs.declared.errno.Errno.TheVariants.{EEXIST, EISDIR, ENOENT, ENOTDIR, ENOTEMPTY}
-use Rattle.st_names.specs.Name.{Components, parent}
-use Rattle.st_names.specs.Tree.{Node, begins, is_directory, node_made, object_of, seen_of, seen_of_kind}
+use Rattle.st_names.specs.Name.{Components, last_part, parent, is_root}
+use Rattle.st_model.specs.Tree.{Node, is_prefix, is_directory, node_with_number, object_of, seen_of, seen_of_kind}
 use Rattle.st_names.specs.declared.seen.SeenText.{SeenText}
-use Rattle.st_names.proofs.Objects.{same_name-Decides}
-use Rattle.st_tree.specs.Objects.{content_of_body, dirs_of, is_dir_of, is_dir_at, kind_of_body, node_of, numbered, tree_of, IsNumber, IsWhole}
-use Rattle.st_tree.specs.Paths.{Entries, entry, leads}
-use Rattle.st_tree.specs.Reached.{and_on, directory_reached, errno_of_gap, last_part, reached, stepped, IsFree, IsTaken}
-use Rattle.st_tree.specs.Refusals.{has_entries, is_behind, is_missing, is_no_directory, is_root, no_directory, no_object, place_refused, replace_refused}
+use Rattle.st_model.proofs.Objects.{is_same_name-Decides}
+use Rattle.st_tree.specs.Objects.{content_of_body, dirs_of, is_dir_of, is_dir_at, kind_of_body, node_of, tree_of, IsNumber, IsWhole}
+use Rattle.st_base.specs.Numbered.{item_at_number}
+use Rattle.st_tree.specs.Paths.{Entries, dir_entry, object_from}
+use Rattle.st_tree.specs.Reached.{and_then_from, directory_reached, errno_of_gap, object_or_gap, gap_or_entry, IsFree, IsTaken}
+use Rattle.st_tree.specs.Refusals.{has_entries, is_not_dir, is_missing, is_no_directory, no_directory, no_object, place_refused, replace_refused}
 use Rattle.st_tree.specs.declared.object.Body.{Body}
 use Rattle.st_tree.specs.declared.object.Body.TheVariants.{Dir, File, Link}
 use Rattle.st_tree.specs.declared.object.Object.{Object}
@@ -29,19 +30,21 @@ use Rattle.st_tree.proofs.Numbers.{is_dir_at_number}
 use Rattle.st_tree.proofs.Trees.{entries_at_number, node_at_number, is_there, look_reached, object_led, root_is, seen_reached}
 use Rattle.st_tree.proofs.Ways.{entry_within, leads_reached, reached-append, reached_within, stepped-ok}
 
+-- ---- names that are needed, and their directories
+
 -- a name that is not the root's is its directory's with one component more
-pub parted : (name : Components) → 0 < length name → parent name ++ last_part name ∷ [] ≡ name
-parted name named =
+pub parent-last_part : (name : Components) → 0 < length name → parent name ++ last_part name ∷ [] ≡ name
+parent-last_part name named =
     let before : suc (length name - 1) ≡ length name = omega arith in
     sym (take-suc name (length name - 1) [] (omega arith)) ∙ ap (λ (n : ℕ). take n name) before ∙ take-length name
 
 -- what seen says of the name of a directory that is needed
 directory_reason : SeenText → Option Errno
-directory_reason seen = first_of (when (is_missing seen) ENOENT ∷ when (is_no_directory seen) ENOTDIR ∷ [])
+directory_reason seen = first_error (error_if (is_missing seen) ENOENT ∷ error_if (is_no_directory seen) ENOTDIR ∷ [])
 
 -- and of a name that is needed
 name_reason : SeenText → Option Errno
-name_reason seen = first_of (when (is_missing seen) ENOENT ∷ when (is_behind seen) ENOTDIR ∷ [])
+name_reason seen = first_error (error_if (is_missing seen) ENOENT ∷ error_if (is_not_dir seen) ENOTDIR ∷ [])
 
 directory_of_body : (number : ℕ) (body : Body) → directory_reason (seen_of_kind (kind_of_body body) (content_of_body body)) ≡ option_map errno_of_gap (result_err (if is_directory (kind_of_body body) then Ok number else Err NotDir))
 unfolding directory_reason
@@ -54,9 +57,9 @@ directory_of_object number None there = absurd (true≢false (sym there))
 directory_of_object number (Some object) there = directory_of_body number object.body
 
 directory_of_reached : (objects : List Object) (found : Result ℕ Gap) → IfOk found (IsNumber objects)
-    → directory_reason (seen_reached objects found) ≡ option_map errno_of_gap (result_err (and_on found (λ number. if is_dir_of objects number then Ok number else Err NotDir)))
+    → directory_reason (seen_reached objects found) ≡ option_map errno_of_gap (result_err (and_then_from found (λ number. if is_dir_of objects number then Ok number else Err NotDir)))
 unfolding directory_reason
-directory_of_reached objects (Ok number) is = directory_of_object number (numbered objects number) (is_there objects number is)
+directory_of_reached objects (Ok number) is = directory_of_object number (item_at_number objects number) (is_there objects number is)
 directory_of_reached objects (Err Missing) is = refl
 directory_of_reached objects (Err NotDir) is = refl
 
@@ -65,7 +68,7 @@ pub no_directory_reached : (objects : List Object) → IsWhole objects → (name
 unfolding directory_reason
 no_directory_reached objects whole name =
     ap directory_reason (look_reached objects whole (parent name))
-    ∙ directory_of_reached objects (reached objects 1 (parent name)) (reached_within objects whole 1 (parent name) (root_is objects whole))
+    ∙ directory_of_reached objects (object_or_gap objects 1 (parent name)) (reached_within objects whole 1 (parent name) (root_is objects whole))
 
 name_of_body : (body : Body) → name_reason (seen_of_kind (kind_of_body body) (content_of_body body)) ≡ None
 unfolding name_reason
@@ -79,37 +82,41 @@ name_of_object (Some object) there = name_of_body object.body
 
 name_of_reached : (objects : List Object) (found : Result ℕ Gap) → IfOk found (IsNumber objects) → name_reason (seen_reached objects found) ≡ option_map errno_of_gap (result_err found)
 unfolding name_reason
-name_of_reached objects (Ok number) is = name_of_object (numbered objects number) (is_there objects number is)
+name_of_reached objects (Ok number) is = name_of_object (item_at_number objects number) (is_there objects number is)
 name_of_reached objects (Err Missing) is = refl
 name_of_reached objects (Err NotDir) is = refl
 
+-- ---- which reason is the first
+
 -- reasons in their order
-pub met : (condition : Bool) (errno : Errno) → condition ≡ true → Some errno ≡ when condition errno
-met condition errno is = sym (ap (λ (b : Bool). when b errno) is)
+pub error_if-true : (condition : Bool) (errno : Errno) → condition ≡ true → Some errno ≡ error_if condition errno
+error_if-true condition errno is = sym (ap (λ (b : Bool). error_if b errno) is)
 
-pub unmet : (condition : Bool) (errno : Errno) → condition ≡ false → None ≡ when condition errno
-unmet condition errno is = sym (ap (λ (b : Bool). when b errno) is)
+pub error_if-false : (condition : Bool) (errno : Errno) → condition ≡ false → None ≡ error_if condition errno
+error_if-false condition errno is = sym (ap (λ (b : Bool). error_if b errno) is)
 
-pub first : (errno : Errno) (reason : Option Errno) (more : List (Option Errno)) → Some errno ≡ reason → Some errno ≡ first_of (reason ∷ more)
-first errno reason more some = ap (λ (r : Option Errno). first_of (r ∷ more)) some
+pub first_error-here : (errno : Errno) (reason : Option Errno) (more : List (Option Errno)) → Some errno ≡ reason → Some errno ≡ first_error (reason ∷ more)
+first_error-here errno reason more some = ap (λ (r : Option Errno). first_error (r ∷ more)) some
 
-pub later : (found reason : Option Errno) (more : List (Option Errno)) → None ≡ reason → found ≡ first_of more → found ≡ first_of (reason ∷ more)
-later found reason more none is = is ∙ ap (λ (r : Option Errno). first_of (r ∷ more)) none
+pub first_error-later : (found reason : Option Errno) (more : List (Option Errno)) → None ≡ reason → found ≡ first_error more → found ≡ first_error (reason ∷ more)
+first_error-later found reason more none is = is ∙ ap (λ (r : Option Errno). first_error (r ∷ more)) none
 
-pub last : (found reason : Option Errno) → found ≡ reason → found ≡ first_of (reason ∷ [])
-last None reason is = ap (λ (r : Option Errno). first_of (r ∷ [])) is
-last (Some errno) reason is = ap (λ (r : Option Errno). first_of (r ∷ [])) is
+pub first_error-last : (found reason : Option Errno) → found ≡ reason → found ≡ first_error (reason ∷ [])
+first_error-last None reason is = ap (λ (r : Option Errno). first_error (r ∷ [])) is
+first_error-last (Some errno) reason is = ap (λ (r : Option Errno). first_error (r ∷ [])) is
 
-pub last-met : (reason : Option Errno) (condition : Bool) (errno : Errno) → None ≡ reason → condition ≡ true → Some errno ≡ first_of (reason ∷ when condition errno ∷ [])
-last-met reason condition errno none is = later (Some errno) reason (when condition errno ∷ []) none (last (Some errno) (when condition errno) (met condition errno is))
+pub last-met : (reason : Option Errno) (condition : Bool) (errno : Errno) → None ≡ reason → condition ≡ true → Some errno ≡ first_error (reason ∷ error_if condition errno ∷ [])
+last-met reason condition errno none is = first_error-later (Some errno) reason (error_if condition errno ∷ []) none (first_error-last (Some errno) (error_if condition errno) (error_if-true condition errno is))
 
-pub last-unmet : (reason : Option Errno) (condition : Bool) (errno : Errno) → None ≡ reason → condition ≡ false → None ≡ first_of (reason ∷ when condition errno ∷ [])
-last-unmet reason condition errno none is = later None reason (when condition errno ∷ []) none (last None (when condition errno) (unmet condition errno is))
+pub last-unmet : (reason : Option Errno) (condition : Bool) (errno : Errno) → None ≡ reason → condition ≡ false → None ≡ first_error (reason ∷ error_if condition errno ∷ [])
+last-unmet reason condition errno none is = first_error-later None reason (error_if condition errno ∷ []) none (first_error-last None (error_if condition errno) (error_if-false condition errno is))
+
+-- ---- names that are to be given
 
 -- the place of a new name
 pub place_gap : (objects : List Object) → IsWhole objects → (name : Components) (gap : Gap) → Err gap ≡ directory_reached objects (parent name) → Some (errno_of_gap gap) ≡ place_refused (tree_of objects) name
 place_gap objects whole name gap lost =
-    first (errno_of_gap gap) (no_directory (tree_of objects) name) (when (is_some (object_of (tree_of objects) name)) EEXIST ∷ [])
+    first_error-here (errno_of_gap gap) (no_directory (tree_of objects) name) (error_if (is_some (object_of (tree_of objects) name)) EEXIST ∷ [])
     (sym (no_directory_reached objects whole name ∙ ap (λ (f : Result ℕ Gap). option_map errno_of_gap (result_err f)) (sym lost)))
 
 pub place_taken : (objects : List Object) → IsWhole objects → (name : Components) (holder : ℕ) → Ok holder ≡ directory_reached objects (parent name) → is_some (object_of (tree_of objects) name) ≡ true → Some EEXIST ≡ place_refused (tree_of objects) name
@@ -122,7 +129,9 @@ place_free objects whole name holder found none =
     last-unmet (no_directory (tree_of objects) name) (is_some (object_of (tree_of objects) name)) EEXIST
     (sym (no_directory_reached objects whole name ∙ ap (λ (f : Result ℕ Gap). option_map errno_of_gap (result_err f)) (sym found))) (ap is_some none)
 
-directory_by : (objects : List Object) (found : Result ℕ Gap) (holder : ℕ) → Ok holder ≡ and_on found (λ number. if is_dir_of objects number then Ok number else Err NotDir) → (found ≡ Ok holder) × (is_dir_of objects holder ≡ true)
+-- ---- what a name leads to
+
+directory_by : (objects : List Object) (found : Result ℕ Gap) (holder : ℕ) → Ok holder ≡ and_then_from found (λ number. if is_dir_of objects number then Ok number else Err NotDir) → (found ≡ Ok holder) × (is_dir_of objects holder ≡ true)
 directory_by objects (Err gap) holder is = cc
 directory_by objects (Ok number) holder is = by (is_dir_of objects number) refl is where
   by : (dir : Bool) → is_dir_of objects number ≡ dir → Ok holder ≡ (if dir then Ok number else Err NotDir) → (◌≡◌ {A = Result ℕ Gap} (Ok number) (Ok holder)) × (is_dir_of objects holder ≡ true)
@@ -132,62 +141,66 @@ directory_by objects (Ok number) holder is = by (is_dir_of objects number) refl 
   by false dir is = cc
 
 -- a directory that is reached, and what a name has there
-pub directory_led : (objects : List Object) → IsWhole objects → (name : Components) (holder : ℕ) → Ok holder ≡ directory_reached objects name → (leads (dirs_of objects) 1 name ≡ Some holder) × (is_dir_of objects holder ≡ true)
+pub directory_led : (objects : List Object) → IsWhole objects → (name : Components) (holder : ℕ) → Ok holder ≡ directory_reached objects name → (object_from (dirs_of objects) 1 name ≡ Some holder) × (is_dir_of objects holder ≡ true)
 directory_led objects whole name holder found =
-    let both = directory_by objects (reached objects 1 name) holder found in
+    let both = directory_by objects (object_or_gap objects 1 name) holder found in
     (sym (leads_reached objects whole 1 name) ∙ ap result_ok both.0, both.1)
 
-pub object_in : (objects : List Object) → IsWhole objects → (name : Components) (holder : ℕ) → 0 < length name → leads (dirs_of objects) 1 (parent name) ≡ Some holder → object_of (tree_of objects) name ≡ entry (dirs_of objects) holder (last_part name)
+pub object_in : (objects : List Object) → IsWhole objects → (name : Components) (holder : ℕ) → 0 < length name → object_from (dirs_of objects) 1 (parent name) ≡ Some holder → object_of (tree_of objects) name ≡ dir_entry (dirs_of objects) holder (last_part name)
 object_in objects whole name holder named led =
     object_led objects whole name
-    ∙ ap (leads (dirs_of objects) 1) (sym (parted name named))
+    ∙ ap (object_from (dirs_of objects) 1) (sym (parent-last_part name named))
     ∙ leads_end (dirs_of objects) 1 holder (parent name) (last_part name) led
 
-and_on-ok : (step : Result ℕ Gap) → and_on step (λ number. Ok number) ≡ step
+and_on-ok : (step : Result ℕ Gap) → and_then_from step (λ number. Ok number) ≡ step
 and_on-ok (Ok number) = refl
 and_on-ok (Err gap) = refl
 
 -- a name by the way to its directory, and a last step
 pub reached_last : (objects : List Object) (name : Components) → 0 < length name
-    → reached objects 1 name ≡ and_on (reached objects 1 (parent name)) (λ number. reached objects number (last_part name ∷ []))
-reached_last objects name named = ap (reached objects 1) (sym (parted name named)) ∙ reached-append objects 1 (parent name) (last_part name ∷ [])
+    → object_or_gap objects 1 name ≡ and_then_from (object_or_gap objects 1 (parent name)) (λ number. object_or_gap objects number (last_part name ∷ []))
+reached_last objects name named = ap (object_or_gap objects 1) (sym (parent-last_part name named)) ∙ reached-append objects 1 (parent name) (last_part name ∷ [])
+
+-- ---- names that have to be there
 
 -- a name that is needed is refused for the gap on the way to it
-no_object_reached : (objects : List Object) → IsWhole objects → (name : Components) → no_object (tree_of objects) name ≡ option_map errno_of_gap (result_err (reached objects 1 name))
+no_object_reached : (objects : List Object) → IsWhole objects → (name : Components) → no_object (tree_of objects) name ≡ option_map errno_of_gap (result_err (object_or_gap objects 1 name))
 unfolding name_reason
 no_object_reached objects whole name =
     ap name_reason (look_reached objects whole name)
-    ∙ name_of_reached objects (reached objects 1 name) (reached_within objects whole 1 name (root_is objects whole))
+    ∙ name_of_reached objects (object_or_gap objects 1 name) (reached_within objects whole 1 name (root_is objects whole))
 
-pub name_gap_before : (objects : List Object) → IsWhole objects → (name : Components) (gap : Gap) → 0 < length name → Err gap ≡ reached objects 1 (parent name) → Some (errno_of_gap gap) ≡ no_object (tree_of objects) name
+pub name_gap_before : (objects : List Object) → IsWhole objects → (name : Components) (gap : Gap) → 0 < length name → Err gap ≡ object_or_gap objects 1 (parent name) → Some (errno_of_gap gap) ≡ no_object (tree_of objects) name
 name_gap_before objects whole name gap named lost =
     sym (no_object_reached objects whole name
-    ∙ ap (λ (f : Result ℕ Gap). option_map errno_of_gap (result_err f)) (reached_last objects name named ∙ ap (λ (f : Result ℕ Gap). and_on f (λ number. reached objects number (last_part name ∷ []))) (sym lost)))
+    ∙ ap (λ (f : Result ℕ Gap). option_map errno_of_gap (result_err f)) (reached_last objects name named ∙ ap (λ (f : Result ℕ Gap). and_then_from f (λ number. object_or_gap objects number (last_part name ∷ []))) (sym lost)))
 
 -- by the way and its last step
-pub name_by : (objects : List Object) → IsWhole objects → (name : Components) (holder : ℕ) (step : Result ℕ Gap) → 0 < length name → Ok holder ≡ reached objects 1 (parent name)
-    → step ≡ stepped (is_dir_of objects holder) (entry (dirs_of objects) holder (last_part name))
+pub name_by : (objects : List Object) → IsWhole objects → (name : Components) (holder : ℕ) (step : Result ℕ Gap) → 0 < length name → Ok holder ≡ object_or_gap objects 1 (parent name)
+    → step ≡ gap_or_entry (is_dir_of objects holder) (dir_entry (dirs_of objects) holder (last_part name))
     → option_map errno_of_gap (result_err step) ≡ no_object (tree_of objects) name
 name_by objects whole name holder step named found step_is =
     sym (no_object_reached objects whole name
     ∙ ap (λ (f : Result ℕ Gap). option_map errno_of_gap (result_err f))
     (reached_last objects name named
-    ∙ ap (λ (f : Result ℕ Gap). and_on f (λ number. reached objects number (last_part name ∷ []))) (sym found)
-    ∙ and_on-ok (stepped (is_dir_of objects holder) (entry (dirs_of objects) holder (last_part name)))
+    ∙ ap (λ (f : Result ℕ Gap). and_then_from f (λ number. object_or_gap objects number (last_part name ∷ []))) (sym found)
+    ∙ and_on-ok (gap_or_entry (is_dir_of objects holder) (dir_entry (dirs_of objects) holder (last_part name)))
     ∙ sym step_is))
 
 pub named_from : (name : Components) → (name ≡ [] → ⊥) → 0 < length name
 named_from [] differs = absurd (differs refl)
 named_from (part ∷ rest) differs = omega arith
 
+-- ---- what a call finds of a name
+
 -- what is found for a new name, or for one that is there
-pub is_free : (objects : List Object) → IsWhole objects → (name : Components) (holder : ℕ) → 0 < length name → Ok holder ≡ directory_reached objects (parent name) → IsNumber objects holder → entry (dirs_of objects) holder (last_part name) ≡ None → IsFree objects name holder
+pub is_free : (objects : List Object) → IsWhole objects → (name : Components) (holder : ℕ) → 0 < length name → Ok holder ≡ directory_reached objects (parent name) → IsNumber objects holder → dir_entry (dirs_of objects) holder (last_part name) ≡ None → IsFree objects name holder
 is_free objects whole name holder named found number none =
     let led = directory_led objects whole (parent name) holder found in
     record { number = number; place = led.0; dir = led.1; free = none; named = named }
 
-pub is_taken : (objects : List Object) → IsWhole objects → (name : Components) (holder held : ℕ) → 0 < length name → Ok holder ≡ reached objects 1 (parent name) → IsNumber objects holder
-    → Ok held ≡ stepped (is_dir_of objects holder) (entry (dirs_of objects) holder (last_part name)) → IsTaken objects name holder held
+pub is_taken : (objects : List Object) → IsWhole objects → (name : Components) (holder held : ℕ) → 0 < length name → Ok holder ≡ object_or_gap objects 1 (parent name) → IsNumber objects holder
+    → Ok held ≡ gap_or_entry (is_dir_of objects holder) (dir_entry (dirs_of objects) holder (last_part name)) → IsTaken objects name holder held
 is_taken objects whole name holder held named found number step =
     let both = stepped-ok _ _ held (sym step) in
     record {
@@ -199,7 +212,7 @@ is_taken objects whole name holder held named found number step =
       named = named;
     }
 
-pub dir_made : (objects : List Object) (number : ℕ) → IsNumber objects number → is_directory (node_made (tree_of objects) number).kind ≡ is_dir_of objects number
+pub dir_made : (objects : List Object) (number : ℕ) → IsNumber objects number → is_directory (node_with_number (tree_of objects) number).kind ≡ is_dir_of objects number
 dir_made [] number is = absurd (omega (arith, is.0, is.1))
 dir_made (first ∷ objects) number is =
     let object : Object = get_or (first ∷ objects) (number - 1) first in
@@ -219,9 +232,11 @@ pub named_no_root : (name : Components) → 0 < length name → is_root name ≡
 named_no_root [] named = absurd (omega (arith, named))
 named_no_root (part ∷ rest) named = refl
 
+-- ---- what takes the place of another object
+
 -- why an object can't take the place of another, by whether each is a directory, and whether the other has entries
 pub replace_reason : Bool → Bool → Bool → Option Errno
-replace_reason old new full = first_of (when (old && not new) ENOTDIR ∷ when (not old && new) EISDIR ∷ when full ENOTEMPTY ∷ [])
+replace_reason old new full = first_error (error_if (old && not new) ENOTDIR ∷ error_if (not old && new) EISDIR ∷ error_if full ENOTEMPTY ∷ [])
 
 replace_by : (old new full dir replaced_dir entries : Bool) → old ≡ dir → new ≡ replaced_dir → full ≡ entries → replace_reason old new full ≡ replace_reason dir replaced_dir entries
 replace_by old new full dir replaced_dir entries dir_is replaced_is entries_is =
@@ -235,7 +250,7 @@ other_alone : (full : Bool) → Some EISDIR ≡ replace_reason false true full
 unfolding replace_reason
 other_alone full = refl
 
-alike : (dir : Bool) (full : Bool) → when full ENOTEMPTY ≡ replace_reason dir dir full
+alike : (dir : Bool) (full : Bool) → error_if full ENOTEMPTY ≡ replace_reason dir dir full
 unfolding replace_reason
 alike true true = refl
 alike true false = refl
@@ -255,21 +270,23 @@ module _ (objects : List Object) (whole : IsWhole objects) (held replaced : ℕ)
   pub replace_plain : false ≡ is_dir_of objects held → true ≡ is_dir_of objects replaced → Some EISDIR ≡ replace_refused (tree_of objects) (Some held) (Some replaced)
   replace_plain plain dir = other_alone _ ∙ sym (replaced_reason false true _ plain dir refl)
 
-  pub replace_like : (dir full : Bool) → dir ≡ is_dir_of objects held → dir ≡ is_dir_of objects replaced → full ≡ nat_lt 0 (length (dirs_of objects replaced)) → when full ENOTEMPTY ≡ replace_refused (tree_of objects) (Some held) (Some replaced)
+  pub replace_like : (dir full : Bool) → dir ≡ is_dir_of objects held → dir ≡ is_dir_of objects replaced → full ≡ nat_lt 0 (length (dirs_of objects replaced)) → error_if full ENOTEMPTY ≡ replace_refused (tree_of objects) (Some held) (Some replaced)
   replace_like dir full is_dir too full_is = alike dir full ∙ sym (replaced_reason dir dir full is_dir too full_is)
 
-pub leads_on_by : (old new : Components) (begins_it : Bool) → (IsTrue begins_it ↔ (old ≡ take (length old) new)) → begins_it ≡ begins old new
-leads_on_by old new true is = sym ((same_name-Decides old (take (length old) new)).1 (is.0 refl))
-leads_on_by old new false is = sym (false_from_ne_true (begins old new) (λ e. true≢false (sym (is.1 ((same_name-Decides old (take (length old) new)).0 e)))))
+-- ---- tests as the code makes them
 
-pub unlike : (a b : Bool) → not (beq a b) ≡ true → not a ≡ b
-unlike true true is = cc
-unlike true false is = refl
-unlike false true is = refl
-unlike false false is = cc
+pub leads_on_by : (old new : Components) (begins_it : Bool) → (IsTrue begins_it ↔ (old ≡ take (length old) new)) → begins_it ≡ is_prefix old new
+leads_on_by old new true is = sym ((is_same_name-Decides old (take (length old) new)).1 (is.0 refl))
+leads_on_by old new false is = sym (false_from_ne_true (is_prefix old new) (λ e. true≢false (sym (is.1 ((is_same_name-Decides old (take (length old) new)).0 e)))))
 
-pub like : (a b : Bool) → not (beq a b) ≡ false → a ≡ b
-like true true is = refl
-like true false is = cc
-like false true is = cc
-like false false is = refl
+pub kinds-differ : (a b : Bool) → not (beq a b) ≡ true → not a ≡ b
+kinds-differ true true is = cc
+kinds-differ true false is = refl
+kinds-differ false true is = refl
+kinds-differ false false is = cc
+
+pub kinds-equal : (a b : Bool) → not (beq a b) ≡ false → a ≡ b
+kinds-equal true true is = refl
+kinds-equal true false is = cc
+kinds-equal false true is = cc
+kinds-equal false false is = refl

@@ -7,13 +7,14 @@ use Rattle.std.specs.Option.{option_map}
 use Rattle.std.specs.Result.{result_ok}
 use Rattle.std.specs.Prelude.{◌↔◌, IfSome, IsNone, is_some, if◌then◌else◌}
 use Rattle.st_names.specs.Name.{Components}
-use Rattle.st_names.specs.Tree.{Node, Tree, entries_in, is_directory, look, look_behind, node_at, node_made, node_numbered, object_of, root_node, seen_behind, seen_of, seen_of_kind, size_by, size_of}
+use Rattle.st_model.specs.Tree.{Node, Tree, entry_count, is_directory, look, look_along, node_at, node_with_number, node_of_number, object_of, root_node, seen_through, seen_of, seen_of_kind, size_of_kind, size_of}
 use Rattle.st_names.specs.declared.seen.SeenText.{SeenText}
 use Rattle.st_names.specs.declared.seen.SeenText.TheVariants as seen
-use Rattle.st_tree.specs.Objects.{content_of_body, dirs_of, is_dir_of, is_dir_at, entries_of_body, kind_of_body, node_of, numbered, tree_of, IsNumber, IsWhole}
-use Rattle.st_tree.specs.Paths.{entry, leads, names_under}
-use Rattle.st_tree.specs.Reached.{and_on, reached, stepped}
-use Rattle.st_tree.specs.Refusals.{is_lost, IsMade}
+use Rattle.st_tree.specs.Objects.{content_of_body, dirs_of, is_dir_of, is_dir_at, entries_of_body, kind_of_body, node_of, tree_of, IsNumber, IsWhole}
+use Rattle.st_base.specs.Numbered.{item_at_number}
+use Rattle.st_tree.specs.Paths.{dir_entry, object_from, names_under}
+use Rattle.st_tree.specs.Reached.{and_then_from, object_or_gap, gap_or_entry}
+use Rattle.st_tree.specs.Refusals.{is_absent, IsMade}
 use Rattle.st_tree.specs.declared.object.Body.{Body}
 use Rattle.st_tree.specs.declared.object.Body.TheVariants.{Dir, File, Link}
 use Rattle.st_tree.specs.declared.object.Object.{Object}
@@ -24,6 +25,8 @@ use Rattle.st_tree.proofs.Leads.{leads_end}
 use Rattle.st_tree.proofs.Numbers.{dirs_at, numbered-get}
 use Rattle.st_tree.proofs.Ways.{entry_within, leads_reached, reached_within}
 
+-- ---- names, and objects by their numbers
+
 pub names_made : (objects : List Object) → (tree_of objects).names ≡ names_under (length objects) (dirs_of objects) 1
 unfolding tree_of
 names_made objects = refl
@@ -33,60 +36,62 @@ unfolding tree_of
 count_made objects = length-map objects node_of
 
 -- a name's object is what the name leads to
-pub object_led : (objects : List Object) → IsWhole objects → (name : Components) → object_of (tree_of objects) name ≡ leads (dirs_of objects) 1 name
+pub object_led : (objects : List Object) → IsWhole objects → (name : Components) → object_of (tree_of objects) name ≡ object_from (dirs_of objects) 1 name
 object_led objects whole name = object_reached (length objects) (is_dir_of objects) (dirs_of objects) whole.directories (tree_of objects) (names_made objects) name
 
-pub numbered_made : (objects : List Object) (number : ℕ) → node_numbered (tree_of objects) number ≡ option_map node_of (numbered objects number)
+pub numbered_made : (objects : List Object) (number : ℕ) → node_of_number (tree_of objects) number ≡ option_map node_of (item_at_number objects number)
 unfolding tree_of
 numbered_made objects zero = refl
 numbered_made objects (suc before) = slice_get-map node_of objects before
 
-pub node_at_number : (objects : List Object) (number : ℕ) (object : Object) → IsNumber objects number → object ≡ get_or objects (number - 1) object → node_made (tree_of objects) number ≡ node_of object
+pub node_at_number : (objects : List Object) (number : ℕ) (object : Object) → IsNumber objects number → object ≡ get_or objects (number - 1) object → node_with_number (tree_of objects) number ≡ node_of object
 unfolding tree_of
 node_at_number objects number object is read = get_or-map node_of objects (number - 1) object root_node (omega (arith, is.0, is.1)) ∙ ap node_of (sym read)
 
-pub entries_at_number : (objects : List Object) (number : ℕ) → IsWhole objects → entries_in (tree_of objects) number ≡ length (dirs_of objects number)
+pub entries_at_number : (objects : List Object) (number : ℕ) → IsWhole objects → entry_count (tree_of objects) number ≡ length (dirs_of objects number)
 entries_at_number objects number whole = entries_counted (length objects) (is_dir_of objects) (dirs_of objects) whole.directories number (tree_of objects) (names_made objects)
 
 pub size_at_number : (objects : List Object) (number : ℕ) (object : Object) → IsWhole objects → IsNumber objects number → object ≡ get_or objects (number - 1) object
-    → size_of (tree_of objects) number ≡ size_by (node_of object).kind (length (entries_of_body object.body)) (node_of object).content
+    → size_of (tree_of objects) number ≡ size_of_kind (node_of object).kind (length (entries_of_body object.body)) (node_of object).content
 size_at_number objects number object whole is read =
-    ap (λ (node : Node). size_by node.kind (entries_in (tree_of objects) number) node.content) (node_at_number objects number object is read)
-    ∙ ap (λ (count : ℕ). size_by (node_of object).kind count (node_of object).content) (entries_at_number objects number whole ∙ ap length (dirs_at objects number object object is read))
+    ap (λ (node : Node). size_of_kind node.kind (entry_count (tree_of objects) number) node.content) (node_at_number objects number object is read)
+    ∙ ap (λ (count : ℕ). size_of_kind (node_of object).kind count (node_of object).content) (entries_at_number objects number whole ∙ ap length (dirs_at objects number object object is read))
+
+-- ---- what is seen of a name's object
 
 -- what is seen of what is reached
 abbrev pub seen_reached : List Object → Result ℕ Gap → SeenText
-seen_reached objects (Ok number) = seen_of (option_map node_of (numbered objects number))
+seen_reached objects (Ok number) = seen_of (option_map node_of (item_at_number objects number))
 seen_reached objects (Err Missing) = seen.Missing
 seen_reached objects (Err NotDir) = seen.NotDir
 
-look_lost : (tree : Tree) (done rest : Components) → object_of tree done ≡ None → look_behind tree done rest ≡ seen.Missing
+look_lost : (tree : Tree) (done rest : Components) → object_of tree done ≡ None → look_along tree done rest ≡ seen.Missing
 look_lost tree done [] none = ap (λ (o : Option ℕ). seen_of (node_at tree o)) none
-look_lost tree done (part ∷ rest) none = ap (λ (o : Option ℕ). seen_behind (node_at tree o) (look_behind tree (done ++ part ∷ []) rest)) none
+look_lost tree done (part ∷ rest) none = ap (λ (o : Option ℕ). seen_through (node_at tree o) (look_along tree (done ++ part ∷ []) rest)) none
 
-step_seen : (objects : List Object) (rest : Components) (dir : Bool) (found : Option ℕ) (behind : SeenText) → (found ≡ None → behind ≡ seen.Missing) → ((number : ℕ) → found ≡ Some number → behind ≡ seen_reached objects (reached objects number rest))
-    → (if dir then behind else seen.NotDir) ≡ seen_reached objects (and_on (stepped dir found) (λ number. reached objects number rest))
+step_seen : (objects : List Object) (rest : Components) (dir : Bool) (found : Option ℕ) (behind : SeenText) → (found ≡ None → behind ≡ seen.Missing) → ((number : ℕ) → found ≡ Some number → behind ≡ seen_reached objects (object_or_gap objects number rest))
+    → (if dir then behind else seen.NotDir) ≡ seen_reached objects (and_then_from (gap_or_entry dir found) (λ number. object_or_gap objects number rest))
 step_seen objects rest false found behind none some = refl
 step_seen objects rest true None behind none some = none refl
 step_seen objects rest true (Some number) behind none some = some number refl
 
-object_seen : (objects : List Object) (rest : Components) (at : Option Object) (found : Option ℕ) (behind : SeenText) → is_some at ≡ true → (found ≡ None → behind ≡ seen.Missing) → ((number : ℕ) → found ≡ Some number → behind ≡ seen_reached objects (reached objects number rest))
-    → seen_behind (option_map node_of at) behind ≡ seen_reached objects (and_on (stepped (is_dir_at at) found) (λ number. reached objects number rest))
+object_seen : (objects : List Object) (rest : Components) (at : Option Object) (found : Option ℕ) (behind : SeenText) → is_some at ≡ true → (found ≡ None → behind ≡ seen.Missing) → ((number : ℕ) → found ≡ Some number → behind ≡ seen_reached objects (object_or_gap objects number rest))
+    → seen_through (option_map node_of at) behind ≡ seen_reached objects (and_then_from (gap_or_entry (is_dir_at at) found) (λ number. object_or_gap objects number rest))
 object_seen objects rest None found behind there none some = absurd (true≢false (sym there))
 object_seen objects rest (Some object) found behind there none some = step_seen objects rest (is_directory (kind_of_body object.body)) found behind none some
 
-pub is_there : (objects : List Object) (number : ℕ) → IsNumber objects number → is_some (numbered objects number) ≡ true
+pub is_there : (objects : List Object) (number : ℕ) → IsNumber objects number → is_some (item_at_number objects number) ≡ true
 is_there [] number is = absurd (omega (arith, is.0, is.1))
 is_there (object ∷ objects) number is = ap is_some (numbered-get (object ∷ objects) number object is)
 
-look_on : (objects : List Object) → IsWhole objects → (done rest : Components) (at : ℕ) → IsNumber objects at → leads (dirs_of objects) 1 done ≡ Some at → look_behind (tree_of objects) done rest ≡ seen_reached objects (reached objects at rest)
+look_on : (objects : List Object) → IsWhole objects → (done rest : Components) (at : ℕ) → IsNumber objects at → object_from (dirs_of objects) 1 done ≡ Some at → look_along (tree_of objects) done rest ≡ seen_reached objects (object_or_gap objects at rest)
 look_on objects whole done [] at is led =
     ap (λ (o : Option ℕ). seen_of (node_at (tree_of objects) o)) (object_led objects whole done ∙ led) ∙ ap seen_of (numbered_made objects at)
 look_on objects whole done (part ∷ rest) at is led =
-    let behind : SeenText = look_behind (tree_of objects) (done ++ part ∷ []) rest in
-    ap (λ (o : Option ℕ). seen_behind (node_at (tree_of objects) o) behind) (object_led objects whole done ∙ led)
-    ∙ ap (λ (o : Option Node). seen_behind o behind) (numbered_made objects at)
-    ∙ object_seen objects rest (numbered objects at) (entry (dirs_of objects) at part) behind (is_there objects at is)
+    let behind : SeenText = look_along (tree_of objects) (done ++ part ∷ []) rest in
+    ap (λ (o : Option ℕ). seen_through (node_at (tree_of objects) o) behind) (object_led objects whole done ∙ led)
+    ∙ ap (λ (o : Option Node). seen_through o behind) (numbered_made objects at)
+    ∙ object_seen objects rest (item_at_number objects at) (dir_entry (dirs_of objects) at part) behind (is_there objects at is)
     (λ none. look_lost (tree_of objects) (done ++ part ∷ []) rest (object_led objects whole (done ++ part ∷ []) ∙ leads_end (dirs_of objects) 1 at done part led ∙ none))
     (λ number some. look_on objects whole (done ++ part ∷ []) rest number (entry_within objects at number part whole some) (leads_end (dirs_of objects) 1 at done part led ∙ some))
 
@@ -94,42 +99,46 @@ pub root_is : (objects : List Object) → IsWhole objects → IsNumber objects 1
 root_is objects whole = (omega arith, whole.directories.made)
 
 -- what is seen of a name
-pub look_reached : (objects : List Object) → IsWhole objects → (name : Components) → look (tree_of objects) name ≡ seen_reached objects (reached objects 1 name)
+pub look_reached : (objects : List Object) → IsWhole objects → (name : Components) → look (tree_of objects) name ≡ seen_reached objects (object_or_gap objects 1 name)
 look_reached objects whole name = look_on objects whole [] name 1 (root_is objects whole) refl
 
-pub look_found : (objects : List Object) → IsWhole objects → (name : Components) (number : ℕ) (object : Object) → Ok number ≡ reached objects 1 name → IsNumber objects number → object ≡ get_or objects (number - 1) object
+pub look_found : (objects : List Object) → IsWhole objects → (name : Components) (number : ℕ) (object : Object) → Ok number ≡ object_or_gap objects 1 name → IsNumber objects number → object ≡ get_or objects (number - 1) object
     → look (tree_of objects) name ≡ seen_of_kind (node_of object).kind (node_of object).content
 look_found objects whole name number object found is read =
     look_reached objects whole name ∙ ap (seen_reached objects) (sym found) ∙ ap (λ (at : Option Object). seen_of (option_map node_of at)) (numbered-get objects number object is ∙ ap Some (sym read))
 
-pub look_gap : (objects : List Object) → IsWhole objects → (name : Components) (gap : Gap) → Err gap ≡ reached objects 1 name → look (tree_of objects) name ≡ seen_reached objects (Err gap)
+pub look_gap : (objects : List Object) → IsWhole objects → (name : Components) (gap : Gap) → Err gap ≡ object_or_gap objects 1 name → look (tree_of objects) name ≡ seen_reached objects (Err gap)
 look_gap objects whole name gap lost = look_reached objects whole name ∙ ap (seen_reached objects) (sym lost)
 
-body_seen : (body : Body) → is_lost (seen_of_kind (kind_of_body body) (content_of_body body)) ≡ false
+-- ---- names of which nothing is seen
+
+body_seen : (body : Body) → is_absent (seen_of_kind (kind_of_body body) (content_of_body body)) ≡ false
 body_seen (Dir entries) = refl
 body_seen (File content) = refl
 body_seen (Link target) = refl
 
-kind_seen : (at : Option Object) → is_some at ≡ true → is_lost (seen_of (option_map node_of at)) ≡ false
+kind_seen : (at : Option Object) → is_some at ≡ true → is_absent (seen_of (option_map node_of at)) ≡ false
 kind_seen None there = absurd (true≢false (sym there))
 kind_seen (Some object) there = body_seen object.body
 
 -- nothing is seen exactly where the name leads to nothing
-lost_reached : (objects : List Object) (found : Result ℕ Gap) → IfOk found (IsNumber objects) → (result_ok found ≡ None) ↔ (is_lost (seen_reached objects found) ≡ true)
-lost_reached objects (Ok number) is = (λ e. cc, λ e. absurd (true≢false (sym e ∙ kind_seen (numbered objects number) (is_there objects number is))))
+lost_reached : (objects : List Object) (found : Result ℕ Gap) → IfOk found (IsNumber objects) → (result_ok found ≡ None) ↔ (is_absent (seen_reached objects found) ≡ true)
+lost_reached objects (Ok number) is = (λ e. cc, λ e. absurd (true≢false (sym e ∙ kind_seen (item_at_number objects number) (is_there objects number is))))
 lost_reached objects (Err Missing) is = (λ e. refl, λ e. refl)
 lost_reached objects (Err NotDir) is = (λ e. refl, λ e. refl)
 
-pub look_lost_reached : (objects : List Object) → IsWhole objects → (name : Components) → (object_of (tree_of objects) name ≡ None) ↔ (is_lost (look (tree_of objects) name) ≡ true)
+pub look_lost_reached : (objects : List Object) → IsWhole objects → (name : Components) → (object_of (tree_of objects) name ≡ None) ↔ (is_absent (look (tree_of objects) name) ≡ true)
 look_lost_reached objects whole name =
-    let found : Result ℕ Gap = reached objects 1 name in
+    let found : Result ℕ Gap = object_or_gap objects 1 name in
     let both = lost_reached objects found (reached_within objects whole 1 name (root_is objects whole)) in
     let leads : object_of (tree_of objects) name ≡ result_ok found = object_led objects whole name ∙ sym (leads_reached objects whole 1 name) in
     let sees : look (tree_of objects) name ≡ seen_reached objects found = look_reached objects whole name in
-    (λ none. ap is_lost sees ∙ both.0 (sym leads ∙ none), λ lost. leads ∙ both.1 (ap is_lost (sym sees) ∙ lost))
+    (λ none. ap is_absent sees ∙ both.0 (sym leads ∙ none), λ lost. leads ∙ both.1 (ap is_absent (sym sees) ∙ lost))
 
-pub object_found : (objects : List Object) → IsWhole objects → (name : Components) → object_of (tree_of objects) name ≡ result_ok (reached objects 1 name)
+pub object_found : (objects : List Object) → IsWhole objects → (name : Components) → object_of (tree_of objects) name ≡ result_ok (object_or_gap objects 1 name)
 object_found objects whole name = object_led objects whole name ∙ sym (leads_reached objects whole 1 name)
+
+-- ---- numbers that were given, as a tree has them
 
 -- a number that was given, as the fields have it
 pub made_within : (objects : List Object) (tree : Tree) (number : ℕ) → tree_of objects ≡ tree → IsMade tree number → IsNumber objects number
@@ -138,9 +147,9 @@ made_within objects tree number is made = (made.0, omega (arith, made.1, count_m
 pub within_made : (objects : List Object) (tree : Tree) (number : ℕ) → tree_of objects ≡ tree → IsNumber objects number → IsMade tree number
 within_made objects tree number is inside = (inside.0, omega (arith, inside.1, count_made objects, ap (λ (t : Tree). length t.objects) is))
 
-pub none_lost : (objects : List Object) → IsWhole objects → (tree : Tree) (name : Components) (found : Option ℕ) → tree_of objects ≡ tree → found ≡ object_of tree name → IsNone found ↔ (is_lost (look tree name) ≡ true)
-none_lost objects whole tree name found is object = subst (λ (t : Tree). found ≡ object_of t name → IsNone found ↔ (is_lost (look t name) ≡ true)) is (by found) object where
-  by : (found : Option ℕ) → found ≡ object_of (tree_of objects) name → IsNone found ↔ (is_lost (look (tree_of objects) name) ≡ true)
+pub none_lost : (objects : List Object) → IsWhole objects → (tree : Tree) (name : Components) (found : Option ℕ) → tree_of objects ≡ tree → found ≡ object_of tree name → IsNone found ↔ (is_absent (look tree name) ≡ true)
+none_lost objects whole tree name found is object = subst (λ (t : Tree). found ≡ object_of t name → IsNone found ↔ (is_absent (look t name) ≡ true)) is (by found) object where
+  by : (found : Option ℕ) → found ≡ object_of (tree_of objects) name → IsNone found ↔ (is_absent (look (tree_of objects) name) ≡ true)
   by None object = (λ none. (look_lost_reached objects whole name).0 (sym object), λ lost. refl)
   by (Some number) object = (
     λ none. absurd (true≢false none),

@@ -3,7 +3,7 @@ use Rattle.std.proofs.Common.{◌≡◌, ap, refl, sym, ◌∙◌, subst, ℕ, z
 use Rattle.std.proofs.Math.Seq.{map-set_same}
 use Rattle.std.proofs.lemmas.List.{length-set, map-set}
 use Rattle.std.specs.Prelude.{slice_get}
-use Rattle.st_names.specs.Tree.{Node, Tree, is_directory, node_made, set_mode, set_owner, with_node}
+use Rattle.st_model.specs.Tree.{Node, Tree, is_directory, node_with_number, set_mode, set_owner, with_node}
 use Rattle.st_tree.specs.Nodes.{with_content}
 use Rattle.st_tree.specs.Objects.{dirs_of, entries_at, entries_of_body, is_dir_at, is_dir_of, kind_of_body, node_of, tree_of, IsWhole}
 use Rattle.st_tree.specs.Paths.{AreDirectories, names_under}
@@ -63,8 +63,8 @@ module _ (objects : List Object) (whole : IsWhole objects) (tree : Tree) (view :
 
 module _ (objects : List Object) (whole : IsWhole objects) (tree : Tree) (view : tree_of objects ≡ tree) (number : ℕ) (before : Object) (read : before ≡ get_or objects (number - 1) before) (made : IsMade tree number) where
   -- the object as the tree has it
-  pub node_before : node_made tree number ≡ node_of before
-  node_before = ap (λ (t : Tree). node_made t number) (sym view) ∙ node_at_number objects number before (made_within objects tree number view made) read
+  pub node_before : node_with_number tree number ≡ node_of before
+  node_before = ap (λ (t : Tree). node_with_number t number) (sym view) ∙ node_at_number objects number before (made_within objects tree number view made) read
 
   pub mode_set : (mode : ℕ) → Makes (set objects (number - 1) (record before { mode = mode })) (set_mode tree number mode)
   mode_set mode = updated objects whole tree view number before (record before { mode = mode }) read refl _ (ap (λ (node : Node). record node { mode = mode }) (sym node_before)) refl
@@ -74,6 +74,6 @@ module _ (objects : List Object) (whole : IsWhole objects) (tree : Tree) (view :
 
   -- the content becomes what f makes of it
   pub content_set : (object : Object) (f : List ℕ → List ℕ) → node_of object ≡ with_content (node_of before) (f (node_of before).content) → entries_of_body object.body ≡ entries_of_body before.body
-      → Makes (set objects (number - 1) object) (with_node tree number (with_content (node_made tree number) (f (node_made tree number).content)))
+      → Makes (set objects (number - 1) object) (with_node tree number (with_content (node_with_number tree number) (f (node_with_number tree number).content)))
   content_set object f is entries =
       updated objects whole tree view number before object read entries _ (is ∙ ap (λ (node : Node). with_content node (f node.content)) (sym node_before)) (ap (λ (node : Node). node.kind) is)

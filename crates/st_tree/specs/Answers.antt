@@ -1,7 +1,7 @@
 -- What a call answers, and what it keeps.
 use Rattle.std.specs.Prelude.{◌≡◌, ◌↔◌, ℕ, length, Option, Some, Result, Err}
 use Rattle.st_base.specs.declared.errno.Errno.{Errno}
-use Rattle.st_names.specs.Tree.{Tree, node_made}
+use Rattle.st_model.specs.Tree.{Tree, node_with_number}
 use Rattle.st_tree.specs.declared.tree.TreeFault.{TreeFault}
 use Rattle.st_tree.specs.declared.tree.TreeFault.TheVariants.{Os}
 
@@ -11,4 +11,4 @@ Refuses refused result = (errno : Errno) → (refused ≡ Some errno) ↔ (resul
 
 -- no object is made, and each stays of its kind
 abbrev pub KeepsKinds : Tree → Tree → Type 0
-KeepsKinds old new = (length new.objects ≡ length old.objects) × ((number : ℕ) → (node_made new number).kind ≡ (node_made old number).kind)
+KeepsKinds old new = (length new.objects ≡ length old.objects) × ((number : ℕ) → (node_with_number new number).kind ≡ (node_with_number old number).kind)

@@ -1,21 +1,28 @@
 -- The objects that a tree keeps, as the tree of names that they make.
+use Rattle.st_base.specs.Numbered.{item_at_number}
 use Rattle.std.specs.Prelude.{◌≤◌, ℕ, zero, suc, Bool, false, List, [], map, length, slice_get, Option, Some, None}
-use Rattle.st_names.specs.Tree.{Kind, Directory, Regular, Symlink, Node, Tree, is_directory, most_objects}
+use Rattle.st_model.specs.Tree.{Node, Tree, is_directory}
+use Rattle.st_model.specs.declared.object.Kind.{Kind}
+use Rattle.st_model.specs.declared.object.Kind.TheVariants as object_kind
 use Rattle.st_tree.specs.Paths.{Entries, names_under, AreDirectories}
 use Rattle.st_tree.specs.declared.object.Object.{Object}
 use Rattle.st_tree.specs.declared.object.Body.{Body}
 use Rattle.st_tree.specs.declared.object.Body.TheVariants.{Dir, File, Link}
+use Rattle.st_model.specs.declared.limits.TheConstants.{MOST_OBJECTS}
 
+-- the kind of an object, by its body
 abbrev pub kind_of_body : Body → Kind
-kind_of_body (Dir entries) = Directory
-kind_of_body (File content) = Regular
-kind_of_body (Link target) = Symlink
+kind_of_body (Dir entries) = object_kind.Dir
+kind_of_body (File content) = object_kind.File
+kind_of_body (Link target) = object_kind.Link
 
+-- a file's bytes or a link's target; a directory has none
 abbrev pub content_of_body : Body → List ℕ
 content_of_body (Dir entries) = []
 content_of_body (File content) = content.items
 content_of_body (Link target) = target.items
 
+-- the entries of a directory; another object has none
 abbrev pub entries_of_body : Body → Entries
 entries_of_body (Dir entries) = map (λ held. (held.0.items, held.1)) entries.entries
 entries_of_body (File content) = []
@@ -31,26 +38,23 @@ node_of object = record {
   content = content_of_body object.body;
 }
 
--- the object of a number, counted from 1
-abbrev pub numbered : List Object → ℕ → Option Object
-numbered objects zero = None
-numbered objects (suc before) = slice_get objects before
-
+-- the entries of an object, if there is one
 abbrev pub entries_at : Option Object → Entries
 entries_at None = []
 entries_at (Some object) = entries_of_body object.body
 
+-- whether there is an object and it is a directory
 abbrev pub is_dir_at : Option Object → Bool
 is_dir_at None = false
 is_dir_at (Some object) = is_directory (kind_of_body object.body)
 
 -- the entries of each directory, by its number
 abbrev pub dirs_of : List Object → ℕ → Entries
-dirs_of objects number = entries_at (numbered objects number)
+dirs_of objects number = entries_at (item_at_number objects number)
 
 -- whether a number has a directory
 abbrev pub is_dir_of : List Object → ℕ → Bool
-is_dir_of objects number = is_dir_at (numbered objects number)
+is_dir_of objects number = is_dir_at (item_at_number objects number)
 
 -- the names that the objects' entries give, and the objects
 unfoldable pub tree_of : List Object → Tree
@@ -59,7 +63,7 @@ tree_of objects = record { names = names_under (length objects) (dirs_of objects
 -- the objects' entries make a tree, and there are no more objects than may be
 pub record IsWhole (objects : List Object) : Type 0 where
   pub directories : AreDirectories (length objects) (is_dir_of objects) (dirs_of objects)
-  pub few : length objects ≤ most_objects
+  pub few : length objects ≤ MOST_OBJECTS
 
 -- a number was given to an object
 abbrev pub IsNumber : List Object → ℕ → Type 0

@@ -13,13 +13,13 @@ abbrev pub Entries : Type 0
 Entries = List (List ℕ × ℕ)
 
 -- the object that a component has in a directory
-abbrev pub entry : (ℕ → Entries) → ℕ → List ℕ → Option ℕ
-entry dirs number part = lookup (is_at (slice_cmp nat_cmp part)) (dirs number)
+abbrev pub dir_entry : (ℕ → Entries) → ℕ → List ℕ → Option ℕ
+dir_entry dirs number part = lookup (is_at (slice_cmp nat_cmp part)) (dirs number)
 
 -- the object that is reached from this one by a name
-abbrev pub leads : (ℕ → Entries) → ℕ → Components → Option ℕ
-leads dirs from [] = Some from
-leads dirs from (part ∷ rest) = option_and_then (λ number. leads dirs number rest) (entry dirs from part)
+abbrev pub object_from : (ℕ → Entries) → ℕ → Components → Option ℕ
+object_from dirs from [] = Some from
+object_from dirs from (part ∷ rest) = option_and_then (λ number. object_from dirs number rest) (dir_entry dirs from part)
 
 -- the names that lead on from an object over at most so many directories, in their order, each with the object that it reaches
 abbrev pub names_under : ℕ → (ℕ → Entries) → ℕ → List (Components × ℕ)
@@ -44,7 +44,7 @@ pub record AreDirectories (count : ℕ) (is_dir : ℕ → Bool) (dirs : ℕ → 
   pub root : is_dir 1 ≡ true
   pub made : 1 ≤ count
   pub sorted : (number : ℕ) → IsStrictlySortedBy (slice_cmp nat_cmp) (keys_of (dirs number))
-  pub numbered : (number : ℕ) (part : List ℕ) (held : ℕ) → entry dirs number part ≡ Some held → (1 < held) × (held ≤ count)
+  pub numbered : (number : ℕ) (part : List ℕ) (held : ℕ) → dir_entry dirs number part ≡ Some held → (1 < held) × (held ≤ count)
   pub only : (number : ℕ) → is_dir number ≢ true → dirs number ≡ []
-  pub single : (number : ℕ) (name other : Components) → is_dir number ≡ true → leads dirs 1 name ≡ Some number → leads dirs 1 other ≡ Some number → name ≡ other
-  pub lost : (number : ℕ) → ((name : Components) → leads dirs 1 name ≢ Some number) → dirs number ≡ []
+  pub single : (number : ℕ) (name other : Components) → is_dir number ≡ true → object_from dirs 1 name ≡ Some number → object_from dirs 1 other ≡ Some number → name ≡ other
+  pub lost : (number : ℕ) → ((name : Components) → object_from dirs 1 name ≢ Some number) → dirs number ≡ []

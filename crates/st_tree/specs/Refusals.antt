@@ -1,12 +1,14 @@
 -- Why each call that changes a tree is refused: the first reason that is met decides. And what a renaming makes of a tree.
 use Rattle.std.specs.Prelude.{◌≡◌, ℕ, ◌+◌, ◌≤◌, Bool, true, false, ◌&&◌, ◌||◌, not, if◌then◌else◌, nat_lt, nat_le, List, [], ◌∷◌, length, Option, Some, None, is_some}
-use Rattle.st_base.specs.Errno.{first_of, when}
+use Rattle.st_base.specs.Errno.{first_error, error_if}
 use Rattle.st_base.specs.declared.errno.Errno.{Errno}
 use Rattle.st_base.specs.declared.errno.Errno.TheVariants.{EPERM, ENOENT, EEXIST, ENOTDIR, EISDIR, EINVAL, ENOSPC, ENOTEMPTY}
-use Rattle.st_names.specs.Name.{Components, parent}
-use Rattle.st_names.specs.Tree.{Regular, Tree, begins, entries_in, is_directory, is_numbered, longest_file, look, most_objects, node_made, object_of, remove_name, rename}
+use Rattle.st_names.specs.Name.{Components, is_root, parent}
+use Rattle.st_model.specs.Tree.{Tree, entry_count, is_proper_prefix, is_directory, is_number, look, node_with_number, object_of, remove_name, rename}
+use Rattle.st_model.specs.declared.object.Kind.TheVariants as object_kind
 use Rattle.st_names.specs.declared.seen.SeenText.{SeenText}
 use Rattle.st_names.specs.declared.seen.SeenText.TheVariants.{Missing, NotDir, Dir, File, Link}
+use Rattle.st_model.specs.declared.limits.TheConstants.{LONGEST_FILE, MOST_OBJECTS}
 
 -- a number was given to an object
 abbrev pub IsMade : Tree → ℕ → Type 0
@@ -14,7 +16,7 @@ IsMade tree number = (1 ≤ number) × (number ≤ length tree.objects)
 
 -- a number was given to a file
 abbrev pub IsFile : Tree → ℕ → Type 0
-IsFile tree number = IsMade tree number × ((node_made tree number).kind ≡ Regular)
+IsFile tree number = IsMade tree number × ((node_with_number tree number).kind ≡ object_kind.File)
 
 -- something on the way is missing, or the last
 abbrev pub is_missing : SeenText → Bool
@@ -25,16 +27,16 @@ is_missing File = false
 is_missing (Link target) = false
 
 -- something on the way is no directory
-abbrev pub is_behind : SeenText → Bool
-is_behind Missing = false
-is_behind NotDir = true
-is_behind Dir = false
-is_behind File = false
-is_behind (Link target) = false
+abbrev pub is_not_dir : SeenText → Bool
+is_not_dir Missing = false
+is_not_dir NotDir = true
+is_not_dir Dir = false
+is_not_dir File = false
+is_not_dir (Link target) = false
 
 -- nothing is seen
-abbrev pub is_lost : SeenText → Bool
-is_lost seen = is_missing seen || is_behind seen
+abbrev pub is_absent : SeenText → Bool
+is_absent seen = is_missing seen || is_not_dir seen
 
 -- something on the way is no directory, or the last
 abbrev pub is_no_directory : SeenText → Bool
@@ -44,93 +46,89 @@ is_no_directory Dir = false
 is_no_directory File = true
 is_no_directory (Link target) = true
 
-abbrev pub is_root : Components → Bool
-is_root [] = true
-is_root (part ∷ rest) = false
-
 -- the directory that a name would stand in isn't there
 abbrev pub no_directory : Tree → Components → Option Errno
-no_directory tree name = first_of (
-    when (is_missing (look tree (parent name))) ENOENT ∷
-    when (is_no_directory (look tree (parent name))) ENOTDIR ∷ [])
+no_directory tree name = first_error (
+    error_if (is_missing (look tree (parent name))) ENOENT ∷
+    error_if (is_no_directory (look tree (parent name))) ENOTDIR ∷ [])
 
 -- nothing has this name
 abbrev pub no_object : Tree → Components → Option Errno
-no_object tree name = first_of (
-    when (is_missing (look tree name)) ENOENT ∷
-    when (is_behind (look tree name)) ENOTDIR ∷ [])
+no_object tree name = first_error (
+    error_if (is_missing (look tree name)) ENOENT ∷
+    error_if (is_not_dir (look tree name)) ENOTDIR ∷ [])
 
 -- a name can't be given to an object
 abbrev pub place_refused : Tree → Components → Option Errno
-place_refused tree name = first_of (
+place_refused tree name = first_error (
     no_directory tree name ∷
-    when (is_some (object_of tree name)) EEXIST ∷ [])
+    error_if (is_some (object_of tree name)) EEXIST ∷ [])
 
+-- no new object can be made under a name
 abbrev pub add_refused : Tree → Components → Option Errno
-add_refused tree name = first_of (
+add_refused tree name = first_error (
     place_refused tree name ∷
-    when (nat_le most_objects (length tree.objects)) ENOSPC ∷ [])
+    error_if (nat_le MOST_OBJECTS (length tree.objects)) ENOSPC ∷ [])
 
+-- an object can't have this name too
 abbrev pub link_refused : Tree → ℕ → Components → Option Errno
-link_refused tree number name = first_of (
+link_refused tree number name = first_error (
     place_refused tree name ∷
-    when (is_directory (node_made tree number).kind) EPERM ∷ [])
+    error_if (is_directory (node_with_number tree number).kind) EPERM ∷ [])
 
 -- an object has names below it
 abbrev pub has_entries : Tree → Option ℕ → Bool
 has_entries tree None = false
-has_entries tree (Some number) = nat_lt 0 (entries_in tree number)
+has_entries tree (Some number) = nat_lt 0 (entry_count tree number)
 
+-- a name can't be removed
 abbrev pub remove_refused : Tree → Components → Option Errno
-remove_refused tree name = first_of (
-    when (is_root name) EINVAL ∷
+remove_refused tree name = first_error (
+    error_if (is_root name) EINVAL ∷
     no_object tree name ∷
-    when (has_entries tree (object_of tree name)) ENOTEMPTY ∷ [])
+    error_if (has_entries tree (object_of tree name)) ENOTEMPTY ∷ [])
 
 -- an object is there, and is a directory, or is none
 abbrev pub is_directory_at : Tree → Option ℕ → Bool
 is_directory_at tree None = false
-is_directory_at tree (Some number) = is_directory (node_made tree number).kind
+is_directory_at tree (Some number) = is_directory (node_with_number tree number).kind
 
+-- an object is there, and is no directory
 abbrev pub is_plain_at : Tree → Option ℕ → Bool
 is_plain_at tree None = false
-is_plain_at tree (Some number) = not (is_directory (node_made tree number).kind)
+is_plain_at tree (Some number) = not (is_directory (node_with_number tree number).kind)
 
 -- an object can't take the place of another
 abbrev pub replace_refused : Tree → Option ℕ → Option ℕ → Option Errno
-replace_refused tree old new = first_of (
-    when (is_directory_at tree old && is_plain_at tree new) ENOTDIR ∷
-    when (is_plain_at tree old && is_directory_at tree new) EISDIR ∷
-    when (has_entries tree new) ENOTEMPTY ∷ [])
+replace_refused tree old new = first_error (
+    error_if (is_directory_at tree old && is_plain_at tree new) ENOTDIR ∷
+    error_if (is_plain_at tree old && is_directory_at tree new) EISDIR ∷
+    error_if (has_entries tree new) ENOTEMPTY ∷ [])
 
 -- both are there, and one
-abbrev pub is_one : Option ℕ → Option ℕ → Bool
-is_one None new = false
-is_one (Some number) new = is_numbered number new
-
--- a name leads on from another
-abbrev pub leads_on : Components → Components → Bool
-leads_on old new = begins old new && nat_lt (length old) (length new)
+abbrev pub is_same_object : Option ℕ → Option ℕ → Bool
+is_same_object None new = false
+is_same_object (Some number) new = is_number number new
 
 -- where both names have one object, nothing is replaced
 abbrev pub rename_refused : Tree → Components → Components → Option Errno
-rename_refused tree old new = first_of (
-    when (is_root old || is_root new || leads_on old new) EINVAL ∷
+rename_refused tree old new = first_error (
+    error_if (is_root old || is_root new || is_proper_prefix old new) EINVAL ∷
     no_object tree old ∷
     no_directory tree new ∷
-    (if is_one (object_of tree old) (object_of tree new) then None else replace_refused tree (object_of tree old) (object_of tree new)) ∷ [])
+    (if is_same_object (object_of tree old) (object_of tree new) then None else replace_refused tree (object_of tree old) (object_of tree new)) ∷ [])
 
 -- each name with the old prefix has the new one, in place of what had it; but where both names have one object nothing changes
-abbrev pub renamed : Tree → Components → Components → Tree
-renamed tree old new = record {
-  names = if is_one (object_of tree old) (object_of tree new) then tree.names else (rename (remove_name tree new) old new).names;
+abbrev pub tree_after_rename : Tree → Components → Components → Tree
+tree_after_rename tree old new = record {
+  names = if is_same_object (object_of tree old) (object_of tree new) then tree.names else (rename (remove_name tree new) old new).names;
   objects = tree.objects;
 }
 
 -- bytes would end past the most bytes of a file
 abbrev pub write_refused : ℕ → List ℕ → Option Errno
-write_refused at bytes = when (nat_lt 0 (length bytes) && nat_lt longest_file (at + length bytes)) ENOSPC
+write_refused at bytes = error_if (nat_lt 0 (length bytes) && nat_lt LONGEST_FILE (at + length bytes)) ENOSPC
 
 -- a length is past the most bytes of a file
 abbrev pub cut_refused : ℕ → Option Errno
-cut_refused len = when (nat_lt longest_file len) ENOSPC
+cut_refused len = error_if (nat_lt LONGEST_FILE len) ENOSPC

@@ -1,11 +1,9 @@
 // The bytes of files.
 ghost use Rattle.std.specs.Prelude.{◌≡◌, ◌+◌, ◌≤◌, ◌++◌, drop, length, take, OnOk, OnErr};
-ghost use Rattle.st_names.specs.Tree.{longest_file, overwritten};
+ghost use Rattle.st_model.specs.Tree.{bytes_after_write};
+ghost use Rattle.st_model.specs.declared.limits.TheConstants.{LONGEST_FILE};
 
 use std::alloc::AllocError;
-
-// The most bytes of a file.
-pub(crate) const LONGEST_FILE: u64 = 65_536;
 
 // So many bytes, from this one on; fewer where they end before.
 pub(crate) fn part(bytes: &[u8], at: u64, count: u64) -> &[u8]
@@ -27,8 +25,8 @@ fn put(bytes: &mut [u8], at: usize, new: &[u8])
 
 // Puts new bytes in the place of those from this one on, behind zeros where there is a gap.
 pub(crate) fn overwrite(bytes: &mut Vec<u8>, at: usize, new: &[u8]) -> Result<(), AllocError>
-    requires { at + length new.now ≤ longest_file }
-    ensures ok { OnOk result (bytes.new.items ≡ overwritten bytes.old.items at new.now) }
+    requires { at + length new.now ≤ LONGEST_FILE }
+    ensures ok { OnOk result (bytes.new.items ≡ bytes_after_write bytes.old.items at new.now) }
     ensures err { OnErr result (bytes.new.items ≡ bytes.old.items) }
 {
     if new.is_empty() {

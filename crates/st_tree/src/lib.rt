@@ -9,7 +9,8 @@ mod table;
 pub mod tree;
 
 pub use laws::{other_names_stay, what_is_below_moves_along};
-pub use object::{Kind, NewKind, NewNode, Node};
+pub use object::Node;
+pub use st_model::{Kind, NewKind, NewNode, Want};
 pub use tree::{Tree, TreeFault};
 
 #[cfg(test)]

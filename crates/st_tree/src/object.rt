@@ -3,25 +3,20 @@ ghost use Rattle.std.specs.BTreeMap.{insert_entry, is_at};
 ghost use Rattle.std.specs.Cmp.Lexicographic.{slice_cmp};
 ghost use Rattle.std.specs.Map.{lookup, remove_entry};
 ghost use Rattle.std.specs.Ordering.{nat_cmp};
-ghost use Rattle.st_names.specs.Permission.{allowed, bit_of, has_bit};
-ghost use Rattle.st_names.specs.Tree.{Regular, is_directory, longest_file, overwritten, resized, seen_of_kind, size_by};
+ghost use Rattle.st_model.specs.Permission.{allowed};
+ghost use Rattle.st_model.specs.Tree.{is_directory, bytes_after_write, bytes_after_cut, seen_of_kind, size_of_kind, content_of_new, kind_of_new, node_of_new};
+ghost use Rattle.st_model.specs.declared.object.Kind.TheVariants as object_kind;
 ghost use Rattle.st_names.specs.Seen.{seen_text};
 ghost use Rattle.st_tree.specs.Objects.{content_of_body, entries_of_body, kind_of_body, node_of};
-ghost use Rattle.st_tree.specs.Nodes.{content_to_make, kind_to_make, made_node, shown_kind, with_content};
+ghost use Rattle.st_tree.specs.Nodes.{with_content};
+ghost use Rattle.st_model.specs.declared.limits.TheConstants.{LONGEST_FILE};
 
 use crate::content;
 use st_base::{Obj, Text};
-use st_names::{Seen, Want};
+use st_model::{Kind, NewKind, NewNode, Permission, Want};
+use st_names::Seen;
 use std::alloc::{AllocError, Global};
 use std::collections::BTreeMap;
-
-/// What an object is.
-#[derive(Clone, Copy, Debug, PartialEq, Eq)]
-pub enum Kind {
-    Dir,
-    File,
-    Link,
-}
 
 /// What an object shows of itself.
 #[derive(Clone, Copy, Debug, PartialEq, Eq)]
@@ -32,25 +27,6 @@ pub struct Node {
     pub mode: u32,
     /// Entries of a directory, bytes of a file, bytes of a link's target.
     pub size: u64,
-}
-
-/// An object that is to be made.
-#[derive(Debug, Drop)]
-pub struct NewNode {
-    pub kind: NewKind,
-    pub uid: u32,
-    pub gid: u32,
-    pub mode: u32,
-}
-
-/// What kind of object is to be made.
-#[derive(Debug, Drop)]
-pub enum NewKind {
-    Dir,
-    /// A file, with its content.
-    File(Text),
-    /// A link, with its target.
-    Link(Text),
 }
 
 // An object, as the tree keeps it.
@@ -70,30 +46,10 @@ pub(crate) enum Body {
     Link(Vec<u8>),
 }
 
-// The bit of three that a want asks for.
-fn bit_of(want: Want) -> u32
-    ensures bit { result ≡ bit_of want }
-    ensures some { 0 < result }
-{
-    match want {
-        Want::Read => 4,
-        Want::Write => 2,
-        Want::Search | Want::Execute => 1,
-    }
-}
-
-// Whether bits have this one.
-fn has_bit(bits: u32, bit: u32) -> bool
-    requires { 0 < bit }
-    ensures { result ≡ has_bit bits bit }
-{
-    bits / bit % 2 == 1
-}
-
 impl Body {
     fn of(alloc: Global, kind: NewKind) -> Self
-        ensures kind { kind_of_body result ≡ kind_to_make kind }
-        ensures content { content_of_body result ≡ content_to_make kind }
+        ensures kind { kind_of_body result ≡ kind_of_new kind }
+        ensures content { content_of_body result ≡ content_of_new kind }
         ensures entries { entries_of_body result ≡ [] }
     {
         match kind {
@@ -107,7 +63,7 @@ impl Body {
 impl Object {
     // A new object, without entries, which takes no memory.
     pub(crate) fn of(alloc: Global, new: NewNode) -> Self
-        ensures node { node_of result ≡ made_node new }
+        ensures node { node_of result ≡ node_of_new new }
         ensures entries { entries_of_body result.body ≡ [] }
     {
         let NewNode {
@@ -145,11 +101,11 @@ impl Object {
 
     // What it shows of itself.
     pub(crate) fn node(&self) -> Node
-        ensures kind { result.kind ≡ shown_kind (node_of self.now).kind }
+        ensures kind { result.kind ≡ (node_of self.now).kind }
         ensures uid { result.uid ≡ self.now.uid }
         ensures gid { result.gid ≡ self.now.gid }
         ensures mode { result.mode ≡ self.now.mode }
-        ensures size { result.size ≡ size_by (node_of self.now).kind (length (entries_of_body self.now.body)) (node_of self.now).content }
+        ensures size { result.size ≡ size_of_kind (node_of self.now).kind (length (entries_of_body self.now.body)) (node_of self.now).content }
     {
         let (kind, size) = match &self.body {
             Body::Dir(entries) => (Kind::Dir, entries.len()),
@@ -169,22 +125,12 @@ impl Object {
     pub(crate) fn allows(&self, uid: u32, gid: u32, want: Want) -> bool
         ensures { result ≡ allowed (node_of self.now) uid gid want }
     {
-        if uid == 0 {
-            return match want {
-                Want::Read | Want::Write | Want::Search => true,
-                Want::Execute => {
-                    has_bit(self.mode, 0o100) || has_bit(self.mode, 0o10) || has_bit(self.mode, 0o1)
-                }
-            };
-        }
-        let bits = if uid == self.uid {
-            self.mode / 0o100 % 0o10
-        } else if gid == self.gid {
-            self.mode / 0o10 % 0o10
-        } else {
-            self.mode % 0o10
+        let permission = Permission {
+            uid: self.uid,
+            gid: self.gid,
+            mode: self.mode,
         };
-        has_bit(bits, bit_of(want))
+        permission.is_permitted(uid, gid, want)
     }
 
     // What a look at it sees.
@@ -252,9 +198,9 @@ impl Object {
 
     // Puts bytes into a file, from this one on.
     pub(crate) fn write(&mut self, at: usize, bytes: &[u8]) -> Result<(), AllocError>
-        requires file { kind_of_body self.old.body ≡ Regular }
-        requires fits { at + length bytes.now ≤ longest_file }
-        ensures ok { OnOk result (node_of self.new ≡ with_content (node_of self.old) (overwritten (node_of self.old).content at bytes.now)) }
+        requires file { kind_of_body self.old.body ≡ object_kind.File }
+        requires fits { at + length bytes.now ≤ LONGEST_FILE }
+        ensures ok { OnOk result (node_of self.new ≡ with_content (node_of self.old) (bytes_after_write (node_of self.old).content at bytes.now)) }
         ensures err { OnErr result (node_of self.new ≡ node_of self.old) }
         ensures entries { entries_of_body self.new.body ≡ entries_of_body self.old.body }
     {
@@ -266,8 +212,8 @@ impl Object {
 
     // Cuts a file to a length, or fills it up.
     pub(crate) fn cut(&mut self, len: usize) -> Result<(), AllocError>
-        requires { kind_of_body self.old.body ≡ Regular }
-        ensures ok { OnOk result (node_of self.new ≡ with_content (node_of self.old) (resized (node_of self.old).content len)) }
+        requires { kind_of_body self.old.body ≡ object_kind.File }
+        ensures ok { OnOk result (node_of self.new ≡ with_content (node_of self.old) (bytes_after_cut (node_of self.old).content len)) }
         ensures err { OnErr result (node_of self.new ≡ node_of self.old) }
         ensures entries { entries_of_body self.new.body ≡ entries_of_body self.old.body }
     {

@@ -1,23 +1,22 @@
 // Where names lead among the objects, and why a name may not be given, or taken away.
-ghost use Rattle.std.specs.Prelude.{◌≡◌, ◌<◌, ◌≤◌, false, Some, [], length, map, take, ℕ, IfOk, OnOk, OnErr};
+ghost use Rattle.std.specs.Prelude.{◌≡◌, ◌<◌, ◌≤◌, false, Some, [], length, map, ℕ, IfOk, OnOk, OnErr};
 ghost use Rattle.std.specs.Result.{result_err};
-ghost use Rattle.st_names.specs.Name.{parent};
+ghost use Rattle.st_names.specs.Name.{last_part, parent};
 ghost use Rattle.st_tree.specs.Objects.{dirs_of, is_dir_of, node_of, tree_of, IsNumber, IsWhole};
-ghost use Rattle.st_tree.specs.Paths.{entry, with_entry, without_entry};
-ghost use Rattle.st_tree.specs.Reached.{directory_reached, errno_of_gap, last_part, reached, stepped, IsEmpty, IsFree, IsRenaming, IsTaken, IsWay};
-ghost use Rattle.st_tree.specs.Refusals.{add_refused, leads_on, link_refused, no_object, place_refused, remove_refused, rename_refused, replace_refused};
+ghost use Rattle.st_tree.specs.Paths.{dir_entry, with_entry, without_entry};
+ghost use Rattle.st_tree.specs.Reached.{directory_reached, errno_of_gap, object_or_gap, gap_or_entry, IsEmpty, IsFree, IsRenaming, IsTaken, IsRenamePlan};
+ghost use Rattle.st_tree.specs.Refusals.{add_refused, link_refused, no_object, place_refused, remove_refused, rename_refused, replace_refused};
+ghost use Rattle.st_model.specs.Tree.{is_proper_prefix};
 
 use crate::object::Object;
 use crate::table;
 use st_base::{Errno, Obj};
-use st_names::AbsName;
+use st_model::MOST_OBJECTS;
+use st_names::{AbsName, NameParts};
 use std::alloc::{AllocError, Global};
 
 // The root's number.
 pub(crate) const ROOT: Obj = 1;
-
-// How many objects may ever be made.
-pub(crate) const MOST_OBJECTS: usize = 4096;
 
 // Why a name leads to no object.
 #[derive(Clone, Copy, Debug, PartialEq, Eq)]
@@ -30,7 +29,7 @@ pub(crate) enum Gap {
 
 // What a renaming goes by: the directories that the names stand in, and the object.
 #[derive(Clone, Copy)]
-pub(crate) struct Way {
+pub(crate) struct RenamePlan {
     pub(crate) from: Obj,
     pub(crate) to: Obj,
     pub(crate) obj: Obj,
@@ -50,7 +49,7 @@ impl Gap {
 // The object that a component has in this one, which has to be a directory.
 fn step(objects: &[Object], from: Obj, part: &[u8]) -> Result<Obj, Gap>
     requires { IsNumber objects.now from }
-    ensures { result ≡ stepped (is_dir_of objects.now from) (entry (dirs_of objects.now) from part.now) }
+    ensures { result ≡ gap_or_entry (is_dir_of objects.now from) (dir_entry (dirs_of objects.now) from part.now) }
 {
     if !table::is_dir(objects, from) {
         return Err(Gap::NotDir);
@@ -58,16 +57,15 @@ fn step(objects: &[Object], from: Obj, part: &[u8]) -> Result<Obj, Gap>
     table::entry(objects, from, part).ok_or(Gap::Missing)
 }
 
-// The object that so many components of a name lead to from the root.
-fn reach(objects: &[Object], name: &AbsName, count: usize) -> Result<Obj, Gap>
-    requires whole { IsWhole objects.now }
-    requires within { count ≤ length name.now }
-    ensures reached { result ≡ reached objects.now 1 (take count name.now) }
+// The object that components lead to from the root.
+fn reach(objects: &[Object], parts: NameParts<'_>) -> Result<Obj, Gap>
+    requires { IsWhole objects.now }
+    ensures reached { result ≡ object_or_gap objects.now 1 parts.entry }
     ensures number { IfOk result (IsNumber objects.now) }
 {
     let mut at = ROOT;
-    for i in 0..count {
-        at = step(objects, at, name.part(i))?;
+    for part in parts {
+        at = step(objects, at, part)?;
     }
     Ok(at)
 }
@@ -75,18 +73,10 @@ fn reach(objects: &[Object], name: &AbsName, count: usize) -> Result<Obj, Gap>
 // The object that a name leads to.
 pub(crate) fn find(objects: &[Object], name: &AbsName) -> Result<Obj, Gap>
     requires { IsWhole objects.now }
-    ensures reached { result ≡ reached objects.now 1 name.now }
+    ensures reached { result ≡ object_or_gap objects.now 1 name.now }
     ensures number { IfOk result (IsNumber objects.now) }
 {
-    reach(objects, name, name.len())
-}
-
-// The last component of a name that is not the root's.
-pub(crate) fn last_part(name: &AbsName) -> &[u8]
-    requires { 0 < length name.now }
-    ensures { result.now ≡ last_part name.now }
-{
-    name.part(name.len() - 1)
+    reach(objects, name.parts())
 }
 
 // The directory that a name stands in, or would.
@@ -95,7 +85,7 @@ fn directory_of(objects: &[Object], name: &AbsName) -> Result<Obj, Gap>
     ensures reached { result ≡ directory_reached objects.now (parent name.now) }
     ensures number { IfOk result (IsNumber objects.now) }
 {
-    let holder = reach(objects, name, name.len().saturating_sub(1))?;
+    let holder = reach(objects, name.parent())?;
     if !table::is_dir(objects, holder) {
         return Err(Gap::NotDir);
     }
@@ -115,7 +105,7 @@ fn free_place(objects: &[Object], name: &AbsName) -> Result<Obj, Errno>
     if name.is_root() {
         return Err(Errno::EEXIST);
     }
-    match table::entry(objects, holder, last_part(name)) {
+    match table::entry(objects, holder, name.last()) {
         Some(_) => Err(Errno::EEXIST),
         None => Ok(holder),
     }
@@ -128,11 +118,11 @@ fn taken_place(objects: &[Object], name: &AbsName) -> Result<(Obj, Obj), Errno>
     ensures taken { IfOk result (λ place. IsTaken objects.now name.now place.0 place.1) }
     ensures refused { result_err result ≡ no_object (tree_of objects.now) name.now }
 {
-    let holder = match reach(objects, name, name.len() - 1) {
+    let holder = match reach(objects, name.parent()) {
         Ok(holder) => holder,
         Err(gap) => return Err(gap.errno()),
     };
-    match step(objects, holder, last_part(name)) {
+    match step(objects, holder, name.last()) {
         Ok(obj) => Ok((holder, obj)),
         Err(gap) => Err(gap.errno()),
     }
@@ -184,8 +174,8 @@ pub(crate) fn place_to_remove(objects: &[Object], name: &AbsName) -> Result<Obj,
 }
 
 // Whether a name leads on from another.
-fn leads_on(old: &AbsName, new: &AbsName) -> bool
-    ensures { result ≡ leads_on old.now new.now }
+fn is_proper_prefix(old: &AbsName, new: &AbsName) -> bool
+    ensures { result ≡ is_proper_prefix old.now new.now }
 {
     old.begins(new) && old.len() < new.len()
 }
@@ -209,16 +199,16 @@ fn replace(objects: &[Object], obj: Obj, replaced: Obj) -> Result<(), Errno>
 }
 
 // What a renaming goes by; none where both names have one object.
-pub(crate) fn way_to_rename(
+pub(crate) fn rename_plan(
     objects: &[Object],
     old: &AbsName,
     new: &AbsName,
-) -> Result<Option<Way>, Errno>
+) -> Result<Option<RenamePlan>, Errno>
     requires { IsWhole objects.now }
     ensures way { IfOk result (IsRenaming objects.now old.now new.now) }
     ensures refused { result_err result ≡ rename_refused (tree_of objects.now) old.now new.now }
 {
-    if old.is_root() || new.is_root() || leads_on(old, new) {
+    if old.is_root() || new.is_root() || is_proper_prefix(old, new) {
         return Err(Errno::EINVAL);
     }
     let (from, obj) = taken_place(objects, old)?;
@@ -226,30 +216,30 @@ pub(crate) fn way_to_rename(
         Ok(to) => to,
         Err(gap) => return Err(gap.errno()),
     };
-    let Some(replaced) = table::entry(objects, to, last_part(new)) else {
-        return Ok(Some(Way { from, to, obj }));
+    let Some(replaced) = table::entry(objects, to, new.last()) else {
+        return Ok(Some(RenamePlan { from, to, obj }));
     };
     if replaced == obj {
         return Ok(None);
     }
     replace(objects, obj, replaced)?;
-    Ok(Some(Way { from, to, obj }))
+    Ok(Some(RenamePlan { from, to, obj }))
 }
 
 // Moves the entry of one name to another, in place of what it has there.
 pub(crate) fn move_entry(
     objects: &mut [Object],
     alloc: Global,
-    way: Way,
+    way: RenamePlan,
     old: &AbsName,
     new: &AbsName,
 ) -> Result<(), AllocError>
-    requires { IsWay objects.old old.now new.now way }
+    requires { IsRenamePlan objects.old old.now new.now way }
     ensures ok { OnOk result ((n : ℕ) → dirs_of objects.new n ≡ without_entry (with_entry (dirs_of objects.old) way.to (last_part new.now) way.obj) way.from (last_part old.now) n) }
     ensures err { OnErr result ((n : ℕ) → dirs_of objects.new n ≡ dirs_of objects.old n) }
     ensures nodes { map node_of objects.new ≡ map node_of objects.old }
 {
-    table::put_entry(objects, alloc, way.to, last_part(new), way.obj)?;
-    table::take_entry(objects, way.from, last_part(old));
+    table::put_entry(objects, alloc, way.to, new.last(), way.obj)?;
+    table::take_entry(objects, way.from, old.last());
     Ok(())
 }

@@ -1,7 +1,7 @@
 // The objects by their numbers, and the entries of those that are directories.
 ghost use Rattle.std.specs.Prelude.{◌≡◌, ℕ, true, nat_lt, length, map, OnOk, OnErr};
 ghost use Rattle.st_tree.specs.Objects.{dirs_of, is_dir_of, node_of, IsNumber};
-ghost use Rattle.st_tree.specs.Paths.{entry, with_entry, without_entry};
+ghost use Rattle.st_tree.specs.Paths.{dir_entry, with_entry, without_entry};
 
 use crate::object::Object;
 use st_base::Obj;
@@ -26,7 +26,7 @@ pub(crate) fn has_entries(objects: &[Object], obj: Obj) -> bool
 // The number that a component has in this object.
 pub(crate) fn entry(objects: &[Object], holder: Obj, part: &[u8]) -> Option<Obj>
     requires { IsNumber objects.now holder }
-    ensures { result ≡ entry (dirs_of objects.now) holder part.now }
+    ensures { result ≡ dir_entry (dirs_of objects.now) holder part.now }
 {
     objects[holder as usize - 1].entry(part)
 }

@@ -1,26 +1,28 @@
 ghost use Rattle.std.specs.Prelude.{◌≡◌, ◌↔◌, suc, true, None, drop, length, take, IsNone, IfSome, IfOk, IfErr, OnOk, OnErr};
 ghost use Rattle.st_names.specs.Seen.{seen_text};
-ghost use Rattle.st_names.specs.Tree.{add_object, cut_object, link_object, look, node_made, object_of, remove_name, root_only, set_mode, set_owner, size_of, write_object};
-ghost use Rattle.st_names.specs.Permission.{allowed};
+ghost use Rattle.st_model.specs.Tree.{add_object, cut_object, link_object, look, node_with_number, object_of, remove_name, root_only, set_mode, set_owner, size_of, write_object, node_of_new};
+ghost use Rattle.st_model.specs.Permission.{allowed};
 ghost use Rattle.st_tree.specs.Answers.{KeepsKinds, Refuses};
-ghost use Rattle.st_tree.specs.Nodes.{made_node, shown_kind};
-ghost use Rattle.st_tree.specs.Refusals.{add_refused, cut_refused, is_lost, link_refused, remove_refused, rename_refused, renamed, write_refused, IsFile, IsMade};
+ghost use Rattle.st_tree.specs.Refusals.{add_refused, cut_refused, is_absent, link_refused, remove_refused, rename_refused, tree_after_rename, write_refused, IsFile, IsMade};
 
-use crate::content::LONGEST_FILE;
-use crate::object::{NewKind, NewNode, Node, Object};
+use crate::object::{Node, Object};
 use crate::places::{self, Gap};
 use crate::table;
 use st_base::{Errno, Obj, Text};
-use st_names::{AbsName, Seen, Want};
+use st_model::{LONGEST_FILE, NewKind, NewNode, Want};
+use st_names::{AbsName, Seen};
 use std::alloc::{AllocError, Global};
 use std::marker::Model;
+use thiserror::Error;
 
 /// Why a tree was not changed.
-#[derive(Clone, Copy, Debug, PartialEq, Eq)]
+#[derive(Clone, Copy, Debug, PartialEq, Eq, Drop, Error)]
 pub enum TreeFault {
     /// The call fails with this error.
+    #[error("the call fails")]
     Os(Errno),
     /// There is no memory for the change.
+    #[error("out of memory")]
     NoMemory,
 }
 
@@ -53,7 +55,7 @@ pub struct Tree {
 }
 
 impl Model for Tree {
-    ghost use Rattle.st_names.specs.Tree as names;
+    ghost use Rattle.st_model.specs.Tree as names;
 
     ghost Value = { names.Tree };
 
@@ -94,7 +96,7 @@ impl Tree {
     /// The object that has a name; none exactly where a look sees Missing or NotDir.
     pub fn object(&self, name: &AbsName) -> Option<Obj>
         ensures object { result ≡ object_of self.now name.now }
-        ensures none { IsNone result ↔ (is_lost (look self.now name.now) ≡ true) }
+        ensures none { IsNone result ↔ (is_absent (look self.now name.now) ≡ true) }
         ensures made { IfSome result (IsMade self.now) }
     {
         places::find(&self.objects, name).ok()
@@ -103,10 +105,10 @@ impl Tree {
     /// What an object shows of itself.
     pub fn node(&self, obj: Obj) -> Node
         requires { IsMade self.now obj }
-        ensures kind { result.kind ≡ shown_kind (node_made self.now obj).kind }
-        ensures uid { result.uid ≡ (node_made self.now obj).uid }
-        ensures gid { result.gid ≡ (node_made self.now obj).gid }
-        ensures mode { result.mode ≡ (node_made self.now obj).mode }
+        ensures kind { result.kind ≡ (node_with_number self.now obj).kind }
+        ensures uid { result.uid ≡ (node_with_number self.now obj).uid }
+        ensures gid { result.gid ≡ (node_with_number self.now obj).gid }
+        ensures mode { result.mode ≡ (node_with_number self.now obj).mode }
         ensures size { result.size ≡ size_of self.now obj }
     {
         self.objects[obj as usize - 1].node()
@@ -116,7 +118,7 @@ impl Tree {
     /// member of the group, else the others'. User 0 may do all but execute what nobody may.
     pub fn allowed(&self, obj: Obj, uid: u32, gid: u32, want: Want) -> bool
         requires { IsMade self.now obj }
-        ensures { result ≡ allowed (node_made self.now obj) uid gid want }
+        ensures { result ≡ allowed (node_with_number self.now obj) uid gid want }
     {
         self.objects[obj as usize - 1].allows(uid, gid, want)
     }
@@ -132,10 +134,10 @@ impl Tree {
     /// something on the way is no directory, EEXIST where the name is taken, ENOSPC where 4,096 objects were made. After an
     /// error nothing is changed.
     pub fn add(&mut self, alloc: Global, name: &AbsName, new: NewNode) -> Result<Obj, TreeFault>
-        ensures ok { OnOk result (self.new ≡ add_object self.old name.now (made_node new)) }
+        ensures ok { OnOk result (self.new ≡ add_object self.old name.now (node_of_new new)) }
         ensures number { IfOk result (λ obj. obj ≡ suc (length self.old.objects)) }
         ensures made { IfOk result (IsMade self.new) }
-        ensures node { IfOk result (λ obj. node_made self.new obj ≡ made_node new) }
+        ensures node { IfOk result (λ obj. node_with_number self.new obj ≡ node_of_new new) }
         ensures may { OnOk result (add_refused self.old name.now ≡ None) }
         ensures refused { Refuses (add_refused self.old name.now) result }
         ensures err { OnErr result (self.new ≡ self.old) }
@@ -143,13 +145,7 @@ impl Tree {
         let holder = places::place_to_add(&self.objects, name)?;
         let obj = self.objects.len() as u32 + 1;
         self.objects.reserve(1)?;
-        table::put_entry(
-            &mut self.objects,
-            alloc,
-            holder,
-            places::last_part(name),
-            obj,
-        )?;
+        table::put_entry(&mut self.objects, alloc, holder, name.last(), obj)?;
         self.objects.push_reserved(Object::of(alloc, new));
         Ok(obj)
     }
@@ -164,13 +160,7 @@ impl Tree {
         ensures err { OnErr result (self.new ≡ self.old) }
     {
         let holder = places::place_to_link(&self.objects, obj, name)?;
-        table::put_entry(
-            &mut self.objects,
-            alloc,
-            holder,
-            places::last_part(name),
-            obj,
-        )?;
+        table::put_entry(&mut self.objects, alloc, holder, name.last(), obj)?;
         Ok(())
     }
 
@@ -183,7 +173,7 @@ impl Tree {
         ensures err { OnErr result (self.new ≡ self.old) }
     {
         let holder = places::place_to_remove(&self.objects, name)?;
-        table::take_entry(&mut self.objects, holder, places::last_part(name));
+        table::take_entry(&mut self.objects, holder, name.last());
         Ok(())
     }
 
@@ -193,12 +183,12 @@ impl Tree {
     /// directory; then ENOTDIR where the object alone is a directory, EISDIR where the one that it replaces alone is,
     /// ENOTEMPTY where that one has entries. After an error nothing is changed.
     pub fn rename(&mut self, alloc: Global, old: &AbsName, new: &AbsName) -> Result<(), TreeFault>
-        ensures ok { OnOk result (self.new ≡ renamed self.old old.now new.now) }
+        ensures ok { OnOk result (self.new ≡ tree_after_rename self.old old.now new.now) }
         ensures may { OnOk result (rename_refused self.old old.now new.now ≡ None) }
         ensures refused { Refuses (rename_refused self.old old.now new.now) result }
         ensures err { OnErr result (self.new ≡ self.old) }
     {
-        let Some(way) = places::way_to_rename(&self.objects, old, new)? else {
+        let Some(way) = places::rename_plan(&self.objects, old, new)? else {
             return Ok(());
         };
         places::move_entry(&mut self.objects, alloc, way, old, new)?;
@@ -208,7 +198,7 @@ impl Tree {
     /// So many bytes of a file, from this one on; fewer where it ends before.
     pub fn read(&self, alloc: Global, obj: Obj, at: u64, count: u64) -> Result<Text, AllocError>
         requires { IsFile self.now obj }
-        ensures { IfOk result (λ text. text ≡ take count (drop at (node_made self.now obj).content)) }
+        ensures { IfOk result (λ text. text ≡ take count (drop at (node_with_number self.now obj).content)) }
     {
         self.objects[obj as usize - 1].read(alloc, at, count)
     }

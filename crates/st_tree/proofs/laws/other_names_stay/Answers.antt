@@ -1,5 +1,5 @@
-use Rattle.st_names.proofs.Objects.{number-put}
-use Rattle.st_names.proofs.Ordered.{number-without}
+use Rattle.st_model.proofs.Objects.{number-put}
+use Rattle.st_model.proofs.Ordered.{number-without}
 use Rattle.st_tree.proofs.laws.other_names_stay.Goals as goal
 
 pub returns-clause-given : goal.returns-clause-given

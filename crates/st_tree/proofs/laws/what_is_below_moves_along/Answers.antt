@@ -1,4 +1,4 @@
-use Rattle.st_names.proofs.Ordered.{number-moved}
+use Rattle.st_model.proofs.Ordered.{number-moved}
 use Rattle.st_tree.proofs.laws.what_is_below_moves_along.Goals as goal
 
 pub returns : goal.returns

@@ -2,11 +2,10 @@ use Rattle.std.proofs.Common.{◌≡◌, ◌∙◌, ◌∷◌, ◌++◌, ◌+◌
 use Rattle.std.proofs.lemmas.List.{with_items_is}
 use Rattle.std.proofs.lemmas.Result.{err_from_is_err_and}
 use Rattle.std.specs.Vec.{with_items}
-use Rattle.st_names.specs.Tree.{Node, Tree, add_object}
-use Rattle.st_tree.specs.Nodes.{made_node}
+use Rattle.st_model.specs.Tree.{Node, Tree, add_object, node_of_new}
+use Rattle.st_names.specs.Name.{last_part}
 use Rattle.st_tree.specs.Objects.{dirs_of, node_of, tree_of}
 use Rattle.st_tree.specs.Paths.{with_entry}
-use Rattle.st_tree.specs.Reached.{last_part}
 use Rattle.st_tree.specs.declared.object.Object.{Object}
 use Rattle.st_tree.proofs.Changes.{Makes, made_added, same_count, written_same}
 use Rattle.st_tree.proofs.Kept.{added_made, added_node}
@@ -32,7 +31,7 @@ returns-in_err-put_entry-clause-err c =
 pub returns-clause-number : goal.returns-clause-number
 returns-clause-number c = rw (← c.self.view_is) (omega (arith, c.len.ensures, count_made c.self.inside.objects.items))
 
-makes : (c : After-push_reserved) → Makes c.push_reserved.new.self.items (add_object c.args.self.now c.args.name.now (made_node c.args.new))
+makes : (c : After-push_reserved) → Makes c.push_reserved.new.self.items (add_object c.args.self.now c.args.name.now (node_of_new c.args.new))
 makes c =
     let old = c.self.inside.objects.items in
     let new = c.put_entry.new.objects in
@@ -44,14 +43,14 @@ makes c =
     let made : Makes (new ++ c.of.result ∷ []) (add_object (tree_of old) c.args.name.now (node_of c.of.result)) =
     made_added old new c.of.result c.self.invariant room nodes c.args.name.now c.in_ok-holder.holder free
     (λ n. c.in_ok-put_entry.ensures.ok n
-    ∙ ap (λ part. with_entry (dirs_of c.deref_mut.result.now) c.in_ok-holder.holder part (c.len.result + 1) n) c.last_part.ensures
+    ∙ ap (λ part. with_entry (dirs_of c.deref_mut.result.now) c.in_ok-holder.holder part (c.len.result + 1) n) c.last.ensures
     ∙ ap (λ objects. with_entry (dirs_of objects) c.in_ok-holder.holder (last_part c.args.name.now) (c.len.result + 1) n) at
     ∙ ap (λ k. with_entry (dirs_of old) c.in_ok-holder.holder (last_part c.args.name.now) k n) number)
     c.of.ensures.entries in
     let items : c.push_reserved.new.self.items ≡ new ++ c.of.result ∷ [] =
     c.push_reserved.ensures.items ∙ ap (λ (objects : List Object). objects ++ c.of.result ∷ [])
     (with_items_is c.reserve.new.self new (same_count old new nodes ∙ sym (ap length c.in_ok-reserve.ensures.items) ∙ sym c.reserve.new.self.ok.0)) in
-    subst (λ (objects : List Object). Makes objects (add_object c.args.self.now c.args.name.now (made_node c.args.new))) (sym items)
+    subst (λ (objects : List Object). Makes objects (add_object c.args.self.now c.args.name.now (node_of_new c.args.new))) (sym items)
     (subst (λ (node : Node). Makes (new ++ c.of.result ∷ []) (add_object c.args.self.now c.args.name.now node)) c.of.ensures.node
     (subst (λ (tree : Tree). Makes (new ++ c.of.result ∷ []) (add_object tree c.args.name.now (node_of c.of.result))) c.self.view_is made))
 
@@ -62,7 +61,7 @@ pub returns-clause-ok : goal.returns-clause-ok
 returns-clause-ok c = (makes c).view
 
 pub returns-clause-made : goal.returns-clause-made
-returns-clause-made c = added_made _ _ c.args.name.now (made_node c.args.new) _ (returns-clause-ok c) (returns-clause-number c)
+returns-clause-made c = added_made _ _ c.args.name.now (node_of_new c.args.new) _ (returns-clause-ok c) (returns-clause-number c)
 
 pub returns-clause-node : goal.returns-clause-node
-returns-clause-node c = added_node _ _ c.args.name.now (made_node c.args.new) _ (returns-clause-ok c) (returns-clause-number c)
+returns-clause-node c = added_node _ _ c.args.name.now (node_of_new c.args.new) _ (returns-clause-ok c) (returns-clause-number c)

@@ -1,6 +1,6 @@
 use Rattle.std.proofs.Common.{sym, ◌∙◌, ap, arith}
-use Rattle.st_names.specs.Permission.{allowed}
-use Rattle.st_names.specs.Tree as tree
+use Rattle.st_model.specs.Permission.{allowed}
+use Rattle.st_model.specs.Tree as tree
 use Rattle.st_tree.specs.Objects.{IsNumber}
 use Rattle.st_tree.proofs.Trees.{made_within, node_at_number}
 use Rattle.st_tree.proofs.tree.Tree.allowed.Goals as goal

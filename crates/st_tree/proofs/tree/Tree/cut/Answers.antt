@@ -1,6 +1,6 @@
 use Rattle.std.proofs.Common.{◌∙◌, ap, arith, refl, sym}
 use Rattle.std.proofs.lemmas.Result.{err_from_is_err_and}
-use Rattle.st_names.specs.Tree.{Node, resized}
+use Rattle.st_model.specs.Tree.{Node, bytes_after_cut}
 use Rattle.st_tree.specs.Objects.{IsNumber}
 use Rattle.st_tree.proofs.Kept.{kinds_kept, kinds_same}
 use Rattle.st_tree.proofs.Trees.{made_within}
@@ -24,10 +24,10 @@ returns-in_err-cut-clause-err c =
     rw p.1 (updated_same c.self.inside.objects.items c.self.invariant c.args.self.now c.self.view_is c.args.obj c.index_mut.result.now c.cut.new.self c.index_mut.ensures.value c.cut.ensures.entries c.in_err-cut.ensures.err).view
 
 pub invariant_of-self-2 : goal.invariant_of-self-2
-invariant_of-self-2 c = (content_set c.self.inside.objects.items c.self.invariant c.args.self.now c.self.view_is c.args.obj c.index_mut.result.now c.index_mut.ensures.value c.requires.0 c.cut.new.self (λ content. resized content c.args.len) c.in_ok-cut.ensures.ok c.cut.ensures.entries).whole
+invariant_of-self-2 c = (content_set c.self.inside.objects.items c.self.invariant c.args.self.now c.self.view_is c.args.obj c.index_mut.result.now c.index_mut.ensures.value c.requires.0 c.cut.new.self (λ content. bytes_after_cut content c.args.len) c.in_ok-cut.ensures.ok c.cut.ensures.entries).whole
 
 pub returns-clause-ok : goal.returns-clause-ok
-returns-clause-ok c = (content_set c.self.inside.objects.items c.self.invariant c.args.self.now c.self.view_is c.args.obj c.index_mut.result.now c.index_mut.ensures.value c.requires.0 c.cut.new.self (λ content. resized content c.args.len) c.in_ok-cut.ensures.ok c.cut.ensures.entries).view
+returns-clause-ok c = (content_set c.self.inside.objects.items c.self.invariant c.args.self.now c.self.view_is c.args.obj c.index_mut.result.now c.index_mut.ensures.value c.requires.0 c.cut.new.self (λ content. bytes_after_cut content c.args.len) c.in_ok-cut.ensures.ok c.cut.ensures.entries).view
 
 pub returns-in_err-cut-clause-kinds : goal.returns-in_err-cut-clause-kinds
 returns-in_err-cut-clause-kinds c = kinds_same _ _ (updated_same c.self.inside.objects.items c.self.invariant c.args.self.now c.self.view_is c.args.obj c.index_mut.result.now c.cut.new.self c.index_mut.ensures.value c.cut.ensures.entries c.in_err-cut.ensures.err).view

@@ -1,10 +1,10 @@
 use Rattle.std.proofs.Common.{◌≡◌, ◌∙◌, ap, refl, map}
 use Rattle.std.proofs.lemmas.Result.{err_from_is_err_and}
 use Rattle.std.specs.Vec.{with_items}
-use Rattle.st_names.specs.Tree.{link_object}
+use Rattle.st_model.specs.Tree.{link_object}
+use Rattle.st_names.specs.Name.{last_part}
 use Rattle.st_tree.specs.Objects.{dirs_of, node_of, tree_of}
 use Rattle.st_tree.specs.Paths.{with_entry}
-use Rattle.st_tree.specs.Reached.{last_part}
 use Rattle.st_tree.proofs.Changes.{Makes, made_linked, same_count, written, written_same}
 use Rattle.st_tree.proofs.Trees.{made_within}
 use Rattle.st_tree.proofs.tree.Tree.link.Goals.{After-from_residual-in_err-put_entry, In_ok-put_entry}
@@ -40,7 +40,7 @@ makes c =
     let nodes : map node_of new ≡ map node_of old = c.put_entry.ensures.nodes ∙ ap (map node_of) c.deref_mut.ensures.value in
     written c.self.inside.objects new (tree_of old) c.args.self.now (λ tree. link_object tree c.args.name.now c.args.obj) (same_count old new nodes) c.self.view_is
     (made_linked old new c.self.invariant nodes c.args.name.now c.in_ok-holder.holder c.args.obj free (made_within _ _ c.args.obj c.self.view_is c.requires) plain
-    (λ number. c.in_ok-put_entry.ensures.ok number ∙ ap (λ part. with_entry (dirs_of c.deref_mut.result.now) c.in_ok-holder.holder part c.args.obj number) c.last_part.ensures
+    (λ number. c.in_ok-put_entry.ensures.ok number ∙ ap (λ part. with_entry (dirs_of c.deref_mut.result.now) c.in_ok-holder.holder part c.args.obj number) c.last.ensures
     ∙ ap (λ objects. with_entry (dirs_of objects) c.in_ok-holder.holder (last_part c.args.name.now) c.args.obj number) c.deref_mut.ensures.value))
 
 pub invariant_of-self-2 : goal.invariant_of-self-2

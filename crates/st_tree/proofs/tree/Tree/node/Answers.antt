@@ -1,6 +1,5 @@
 use Rattle.std.proofs.Common.{sym, ◌∙◌, ap, arith}
-use Rattle.st_names.specs.Tree as tree
-use Rattle.st_tree.specs.Nodes.{shown_kind}
+use Rattle.st_model.specs.Tree as tree
 use Rattle.st_tree.specs.Objects.{IsNumber}
 use Rattle.st_tree.proofs.Trees.{made_within, node_at_number, size_at_number}
 use Rattle.st_tree.proofs.tree.Tree.node.Goals as goal
@@ -13,7 +12,7 @@ index-requires c =
 pub returns-clause-kind : goal.returns-clause-kind
 returns-clause-kind c =
     let is : IsNumber c.self.inside.objects.items c.args.obj = made_within _ _ c.args.obj c.self.view_is c.requires in
-    rw (← c.self.view_is) (c.node.ensures.kind ∙ ap (λ (n : tree.Node). shown_kind n.kind) (sym (node_at_number c.self.inside.objects.items c.args.obj c.index.result.now is c.index.ensures)))
+    rw (← c.self.view_is) (c.node.ensures.kind ∙ ap (λ (n : tree.Node). n.kind) (sym (node_at_number c.self.inside.objects.items c.args.obj c.index.result.now is c.index.ensures)))
 
 pub returns-clause-uid : goal.returns-clause-uid
 returns-clause-uid c =

@@ -1,5 +1,5 @@
 use Rattle.std.proofs.Common.{◌≡◌, IfOk, arith, drop, subst, sym, take}
-use Rattle.st_names.specs.Tree as tree
+use Rattle.st_model.specs.Tree as tree
 use Rattle.st_tree.specs.Objects.{IsNumber}
 use Rattle.st_tree.proofs.Trees.{made_within, node_at_number}
 use Rattle.st_tree.proofs.tree.Tree.read.Goals as goal

@@ -1,10 +1,11 @@
 use Rattle.std.proofs.Common.{◌≡◌, ◌∙◌, ap, refl, subst, map}
 use Rattle.std.proofs.lemmas.Result.{err_from_is_err_and}
 use Rattle.std.specs.Vec.{with_items}
+use Rattle.st_names.specs.Name.{last_part}
 use Rattle.st_tree.specs.Objects.{dirs_of, node_of, tree_of}
 use Rattle.st_tree.specs.Paths.{with_entry, without_entry}
-use Rattle.st_tree.specs.Reached.{last_part, IsRenaming, IsWay}
-use Rattle.st_tree.specs.Refusals.{renamed}
+use Rattle.st_tree.specs.Reached.{IsRenaming, IsRenamePlan}
+use Rattle.st_tree.specs.Refusals.{tree_after_rename}
 use Rattle.st_tree.proofs.Changes.{Makes, made_renamed, same_count, written, written_same}
 use Rattle.st_tree.proofs.tree.Tree.rename.Goals.{After-from_residual-in_err-move_entry, In_ok-move_entry}
 use Rattle.st_tree.proofs.tree.Tree.rename.Goals as goal
@@ -22,14 +23,14 @@ returns-in_err-move_entry-clause-err c =
     let p = err_from_is_err_and c.from_residual-in_err-move_entry.result c.from_residual-in_err-move_entry.ensures.1 in
     rw p.1 (again c).view
 
-makes : (c : In_ok-move_entry) → Makes (with_items c.self.inside.objects c.move_entry.new.objects).items (renamed c.args.self.now c.args.old.now c.args.new.now)
+makes : (c : In_ok-move_entry) → Makes (with_items c.self.inside.objects c.move_entry.new.objects).items (tree_after_rename c.args.self.now c.args.old.now c.args.new.now)
 makes c =
     let old = c.self.inside.objects.items in
     let new = c.move_entry.new.objects in
     let found = rw c.deref.ensures.value at c.in_ok-way.ensures.way in
-    let way : IsWay old c.args.old.now c.args.new.now c.in-Some.way = subst (IsRenaming old c.args.old.now c.args.new.now) c.in-Some.is found in
+    let way : IsRenamePlan old c.args.old.now c.args.new.now c.in-Some.way = subst (IsRenaming old c.args.old.now c.args.new.now) c.in-Some.is found in
     let nodes : map node_of new ≡ map node_of old = c.move_entry.ensures.nodes ∙ ap (map node_of) c.deref_mut.ensures.value in
-    written c.self.inside.objects new (tree_of old) c.args.self.now (λ tree. renamed tree c.args.old.now c.args.new.now) (same_count old new nodes) c.self.view_is
+    written c.self.inside.objects new (tree_of old) c.args.self.now (λ tree. tree_after_rename tree c.args.old.now c.args.new.now) (same_count old new nodes) c.self.view_is
     (made_renamed old new c.self.invariant nodes c.args.old.now c.args.new.now c.in-Some.way way
     (λ number. c.in_ok-move_entry.ensures.ok number
     ∙ ap (λ objects. without_entry (with_entry (dirs_of objects) c.in-Some.way.to (last_part c.args.new.now) c.in-Some.way.obj) c.in-Some.way.from (last_part c.args.old.now) number) c.deref_mut.ensures.value))

@@ -1,6 +1,6 @@
 use Rattle.std.proofs.Common.{◌∙◌, ap, arith, refl, sym}
 use Rattle.std.proofs.lemmas.Result.{err_from_is_err_and}
-use Rattle.st_names.specs.Tree.{Node, overwritten}
+use Rattle.st_model.specs.Tree.{Node, bytes_after_write}
 use Rattle.st_tree.specs.Objects.{IsNumber}
 use Rattle.st_tree.proofs.Kept.{kinds_kept, kinds_same}
 use Rattle.st_tree.proofs.Trees.{made_within}
@@ -24,10 +24,10 @@ returns-in_err-write-clause-err c =
     rw p.1 (updated_same c.self.inside.objects.items c.self.invariant c.args.self.now c.self.view_is c.args.obj c.index_mut.result.now c.write.new.self c.index_mut.ensures.value c.write.ensures.entries c.in_err-write.ensures.err).view
 
 pub invariant_of-self-2 : goal.invariant_of-self-2
-invariant_of-self-2 c = (content_set c.self.inside.objects.items c.self.invariant c.args.self.now c.self.view_is c.args.obj c.index_mut.result.now c.index_mut.ensures.value c.requires.0 c.write.new.self (λ content. overwritten content c.args.at c.args.bytes.now) c.in_ok-write.ensures.ok c.write.ensures.entries).whole
+invariant_of-self-2 c = (content_set c.self.inside.objects.items c.self.invariant c.args.self.now c.self.view_is c.args.obj c.index_mut.result.now c.index_mut.ensures.value c.requires.0 c.write.new.self (λ content. bytes_after_write content c.args.at c.args.bytes.now) c.in_ok-write.ensures.ok c.write.ensures.entries).whole
 
 pub returns-clause-ok : goal.returns-clause-ok
-returns-clause-ok c = (content_set c.self.inside.objects.items c.self.invariant c.args.self.now c.self.view_is c.args.obj c.index_mut.result.now c.index_mut.ensures.value c.requires.0 c.write.new.self (λ content. overwritten content c.args.at c.args.bytes.now) c.in_ok-write.ensures.ok c.write.ensures.entries).view
+returns-clause-ok c = (content_set c.self.inside.objects.items c.self.invariant c.args.self.now c.self.view_is c.args.obj c.index_mut.result.now c.index_mut.ensures.value c.requires.0 c.write.new.self (λ content. bytes_after_write content c.args.at c.args.bytes.now) c.in_ok-write.ensures.ok c.write.ensures.entries).view
 
 pub returns-in_err-write-clause-kinds : goal.returns-in_err-write-clause-kinds
 returns-in_err-write-clause-kinds c = kinds_same _ _ (updated_same c.self.inside.objects.items c.self.invariant c.args.self.now c.self.view_is c.args.obj c.index_mut.result.now c.write.new.self c.index_mut.ensures.value c.write.ensures.entries c.in_err-write.ensures.err).view

@@ -1,7 +1,7 @@
 use Rattle.std.proofs.Common.{◌∙◌, Bool, ap, sym}
 use Rattle.std.specs.Prelude.{◌&&◌, nat_lt, length}
 use Rattle.st_tree.proofs.Reasons.{leads_on_by}
-use Rattle.st_tree.proofs.places.leads_on.Goals as goal
+use Rattle.st_tree.proofs.places.is_proper_prefix.Goals as goal
 
 pub returns-then-begins : goal.returns-then-begins
 returns-then-begins c =
