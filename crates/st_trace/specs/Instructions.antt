@@ -10,7 +10,7 @@ abbrev pub no_registers : List ℕ
 no_registers = replicate 6 0
 
 -- an instruction makes this call with these registers
-abbrev pub Makes : Instr → SysCall → List ℕ → Type 0
-Makes (Store place word) made regs = ⊥
-Makes (Call own own_regs) made regs = (made ≡ own) × (regs ≡ own_regs)
-Makes (Fork child) made regs = (made ≡ call.Fork) × (regs ≡ no_registers)
+abbrev pub IsCallOf : Instr → SysCall → List ℕ → Type 0
+IsCallOf (Store place word) made regs = ⊥
+IsCallOf (Call own own_regs) made regs = (made ≡ own) × (regs ≡ own_regs)
+IsCallOf (Fork child) made regs = (made ≡ call.Fork) × (regs ≡ no_registers)

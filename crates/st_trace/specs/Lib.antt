@@ -1,10 +1,1 @@
-pub mod Changes
-pub mod Effect
 pub mod Instructions
-pub mod Names
-pub mod Opens
-pub mod Permission
-pub mod Processes
-pub mod Progress
-pub mod Served
-pub mod System

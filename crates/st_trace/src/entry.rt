@@ -1,5 +1,6 @@
 use st_base::{Errno, Ids, Obj, Pid, Seq, Sequence, Space, Text, Tid, Worker};
 use st_calls::{ArgText, Snapshot, SysCall, Verdict};
+use st_model::NewKind;
 use st_names::{AbsName, SeenText};
 
 /// Who moves next.
@@ -138,7 +139,8 @@ pub enum Change {
     Made {
         name: AbsName,
         obj: Obj,
-        kind: MadeKind,
+        /// What is made; a file is empty.
+        kind: NewKind,
         uid: u32,
         gid: u32,
         mode: u32,
@@ -205,12 +207,4 @@ pub enum Change {
     },
     /// The policy of this binary applies to the process.
     Policy(Text),
-}
-
-/// What kind of object a call makes; a link with its target.
-#[derive(Debug, Drop)]
-pub enum MadeKind {
-    Dir,
-    File,
-    Link(Text),
 }

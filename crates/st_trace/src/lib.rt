@@ -4,5 +4,6 @@
 pub mod entry;
 pub mod start;
 
-pub use entry::{CallResult, Cause, Change, Choice, Entry, MadeKind, Way};
-pub use start::{GroupRow, Instr, NewRow, ProcessRow, RowKind, Start, ThreadRow, TreeRow, UserRow};
+pub use entry::{CallResult, Cause, Change, Choice, Entry, Way};
+pub use st_model::{NewKind, NewNode};
+pub use start::{GroupRow, Instr, ProcessRow, Start, ThreadRow, TreeRow, UserRow};

@@ -1,5 +1,6 @@
 use st_base::{Pid, Sequence, Text, Tid};
 use st_calls::SysCall;
+use st_model::NewNode;
 use st_names::AbsName;
 
 /// Where a run starts: the rows of a script, in order.
@@ -33,26 +34,7 @@ pub struct GroupRow {
 #[derive(Debug, Drop)]
 pub struct TreeRow {
     pub name: AbsName,
-    pub new: NewRow,
-}
-
-/// What a tree row makes.
-#[derive(Debug, Drop)]
-pub struct NewRow {
-    pub kind: RowKind,
-    pub uid: u32,
-    pub gid: u32,
-    pub mode: u32,
-}
-
-/// What kind of object a tree row makes.
-#[derive(Debug, Drop)]
-pub enum RowKind {
-    Dir,
-    /// A file, with its content.
-    File(Text),
-    /// A link, with its target.
-    Link(Text),
+    pub new: NewNode,
 }
 
 /// A process that is there from the start; its number is the row's place, from 1.

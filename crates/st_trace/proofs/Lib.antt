@@ -1,5 +1,0 @@
-pub mod DescriptorRows
-pub mod Example
-pub mod NameRows
-pub mod ProcessRows
-pub mod ProgressRows
