@@ -1,0 +1,9 @@
+pub mod Changes
+pub mod Descriptors
+pub mod Effect
+pub mod NameTests
+pub mod Names
+pub mod Processes
+pub mod Progress
+pub mod Sockets
+pub mod System
