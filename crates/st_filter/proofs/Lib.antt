@@ -1,2 +1,5 @@
+pub mod Entries
 pub mod Paths
 pub mod Substrings
+pub mod Counts
+pub mod FirstAnswers

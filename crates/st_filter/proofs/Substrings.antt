@@ -1,7 +1,8 @@
+-- Where a text stands in an argument.
 use Rattle.std.proofs.Common.{◌≡◌, ℕ, ◌+◌, ◌<◌, Bool, false, ◌||◌, List, ◌∷◌, length, drop, get_or, nat_eq, ap, sym, ◌∙◌}
 use Rattle.std.specs.List.{starts_with}
 use Rattle.std.proofs.lemmas.List.{drop_more}
-use Rattle.st_policy.specs.Judging.{stands_in}
+use Rattle.st_filter.specs.Judging.{stands_in}
 
 begins_no : (text : List ℕ) (b : ℕ) (bs : List ℕ) → starts_with nat_eq (b ∷ bs) text ≡ false → stands_in text bs ≡ stands_in text (b ∷ bs)
 begins_no text b bs refused = sym (ap (λ (begins : Bool). begins || stands_in text bs) refused)

@@ -1,9 +1,9 @@
-ghost use Rattle.std.specs.Prelude.{◌≡◌};
-ghost use Rattle.st_policy.specs.Fast.{fast, fast_answer};
-ghost use Rattle.st_policy.specs.Policies.{filters_of};
+ghost use Rattle.std.specs.Prelude.{◌≡◌, ◌++◌, option_map, slice_get};
+ghost use Rattle.st_filter.specs.Fast.{fast, fast_answer};
+ghost use Rattle.st_filter.specs.Policies.{filters_of};
 
+use crate::filter::{Action, Expr, Filter, Policy};
 use st_calls::{FastAnswer, Rule};
-use st_policy::{Action, Expr, Filter, Policy};
 
 // What the kernel answers by itself where this filter is the first of its rule.
 fn fast_answer(filter: &Filter) -> FastAnswer
@@ -22,15 +22,26 @@ fn fast_answer(filter: &Filter) -> FastAnswer
     }
 }
 
-/// What the kernel answers by itself for a rule under a policy, as in systrace(4): what its first filter of that rule says, where
-/// that is a plain permit without `as`, `log` and `if`, or a plain denial without `log` and `if`; else it asks.
-pub fn fast(policy: &Policy, rule: Rule) -> FastAnswer
-    ensures { result ≡ fast (filters_of rule policy.now) }
+// The answer by the first filter of a rule, none where no filter is for it.
+fn first_answer(policy: &Policy, rule: Rule) -> Option<FastAnswer>
+    ensures { result ≡ option_map fast_answer (slice_get (filters_of rule policy.now) 0) }
 {
     for filter in policy.as_slice() {
         if filter.is_for(rule) {
-            return fast_answer(filter);
+            return Some(fast_answer(filter));
         }
     }
-    FastAnswer::Ask
+    None
+}
+
+/// What the kernel answers by itself for a rule under the filters that were read for a binary and, behind them, those of the session,
+/// as in systrace(4): what the first filter of that rule says, where that is a plain permit without `as`, `log` and `if`, or a plain
+/// denial without `log` and `if`; else it asks.
+#[tactic(auto, using(crate::proofs::FirstAnswers::fast_of_both))]
+pub fn fast(policy: &Policy, session: &Policy, rule: Rule) -> FastAnswer
+    ensures { result ≡ fast (filters_of rule policy.now ++ filters_of rule session.now) }
+{
+    first_answer(policy, rule)
+        .or(first_answer(session, rule))
+        .unwrap_or(FastAnswer::Ask)
 }

@@ -1,8 +1,8 @@
 ghost use Rattle.std.specs.Prelude.{◌≡◌};
-ghost use Rattle.st_policy.specs.Judging.{stands_in, leads_to, is_on_way, compares, compares_ids};
+ghost use Rattle.st_filter.specs.Judging.{stands_in, is_path_prefix, is_on_way, compares, compares_ids};
 
+use crate::filter::{Cmp, Op};
 use st_glob::glob;
-use st_policy::{Cmp, Op};
 
 // Whether a text stands somewhere in an argument.
 fn stands_in(text: &[u8], argument: &[u8]) -> bool
@@ -17,8 +17,8 @@ fn stands_in(text: &[u8], argument: &[u8]) -> bool
 }
 
 // Whether a path begins with an argument, behind which it ends or goes on with a slash.
-fn leads_to(argument: &[u8], path: &[u8]) -> bool
-    ensures { result ≡ leads_to argument.now path.now }
+fn is_path_prefix(argument: &[u8], path: &[u8]) -> bool
+    ensures { result ≡ is_path_prefix argument.now path.now }
 {
     let mut rest = path;
     for byte in argument {
@@ -42,7 +42,7 @@ fn leads_to(argument: &[u8], path: &[u8]) -> bool
 fn is_on_way(argument: &[u8], path: &[u8]) -> bool
     ensures { result ≡ is_on_way argument.now path.now }
 {
-    leads_to(argument, path) || (argument == b"/".as_slice() && path.starts_with(b"/"))
+    is_path_prefix(argument, path) || (argument == b"/".as_slice() && path.starts_with(b"/"))
 }
 
 /// Whether an argument compares so with the text of a test.

@@ -1,17 +1,17 @@
 ghost use Rattle.std.specs.Prelude.{◌≡◌, ◌<◌, ◌^◌, length};
 ghost use Rattle.std.specs.List.{list_any};
-ghost use Rattle.st_policy.specs.Formula.{formula};
-ghost use Rattle.st_policy.specs.Judging.{passes, is_true, id_of, meets, holds, granted, verdict_by, verdict};
-ghost use Rattle.st_policy.specs.Policies.{filters_of};
+ghost use Rattle.st_filter.specs.Formula.{formula};
+ghost use Rattle.st_filter.specs.Judging.{test_holds_of, is_true, id_of, ids_match, holds, granted, verdict_by, verdict};
+ghost use Rattle.st_filter.specs.Policies.{filters_of};
 
 use crate::compare::{compares, compares_ids};
+use crate::filter::{Action, Expr, Filter, Grant, Op, Policy, Predicate, Who};
 use st_base::Ids;
 use st_calls::{ArgText, Snapshot, Verdict};
-use st_policy::{Action, Expr, Filter, Grant, Op, Policy, Predicate, Who};
 
 // Whether an argument is the one of a label and index, and compares so with a text.
-fn passes(label: &[u8], index: u32, op: Op, text: &[u8], argument: &ArgText) -> bool
-    ensures { result ≡ passes label.now index op text.now argument.now }
+fn test_holds_of(label: &[u8], index: u32, op: Op, text: &[u8], argument: &ArgText) -> bool
+    ensures { result ≡ test_holds_of label.now index op text.now argument.now }
 {
     argument.label.word() == label
         && argument.index == index
@@ -20,11 +20,11 @@ fn passes(label: &[u8], index: u32, op: Op, text: &[u8], argument: &ArgText) -> 
 
 // Whether one of the arguments passes.
 fn one_passes(label: &[u8], index: u32, op: Op, text: &[u8], arguments: &[ArgText]) -> bool
-    ensures { result ≡ list_any (passes label.now index op text.now) arguments.now }
+    ensures { result ≡ list_any (test_holds_of label.now index op text.now) arguments.now }
 {
     arguments
         .iter()
-        .any(|argument| passes(label, index, op, text, argument))
+        .any(|argument| test_holds_of(label, index, op, text, argument))
 }
 
 // Whether an expression is true of a call's arguments.
@@ -55,8 +55,8 @@ fn id_of(who: Who, ids: Ids) -> u32
     }
 }
 
-fn meets(predicate: Option<Predicate>, ids: Ids) -> bool
-    ensures { result ≡ meets predicate ids }
+fn ids_match(predicate: Option<Predicate>, ids: Ids) -> bool
+    ensures { result ≡ ids_match predicate ids }
 {
     match predicate {
         None => true,
@@ -69,7 +69,7 @@ fn meets(predicate: Option<Predicate>, ids: Ids) -> bool
 pub fn holds(filter: &Filter, copies: &Snapshot) -> bool
     ensures { result ≡ holds filter.now copies.now }
 {
-    is_true(filter.expr(), copies.parts.as_slice()) && meets(filter.predicate(), copies.ids)
+    is_true(filter.expr(), copies.parts.as_slice()) && ids_match(filter.predicate(), copies.ids)
 }
 
 // The ids of a call under a grant.

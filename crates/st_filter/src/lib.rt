@@ -1,12 +1,17 @@
-//! Judging: whether a filter holds of a call, what the first that holds says, and what the kernel answers by itself.
+//! Filters, and what they decide: what a filter is, sets of policies, whether a filter holds of a call, what the first that holds says, and what
+//! the kernel answers by itself. How their text is read and printed stands above this crate.
 #![tactic(auto)]
 
 mod answer;
 mod compare;
+pub mod filter;
 mod judging;
+pub mod set;
 
 pub use answer::fast;
+pub use filter::{Action, Cmp, Expr, Filter, FilterName, Grant, Op, Policy, Predicate, Who};
 pub use judging::{decide, holds};
+pub use set::{BinaryPolicy, MOST_FILTERS, PolicySet, Reply};
 
 #[cfg(test)]
 mod tests;

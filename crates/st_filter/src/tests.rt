@@ -1,197 +1,218 @@
-use crate::{decide, fast, holds};
+use crate::{
+    Action, Cmp, Expr, Filter, FilterName, Grant, Op, Policy, PolicySet, Predicate, Who, decide,
+    fast, holds,
+};
 use st_base::{Errno, Ids, Sequence, Text};
 use st_calls::{ArgText, FastAnswer, Label, Rule, Snapshot, SysCall, Verdict};
-use st_policy::{Env, NamedId, PolicyFault, PolicySet, read_policies};
 use std::alloc::{AllocError, Global};
 use std::test::Fail;
 
-const HEADER: &[u8] = b"Policy: /bin/a, Emulation: native\n";
+const IDS: Ids = Ids {
+    ruid: 1,
+    euid: 30,
+    rgid: 2,
+    egid: 40,
+};
 
-// The group 8 is called `wheel`; ids may be granted.
-fn env(alloc: Global) -> Result<Env, AllocError> {
-    let mut env = Env::new(alloc);
-    env.elevate = true;
-    let name = Text::of(alloc, b"wheel")?;
-    env.groups.push(NamedId { name, id: 8 })?;
-    Ok(env)
+// The effective user and group are granted.
+fn granted(euid: u32, egid: u32) -> Ids {
+    Ids { euid, egid, ..IDS }
 }
 
-// The policy of `/bin/a` with these rows.
-fn policies(alloc: Global, rows: &[u8]) -> Result<PolicySet, PolicyFault> {
-    let mut text = Text::of(alloc, HEADER)?;
-    text.append(rows)?;
-    let mut set = PolicySet::new(alloc);
-    if text.len() < 10_000 {
-        read_policies(alloc, text.bytes(), &env(alloc)?, &mut set)?;
+// A held call with these names, under a rule; no filter looks at the call itself.
+fn held(alloc: Global, rule: Rule, names: &[&[u8]]) -> Result<Snapshot, AllocError> {
+    let mut parts = Sequence::new(alloc);
+    let mut index = 0u32;
+    for name in names {
+        parts.push(ArgText {
+            label: Label::Filename,
+            index,
+            text: Text::of(alloc, name)?,
+        })?;
+        index = index.wrapping_add(1);
     }
-    Ok(set)
-}
-
-fn ids() -> Ids {
-    Ids {
-        ruid: 1,
-        euid: 30,
-        rgid: 2,
-        egid: 40,
-    }
-}
-
-fn part(alloc: Global, label: Label, index: u32, text: &[u8]) -> Result<ArgText, AllocError> {
-    Ok(ArgText {
-        label,
-        index,
-        text: Text::of(alloc, text)?,
-    })
-}
-
-fn snapshot(
-    alloc: Global,
-    rule: Rule,
-    call: SysCall,
-    parts: Sequence<ArgText>,
-) -> Result<Snapshot, AllocError> {
     Ok(Snapshot {
         seq: 1,
         pid: 1,
-        ids: ids(),
+        ids: IDS,
         policy: Text::of(alloc, b"/bin/a")?,
         rule,
-        call,
+        call: SysCall::Rename,
         regs: [0; 6],
         parts,
     })
 }
 
-// A held reading of this name.
 fn reading(alloc: Global, name: &[u8]) -> Result<Snapshot, AllocError> {
-    let mut parts = Sequence::new(alloc);
-    parts.push(part(alloc, Label::Filename, 0, name)?)?;
-    snapshot(alloc, Rule::FsRead, SysCall::Open, parts)
+    held(alloc, Rule::FsRead, &[name])
 }
 
-// A held renaming of one name to another.
-fn renaming(alloc: Global, old: &[u8], new: &[u8]) -> Result<Snapshot, AllocError> {
-    let mut parts = Sequence::new(alloc);
-    parts.push(part(alloc, Label::Filename, 0, old)?)?;
-    parts.push(part(alloc, Label::Filename, 1, new)?)?;
-    snapshot(alloc, Rule::Call(SysCall::Rename), SysCall::Rename, parts)
+// A test of the name of this index.
+fn test_at(alloc: Global, index: u32, op: Op, text: &[u8]) -> Result<Expr, AllocError> {
+    Ok(Expr::Test {
+        label: Text::of(alloc, b"filename")?,
+        index,
+        op,
+        text: Text::of(alloc, text)?,
+    })
 }
 
-// A held binding to this address.
-fn binding(alloc: Global, address: &[u8]) -> Result<Snapshot, AllocError> {
-    let mut parts = Sequence::new(alloc);
-    parts.push(part(alloc, Label::SockAddr, 0, address)?)?;
-    snapshot(alloc, Rule::Call(SysCall::Bind), SysCall::Bind, parts)
+fn test(alloc: Global, op: Op, text: &[u8]) -> Result<Expr, AllocError> {
+    test_at(alloc, 0, op, text)
 }
 
-// Whether the first filter of a policy holds of a call.
-fn first_holds(set: &PolicySet, copies: &Snapshot) -> bool {
-    match set.get(b"/bin/a").as_slice() {
-        [filter, ..] => holds(filter, copies),
-        [] => false,
+fn negated(alloc: Global, operand: Expr) -> Result<Expr, AllocError> {
+    Ok(Expr::Not(Box::new(alloc, operand)?))
+}
+
+// What a filter has besides its expression.
+#[derive(Clone, Copy)]
+struct Row {
+    rule: Rule,
+    action: Action,
+    grant: Option<Grant>,
+    log: bool,
+    predicate: Option<Predicate>,
+}
+
+const PERMIT: Row = Row {
+    rule: Rule::FsRead,
+    action: Action::Permit,
+    grant: None,
+    log: false,
+    predicate: None,
+};
+
+const DENY: Row = Row {
+    action: Action::Deny(Errno::EPERM),
+    ..PERMIT
+};
+
+const ASK: Row = Row {
+    action: Action::Ask,
+    ..PERMIT
+};
+
+const USER: Predicate = Predicate {
+    who: Who::User,
+    cmp: Cmp::Same,
+    id: 30,
+};
+
+// The grant of the user 5.
+const FIVE: Grant = Grant {
+    user: Some(5),
+    group: None,
+};
+
+fn filter(row: Row, expr: Expr) -> Filter {
+    Filter::new(
+        FilterName::Rule(row.rule),
+        expr,
+        row.action,
+        row.grant,
+        row.log,
+        row.predicate,
+    )
+}
+
+// Filters of every call of their rules.
+fn policy(alloc: Global, rows: &[Row]) -> Result<Policy, AllocError> {
+    let mut policy = Policy::new(alloc);
+    for row in rows {
+        policy.push(filter(*row, Expr::True))?;
     }
-}
-
-fn holds_of_reading(alloc: Global, row: &[u8], name: &[u8]) -> Result<bool, PolicyFault> {
-    Ok(first_holds(&policies(alloc, row)?, &reading(alloc, name)?))
-}
-
-// Whether a test of the name holds of a reading of this name.
-fn test_holds(alloc: Global, test: &[u8], name: &[u8]) -> Result<bool, PolicyFault> {
-    let mut row = Text::of(alloc, b"native-fsread: filename ")?;
-    row.append(test)?;
-    row.append(b" then permit")?;
-    holds_of_reading(alloc, row.bytes(), name)
+    Ok(policy)
 }
 
 #[test]
-fn bytes_are_the_same_or_stand_within(rt: HostRuntime) -> Result<(), Fail> {
-    let cases: [(&[u8], &[u8], bool); 9] = [
-        (b"eq \"/etc\"", b"/etc", true),
-        (b"eq \"/etc\"", b"/etc/a", false),
-        (b"neq \"/etc\"", b"/etc/a", true),
-        (b"neq \"/etc\"", b"/etc", false),
-        (b"sub \".ht\"", b"/www/.htaccess", true),
-        (b"sub \".ht\"", b"/www/h.t", false),
-        (b"sub \"\"", b"/", true),
-        (b"nsub \".ht\"", b"/www/.htaccess", false),
-        (b"nsub \".ht\"", b"/www/h.t", true),
+fn arguments_compare_with_texts(rt: HostRuntime) -> Result<(), Fail> {
+    let cases: [(Op, &[u8], &[u8], bool); 18] = [
+        (Op::Eq, b"/etc", b"/etc", true),
+        (Op::Eq, b"/etc", b"/etc/a", false),
+        (Op::Neq, b"/etc", b"/etc/a", true),
+        (Op::Neq, b"/etc", b"/etc", false),
+        (Op::Sub, b".ht", b"/www/.htaccess", true),
+        (Op::Sub, b".ht", b"/www/h.t", false),
+        (Op::Sub, b"", b"/", true),
+        (Op::Nsub, b".ht", b"/www/.htaccess", false),
+        (Op::Nsub, b".ht", b"/www/h.t", true),
+        (Op::Match, b"/usr/*", b"/usr/lib/a", true),
+        (Op::Match, b"/usr/*", b"/usr", false),
+        (Op::Match, b"/[a-c]?", b"/bx/y", true),
+        (Op::Inpath, b"/var/www", b"/", true),
+        (Op::Inpath, b"/var/www", b"/var", true),
+        (Op::Inpath, b"/var/www", b"/var/www", true),
+        (Op::Inpath, b"/var/www", b"/va", false),
+        (Op::Inpath, b"/var/www", b"/var/www/a", false),
+        (Op::Inpath, b"var", b"/", false),
     ];
-    for (test, name, answer) in cases {
-        assert_eq!(rt; test_holds(rt.alloc(), test, name), Ok(answer));
-    }
-    Ok(())
-}
-
-#[test]
-fn names_match_or_lead_to_a_path(rt: HostRuntime) -> Result<(), Fail> {
-    let cases: [(&[u8], &[u8], bool); 9] = [
-        (b"match \"/usr/*\"", b"/usr/lib/a", true),
-        (b"match \"/usr/*\"", b"/usr", false),
-        (b"match \"/[a-c]?\"", b"/bx/y", true),
-        (b"inpath \"/var/www\"", b"/", true),
-        (b"inpath \"/var/www\"", b"/var", true),
-        (b"inpath \"/var/www\"", b"/var/www", true),
-        (b"inpath \"/var/www\"", b"/va", false),
-        (b"inpath \"/var/www\"", b"/var/www/a", false),
-        (b"inpath \"var\"", b"/", false),
-    ];
-    for (test, name, answer) in cases {
-        assert_eq!(rt; test_holds(rt.alloc(), test, name), Ok(answer));
+    for (op, text, name, answer) in cases {
+        let filter = filter(PERMIT, test(rt.alloc(), op, text)?);
+        assert_eq!(rt; holds(&filter, &reading(rt.alloc(), name)?), answer);
     }
     Ok(())
 }
 
 #[test]
 fn an_index_names_one_argument(rt: HostRuntime) -> Result<(), Fail> {
-    let cases: [(&[u8], bool); 4] = [
-        (b"native-rename: filename eq \"/old\" then permit", true),
-        (b"native-rename: filename eq \"/new\" then permit", false),
-        (b"native-rename: filename[1] eq \"/new\" then permit", true),
-        (b"native-rename: filename[1] eq \"/old\" then permit", false),
+    let cases: [(u32, &[u8], bool); 4] = [
+        (0, b"/old", true),
+        (0, b"/new", false),
+        (1, b"/new", true),
+        (1, b"/old", false),
     ];
-    let copies = renaming(rt.alloc(), b"/old", b"/new")?;
-    for (row, answer) in cases {
-        let set = policies(rt.alloc(), row)?;
-        assert_eq!(rt; first_holds(&set, &copies), answer);
+    let copies = held(rt.alloc(), Rule::Call(SysCall::Rename), &[b"/old", b"/new"])?;
+    for (index, text, answer) in cases {
+        let filter = filter(PERMIT, test_at(rt.alloc(), index, Op::Eq, text)?);
+        assert_eq!(rt; holds(&filter, &copies), answer);
     }
     Ok(())
 }
 
 #[test]
 fn a_test_of_what_is_not_there_does_not_hold(rt: HostRuntime) -> Result<(), Fail> {
-    let cases: [(&[u8], bool); 4] = [
-        (b"native-bind: sockaddr neq \"x\" then permit", false),
-        (b"native-bind: not sockaddr neq \"x\" then permit", true),
-        (b"native-bind: sockaddr nsub \"x\" then permit", false),
-        (b"native-bind: not sockaddr match \"*\" then permit", true),
-    ];
-    let parts = Sequence::new(rt.alloc());
-    let copies = snapshot(rt.alloc(), Rule::Call(SysCall::Bind), SysCall::Bind, parts)?;
-    for (row, answer) in cases {
-        let set = policies(rt.alloc(), row)?;
-        assert_eq!(rt; first_holds(&set, &copies), answer);
+    let copies = held(rt.alloc(), Rule::Call(SysCall::Rename), &[])?;
+    let cases: [(Op, &[u8]); 3] = [(Op::Neq, b"x"), (Op::Nsub, b"x"), (Op::Match, b"*")];
+    for (op, text) in cases {
+        let test = test(rt.alloc(), op, text)?;
+        let denial = negated(rt.alloc(), test.copy(rt.alloc())?)?;
+        assert!(rt; !holds(&filter(PERMIT, test), &copies));
+        assert!(rt; holds(&filter(PERMIT, denial), &copies));
+    }
+    Ok(())
+}
+
+// Names, and whether both of `a` and `b` stand in them, and whether one does.
+const JOINED: [(&[u8], bool, bool); 4] = [
+    (b"/ab", true, true),
+    (b"/a", false, true),
+    (b"/b", false, true),
+    (b"/c", false, false),
+];
+
+fn boxed_test(alloc: Global, text: &[u8]) -> Result<Box<Expr>, AllocError> {
+    Ok(Box::new(alloc, test(alloc, Op::Sub, text)?)?)
+}
+
+#[test]
+fn and_needs_both(rt: HostRuntime) -> Result<(), Fail> {
+    let left = boxed_test(rt.alloc(), b"a")?;
+    let right = boxed_test(rt.alloc(), b"b")?;
+    let filter = filter(PERMIT, Expr::And(left, right));
+    for (name, both, _) in JOINED {
+        assert_eq!(rt; holds(&filter, &reading(rt.alloc(), name)?), both);
     }
     Ok(())
 }
 
 #[test]
-fn and_binds_closer_than_or(rt: HostRuntime) -> Result<(), Fail> {
-    let cases: [(&[u8], bool); 5] = [
-        (
-            b"native-fsread: true or not true and not true then permit",
-            true,
-        ),
-        (
-            b"native-fsread: (true or not true) and not true then permit",
-            false,
-        ),
-        (b"native-fsread: not true or true then permit", true),
-        (b"native-fsread: not (true or true) then permit", false),
-        (b"native-fsread: true and true then permit", true),
-    ];
-    for (row, answer) in cases {
-        assert_eq!(rt; holds_of_reading(rt.alloc(), row, b"/a"), Ok(answer));
+fn or_needs_one(rt: HostRuntime) -> Result<(), Fail> {
+    let left = boxed_test(rt.alloc(), b"a")?;
+    let right = boxed_test(rt.alloc(), b"b")?;
+    let filter = filter(PERMIT, Expr::Or(left, right));
+    for (name, _, one) in JOINED {
+        assert_eq!(rt; holds(&filter, &reading(rt.alloc(), name)?), one);
     }
     Ok(())
 }
@@ -199,170 +220,217 @@ fn and_binds_closer_than_or(rt: HostRuntime) -> Result<(), Fail> {
 // The effective user is 30 and the effective group 40; the real ones are 1 and 2.
 #[test]
 fn predicates_look_at_effective_ids(rt: HostRuntime) -> Result<(), Fail> {
-    let cases: [(&[u8], bool); 10] = [
-        (b"native-fsread: permit, if user = 30", true),
-        (b"native-fsread: permit, if user = 1", false),
-        (b"native-fsread: permit, if user != 30", false),
-        (b"native-fsread: permit, if user != 1", true),
-        (b"native-fsread: permit, if user < 31", true),
-        (b"native-fsread: permit, if user < 30", false),
-        (b"native-fsread: permit, if user > 29", true),
-        (b"native-fsread: permit, if user > 30", false),
-        (b"native-fsread: permit, if group = 40", true),
-        (b"native-fsread: permit, if group = 30", false),
+    let cases = [
+        (Who::User, Cmp::Same, 30, true),
+        (Who::User, Cmp::Same, 1, false),
+        (Who::User, Cmp::Other, 30, false),
+        (Who::User, Cmp::Other, 1, true),
+        (Who::User, Cmp::Below, 31, true),
+        (Who::User, Cmp::Below, 30, false),
+        (Who::User, Cmp::Above, 29, true),
+        (Who::User, Cmp::Above, 30, false),
+        (Who::Group, Cmp::Same, 40, true),
+        (Who::Group, Cmp::Same, 30, false),
     ];
-    for (row, answer) in cases {
-        assert_eq!(rt; holds_of_reading(rt.alloc(), row, b"/a"), Ok(answer));
+    let copies = reading(rt.alloc(), b"/a")?;
+    for (who, cmp, id, answer) in cases {
+        let predicate = Some(Predicate { who, cmp, id });
+        let filter = filter(
+            Row {
+                predicate,
+                ..PERMIT
+            },
+            Expr::True,
+        );
+        assert_eq!(rt; holds(&filter, &copies), answer);
     }
     Ok(())
-}
-
-// The ids of the call, of which the effective ones may be granted.
-fn granted(euid: u32, egid: u32) -> Ids {
-    Ids {
-        euid,
-        egid,
-        ..ids()
-    }
-}
-
-fn verdict(alloc: Global, rows: &[u8], copies: &Snapshot) -> Result<Verdict, PolicyFault> {
-    let set = policies(alloc, rows)?;
-    Ok(decide(set.get(b"/bin/a"), copies))
 }
 
 #[test]
 fn a_permit_grants_the_ids_that_it_names(rt: HostRuntime) -> Result<(), Fail> {
-    let cases: [(&[u8], Ids); 5] = [
-        (b"native-bind: permit log", ids()),
-        (b"native-bind: permit as 5", granted(5, 40)),
-        (b"native-bind: permit as 5:6", granted(5, 6)),
-        (b"native-bind: permit as 5:wheel", granted(5, 8)),
-        (b"native-bind: permit as :6", granted(30, 6)),
+    let cases = [
+        (None, None, IDS),
+        (Some(5), None, granted(5, 40)),
+        (Some(5), Some(6), granted(5, 6)),
+        (None, Some(6), granted(30, 6)),
     ];
-    let copies = binding(rt.alloc(), b"inet-[0.0.0.0]:80")?;
-    for (rows, ids) in cases {
-        assert_eq!(rt;
-            verdict(rt.alloc(), rows, &copies),
-            Ok(Verdict::Permit(1, ids))
-        );
+    let copies = reading(rt.alloc(), b"/a")?;
+    for (user, group, ids) in cases {
+        let grant = Some(Grant { user, group });
+        let mut policy = Policy::new(rt.alloc());
+        policy.push(filter(Row { grant, ..PERMIT }, Expr::True))?;
+        assert_eq!(rt; decide(&policy, &copies), Verdict::Permit(1, ids));
     }
     Ok(())
 }
 
-const DENY_FIRST: &[u8] = b"native-getpid: permit
-native-fsread: filename match \"/etc/*\" then deny
-native-fsread: filename eq \"/etc/passwd\" then permit
-";
-
-const PERMIT_FIRST: &[u8] = b"native-fsread: filename eq \"/etc/passwd\" then permit
-native-getpid: permit
-native-fsread: filename match \"/etc/*\" then deny[eacces]
-native-fswrite: permit
-";
-
+// Filters of other rules have no numbers, and one that asks decides nothing.
 #[test]
 fn the_first_filter_that_holds_decides(rt: HostRuntime) -> Result<(), Fail> {
     let alloc = rt.alloc();
-    let passwd = reading(alloc, b"/etc/passwd")?;
-    let hosts = reading(alloc, b"/etc/hosts")?;
-    let other = reading(alloc, b"/tmp/a")?;
-    assert_eq!(rt;
-        verdict(alloc, DENY_FIRST, &passwd),
-        Ok(Verdict::Refuse(1, Errno::EPERM))
-    );
-    assert_eq!(rt;
-        verdict(alloc, PERMIT_FIRST, &passwd),
-        Ok(Verdict::Permit(1, ids()))
-    );
-    assert_eq!(rt;
-        verdict(alloc, PERMIT_FIRST, &hosts),
-        Ok(Verdict::Refuse(2, Errno::EACCES))
-    );
-    assert_eq!(rt;
-        verdict(alloc, PERMIT_FIRST, &other),
-        Ok(Verdict::Unmatched)
-    );
+    let deny = Row {
+        action: Action::Deny(Errno::EACCES),
+        ..PERMIT
+    };
+    let other = Row {
+        rule: Rule::FsWrite,
+        ..PERMIT
+    };
+    let mut policy = Policy::new(alloc);
+    policy.push(filter(other, Expr::True))?;
+    policy.push(filter(PERMIT, test(alloc, Op::Eq, b"/etc/passwd")?))?;
+    policy.push(filter(deny, test(alloc, Op::Match, b"/etc/*")?))?;
+    policy.push(filter(ASK, test(alloc, Op::Eq, b"/var")?))?;
+    policy.push(filter(PERMIT, test(alloc, Op::Inpath, b"/var/www")?))?;
+    let cases: [(&[u8], Verdict); 5] = [
+        (b"/etc/passwd", Verdict::Permit(1, IDS)),
+        (b"/etc/hosts", Verdict::Refuse(2, Errno::EACCES)),
+        (b"/var", Verdict::Unmatched),
+        (b"/", Verdict::Permit(4, IDS)),
+        (b"/tmp/a", Verdict::Unmatched),
+    ];
+    for (name, verdict) in cases {
+        assert_eq!(rt; decide(&policy, &reading(alloc, name)?), verdict);
+    }
     Ok(())
-}
-
-const ELEVATED: &[u8] = b"native-socket: permit
-native-bind: sockaddr eq \"inet-[0.0.0.0]:80\" then permit as 0
-native-bind: true then permit
-";
-
-#[test]
-fn one_address_is_bound_under_granted_ids(rt: HostRuntime) -> Result<(), Fail> {
-    let alloc = rt.alloc();
-    let low = binding(alloc, b"inet-[0.0.0.0]:80")?;
-    let next = binding(alloc, b"inet-[0.0.0.0]:81")?;
-    assert_eq!(rt;
-        verdict(alloc, ELEVATED, &low),
-        Ok(Verdict::Permit(1, granted(0, 40)))
-    );
-    assert_eq!(rt;
-        verdict(alloc, ELEVATED, &next),
-        Ok(Verdict::Permit(2, ids()))
-    );
-    Ok(())
-}
-
-#[test]
-fn a_filter_that_asks_decides_nothing(rt: HostRuntime) -> Result<(), Fail> {
-    let copies = reading(rt.alloc(), b"/a")?;
-    let rows = b"native-fsread: ask\nnative-fsread: permit\n";
-    assert_eq!(rt; verdict(rt.alloc(), rows, &copies), Ok(Verdict::Unmatched));
-    Ok(())
-}
-
-fn fast_fsread(alloc: Global, rows: &[u8]) -> Result<FastAnswer, PolicyFault> {
-    let set = policies(alloc, rows)?;
-    Ok(fast(set.get(b"/bin/a"), Rule::FsRead))
 }
 
 #[test]
 fn plain_filters_are_fast(rt: HostRuntime) -> Result<(), Fail> {
-    let cases: [(&[u8], FastAnswer); 7] = [
-        (b"native-fsread: permit", FastAnswer::Permit),
-        (b"native-fsread: true then permit", FastAnswer::Permit),
-        (b"native-fsread: (true) then permit", FastAnswer::Permit),
-        (b"native-fsread: deny", FastAnswer::Refuse(Errno::EPERM)),
+    let cases = [
+        (PERMIT, FastAnswer::Permit),
+        (DENY, FastAnswer::Refuse(Errno::EPERM)),
+        (ASK, FastAnswer::Ask),
         (
-            b"native-fsread: deny[eacces]",
-            FastAnswer::Refuse(Errno::EACCES),
+            Row {
+                log: true,
+                ..PERMIT
+            },
+            FastAnswer::Ask,
+        ),
+        (Row { log: true, ..DENY }, FastAnswer::Ask),
+        (
+            Row {
+                grant: Some(FIVE),
+                ..PERMIT
+            },
+            FastAnswer::Ask,
         ),
         (
-            b"native-getpid: ask\nnative-fsread: permit",
-            FastAnswer::Permit,
+            Row {
+                predicate: Some(USER),
+                ..PERMIT
+            },
+            FastAnswer::Ask,
         ),
         (
-            b"native-fsread: permit\nnative-fsread: deny",
-            FastAnswer::Permit,
+            Row {
+                predicate: Some(USER),
+                ..DENY
+            },
+            FastAnswer::Ask,
+        ),
+        (
+            Row {
+                rule: Rule::FsWrite,
+                ..PERMIT
+            },
+            FastAnswer::Ask,
         ),
     ];
-    for (rows, answer) in cases {
-        assert_eq!(rt; fast_fsread(rt.alloc(), rows), Ok(answer));
+    let none = Policy::new(rt.alloc());
+    for (row, answer) in cases {
+        let policy = policy(rt.alloc(), &[row])?;
+        assert_eq!(rt; fast(&policy, &none, Rule::FsRead), answer);
     }
     Ok(())
 }
 
 #[test]
-fn other_filters_are_not_fast(rt: HostRuntime) -> Result<(), Fail> {
-    let cases: [&[u8]; 11] = [
-        b"",
-        b"native-fswrite: permit",
-        b"native-fsread: permit log",
-        b"native-fsread: deny log",
-        b"native-fsread: permit as 5",
-        b"native-fsread: permit, if user = 30",
-        b"native-fsread: deny, if user = 30",
-        b"native-fsread: ask",
-        b"native-fsread: true and true then permit",
-        b"native-fsread: not not true then permit",
-        b"native-fsread: filename eq \"/a\" then permit\nnative-fsread: permit",
+fn a_test_that_always_holds_is_not_fast(rt: HostRuntime) -> Result<(), Fail> {
+    let twice = negated(rt.alloc(), negated(rt.alloc(), Expr::True)?)?;
+    let mut policy = Policy::new(rt.alloc());
+    policy.push(filter(PERMIT, twice))?;
+    policy.push(filter(PERMIT, Expr::True))?;
+    let none = Policy::new(rt.alloc());
+    assert_eq!(rt; fast(&policy, &none, Rule::FsRead), FastAnswer::Ask);
+    Ok(())
+}
+
+// The filters that were read come before those of the session.
+#[test]
+fn the_first_filter_of_the_rule_is_fast(rt: HostRuntime) -> Result<(), Fail> {
+    let other = Row {
+        rule: Rule::FsWrite,
+        ..ASK
+    };
+    let cases: [(&[Row], &[Row], FastAnswer); 6] = [
+        (&[], &[], FastAnswer::Ask),
+        (&[other, PERMIT], &[], FastAnswer::Permit),
+        (&[PERMIT, DENY], &[], FastAnswer::Permit),
+        (&[DENY], &[PERMIT], FastAnswer::Refuse(Errno::EPERM)),
+        (&[ASK], &[PERMIT], FastAnswer::Ask),
+        (&[other], &[other, PERMIT], FastAnswer::Permit),
     ];
-    for rows in cases {
-        assert_eq!(rt; fast_fsread(rt.alloc(), rows), Ok(FastAnswer::Ask));
+    for (read, added, answer) in cases {
+        let policy_read = policy(rt.alloc(), read)?;
+        let session = policy(rt.alloc(), added)?;
+        assert_eq!(rt; fast(&policy_read, &session, Rule::FsRead), answer);
     }
+    Ok(())
+}
+
+#[test]
+fn a_copied_filter_says_the_same(rt: HostRuntime) -> Result<(), Fail> {
+    let alloc = rt.alloc();
+    let row = Row {
+        grant: Some(FIVE),
+        log: true,
+        predicate: Some(USER),
+        ..PERMIT
+    };
+    let left = Box::new(alloc, test(alloc, Op::Eq, b"/a")?)?;
+    let right = Box::new(alloc, negated(alloc, Expr::True)?)?;
+    let copied = filter(row, Expr::Or(left, right)).copy(alloc)?;
+    assert!(rt; copied.is_for(Rule::FsRead));
+    assert!(rt; !copied.is_for(Rule::Call(SysCall::Read)));
+    assert_eq!(rt; copied.action(), Action::Permit);
+    assert_eq!(rt; copied.grant(), Some(FIVE));
+    assert_eq!(rt; copied.predicate(), Some(USER));
+    assert!(rt; copied.log());
+    assert!(rt; holds(&copied, &reading(alloc, b"/a")?));
+    assert!(rt; !holds(&copied, &reading(alloc, b"/b")?));
+    let other = FilterName::Other(Text::of(alloc, b"ioctl")?).copy(alloc)?;
+    let asking = Filter::new(other, Expr::True, Action::Ask, None, false, None);
+    assert!(rt;
+        matches!(asking.name(), FilterName::Other(name) if name.bytes() == b"ioctl".as_slice())
+    );
+    Ok(())
+}
+
+#[test]
+fn a_set_has_policies_by_their_binaries(rt: HostRuntime) -> Result<(), Fail> {
+    let mut set = PolicySet::new(rt.alloc());
+    set.begin(rt.alloc(), Text::of(rt.alloc(), b"/bin/a")?)?;
+    set.add_filter(filter(PERMIT, Expr::True))?;
+    set.begin(rt.alloc(), Text::of(rt.alloc(), b"/bin/b")?)?;
+    set.add_filter(filter(DENY, Expr::True))?;
+    set.add_filter(filter(ASK, Expr::True))?;
+    assert_eq!(rt; set.len(), 2);
+    assert_eq!(rt; set.binary(1), b"/bin/b".as_slice());
+    assert_eq!(rt; set.policy(1).len(), 2);
+    let cases: [(&[u8], bool, usize); 3] = [
+        (b"/bin/a", true, 1),
+        (b"/bin/b", true, 2),
+        (b"/bin/c", false, 0),
+    ];
+    for (binary, has, filters) in cases {
+        assert_eq!(rt; set.has(binary), has);
+        assert_eq!(rt; set.get(binary).len(), filters);
+    }
+    set.truncate(1);
+    assert_eq!(rt; set.len(), 1);
+    assert!(rt; !set.has(b"/bin/b"));
     Ok(())
 }

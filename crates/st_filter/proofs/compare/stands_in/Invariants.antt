@@ -1,5 +1,5 @@
 use Rattle.std.proofs.Common.{◌≡◌, drop}
-use Rattle.st_policy.specs.Judging.{stands_in}
+use Rattle.st_filter.specs.Judging.{stands_in}
 use Rattle.st_filter.proofs.compare.stands_in.Given as goal
 
 -- the text stands in what is left exactly where it stands in the argument

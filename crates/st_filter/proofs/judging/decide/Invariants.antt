@@ -1,6 +1,6 @@
 use Rattle.std.proofs.Common.{◌≡◌, ◌+◌, ◌≤◌, drop}
-use Rattle.st_policy.specs.Judging.{verdict_from}
-use Rattle.st_policy.specs.Policies.{filters_of}
+use Rattle.st_filter.specs.Judging.{verdict_from}
+use Rattle.st_filter.specs.Policies.{filters_of}
 use Rattle.st_filter.proofs.judging.decide.Given as goal
 
 -- what is left gives the verdict, by its number

@@ -1,0 +1,34 @@
+use Rattle.std.specs.Prelude.{ℕ, Bool, List, Option}
+use Rattle.st_filter.specs.declared.filter.FilterName.{FilterName}
+use Rattle.st_filter.specs.declared.filter.Action.{Action}
+use Rattle.st_filter.specs.declared.filter.Grant.{Grant}
+use Rattle.st_filter.specs.declared.filter.Predicate.{Predicate}
+use Rattle.st_filter.specs.declared.filter.Op.{Op}
+use Rattle.st_filter.specs.declared.filter.Expr.{Expr}
+use Rattle.st_filter.specs.declared.filter.Expr.TheVariants as expr
+
+-- an expression, without where its parts lie in memory
+pub data Formula : Type 0 where
+  True : Formula
+  -- the argument of this label and index compares so with this text
+  Test : List ℕ → ℕ → Op → List ℕ → Formula
+  Not : Formula → Formula
+  And : Formula → Formula → Formula
+  Or : Formula → Formula → Formula
+
+-- the formula of an expression
+abbrev pub formula : Expr → Formula
+formula expr.True = True
+formula (expr.Test label index op text) = Test label index op text
+formula (expr.Not' p e) = Not (formula e)
+formula (expr.And' p e q f) = And (formula e) (formula f)
+formula (expr.Or' p e q f) = Or (formula e) (formula f)
+
+-- a filter, without where its parts lie in memory
+pub record FilterValue : Type 0 where
+  pub name : FilterName
+  pub formula : Formula
+  pub action : Action
+  pub grant : Option Grant
+  pub log : Bool
+  pub predicate : Option Predicate
