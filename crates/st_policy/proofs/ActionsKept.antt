@@ -7,22 +7,22 @@ use Rattle.st_base.specs.declared.errno.Errno.TheVariants.{EPERM}
 use Rattle.st_base.specs.Errno.{error_named}
 use Rattle.st_policy.specs.declared.env.Env.{Env}
 use Rattle.st_policy.specs.declared.fault.PolicyFault.TheVariants.{Expected, AskWithLearn}
-use Rattle.st_policy.specs.declared.filter.Action.{Action}
-use Rattle.st_policy.specs.declared.filter.Action.TheVariants.{Permit, Deny, Ask}
-use Rattle.st_policy.specs.declared.filter.FilterName.{FilterName}
-use Rattle.st_policy.specs.declared.filter.Grant.{Grant}
-use Rattle.st_policy.specs.declared.filter.Predicate.{Predicate}
+use Rattle.st_filter.specs.declared.filter.Action.{Action}
+use Rattle.st_filter.specs.declared.filter.Action.TheVariants.{Permit, Deny, Ask}
+use Rattle.st_filter.specs.declared.filter.FilterName.{FilterName}
+use Rattle.st_filter.specs.declared.filter.Grant.{Grant}
+use Rattle.st_filter.specs.declared.filter.Predicate.{Predicate}
 use Rattle.st_policy.specs.declared.place.Place.TheVariants as place
-use Rattle.st_policy.specs.declared.set.BinaryPolicy.{BinaryPolicy}
-use Rattle.st_policy.specs.Diagram.{Walk, Step, is_action, step_errno}
-use Rattle.st_policy.specs.Draft.{Draft, Reading, first_draft, stepped, read_step}
-use Rattle.st_policy.specs.Formula.{Formula}
+use Rattle.st_filter.specs.declared.set.BinaryPolicy.{BinaryPolicy}
+use Rattle.st_policy.specs.Diagram.{GrammarState, StepResult, is_action, step_errno}
+use Rattle.st_policy.specs.Draft.{Draft, Reading, first_draft, reading_step, read_step}
+use Rattle.st_filter.specs.Formula.{Formula}
 use Rattle.st_policy.specs.Grammar.{Short, IsAction, Permits, Denies, DeniesWith, Asks, IsTail, Plain as PlainTail, Logs}
 use Rattle.st_policy.specs.Symbol.{Symbol, Word, OpenBracket, CloseBracket}
-use Rattle.st_policy.proofs.Readings.{Read, standing}
+use Rattle.st_policy.proofs.Readings.{Read, places_of_reading}
 use Rattle.st_policy.proofs.Expressions.{step-unless}
 use Rattle.st_policy.proofs.Stacks.{Front}
-use Rattle.st_policy.proofs.Fronts.{FilterFront, Plain, IsPlain, IsFirst, OperandFront, ActionFront, ActedFront, TailFront, Facts, Holds, by-word, by-test, filter-more}
+use Rattle.st_policy.proofs.Fronts.{FilterFront, Plain, IsPlain, IsFirst, OperandFront, ActionFront, ActedFront, TailFront, Facts, HasFacts, by-word, by-test, filter-more}
 use Rattle.st_policy.proofs.OperandsKept.{kept-operand}
 use Rattle.st_policy.proofs.Clauses.{clause-operand}
 
@@ -31,7 +31,7 @@ pub filter-map : (env : Env) (old : List BinaryPolicy) (rows front : List Symbol
     FilterFront env old rows front filters name set P → ((us : List Symbol) → P us → Q us) → FilterFront env old rows front filters name set Q
 filter-map env old rows front filters name set P Q h f = record { behind = h.behind; filters_are = h.filters_are; few = h.few; spelled = h.spelled; us = h.us; front_is = h.front_is; name_is = h.name_is; rest = f h.us h.rest }
 
-pub by-some : {A : Type 0} (env : Env) (old : List BinaryPolicy) (rows front : List Symbol) (F : Option A → Read) (o : Option A) → ((x : A) → o ≡ Some x → Holds env old rows front (F (Some x))) → Holds env old rows front (F None) → Holds env old rows front (F o)
+pub by-some : {A : Type 0} (env : Env) (old : List BinaryPolicy) (rows front : List Symbol) (F : Option A → Read) (o : Option A) → ((x : A) → o ≡ Some x → HasFacts env old rows front (F (Some x))) → HasFacts env old rows front (F None) → HasFacts env old rows front (F o)
 by-some env old rows front F None f n = n
 by-some env old rows front F (Some x) f n = f x refl
 
@@ -64,7 +64,7 @@ acted-now env name f begun us may_grant action grant logs predicate a m p h = re
   };
 }
 
-module _ (env : Env) (old : List BinaryPolicy) (rows front : List Symbol) (w : Walk) (d : Draft) (set : List BinaryPolicy) (at : ℕ) where
+module _ (env : Env) (old : List BinaryPolicy) (rows front : List Symbol) (w : GrammarState) (d : Draft) (set : List BinaryPolicy) (at : ℕ) where
   permitted : Facts env old rows front place.Action w d set → Facts env old rows (front ++ Word (codes "permit") ∷ []) (place.Tail true true) w (record d { action = Permit }) set
   permitted h = filter-more env old rows front w.filters w.name set _ _ (Word (codes "permit")) h.1 (λ us a.
       acted-now env w.name d.expression.formula (Word (codes "permit") ∷ []) (us ++ Word (codes "permit") ∷ []) true Permit d.grant d.log d.predicate Permits (λ e. refl) h.0
@@ -82,23 +82,23 @@ module _ (env : Env) (old : List BinaryPolicy) (rows front : List Symbol) (w : W
       acted-now env w.name d.expression.formula (Word (codes "ask") ∷ []) (us ++ Word (codes "ask") ∷ []) false Ask d.grant d.log d.predicate (Asks e) (λ e. absurd (cc)) h.0
       (action-more env w.name d.expression.formula [] us (Word (codes "ask")) a))
 
-  kept-ask : Facts env old rows front place.Action w d set → Holds env old rows (front ++ Word (codes "ask") ∷ []) (read_step env (standing place.Action w d set) at (Word (codes "ask")))
-  kept-ask h = by-test env old rows (front ++ Word (codes "ask") ∷ []) (standing place.Action w d set) (Word (codes "ask")) env.learn (Err (AskWithLearn at)) (Ok (record w { place = place.Tail false true })) (λ e. tt) (λ e. asked e h)
+  kept-ask : Facts env old rows front place.Action w d set → HasFacts env old rows (front ++ Word (codes "ask") ∷ []) (read_step env (places_of_reading place.Action w d set) at (Word (codes "ask")))
+  kept-ask h = by-test env old rows (front ++ Word (codes "ask") ∷ []) (places_of_reading place.Action w d set) (Word (codes "ask")) env.learn (Err (AskWithLearn at)) (Ok (record w { place = place.Tail false true })) (λ e. tt) (λ e. asked e h)
 
-  no_action : (word : List ℕ) → bytes_eq word (codes "permit") ≡ false → bytes_eq word (codes "deny") ≡ false → bytes_eq word (codes "ask") ≡ false → read_step env (standing place.Action w d set) at (Word word) ≡ Err (Expected at)
+  no_action : (word : List ℕ) → bytes_eq word (codes "permit") ≡ false → bytes_eq word (codes "deny") ≡ false → bytes_eq word (codes "ask") ≡ false → read_step env (places_of_reading place.Action w d set) at (Word word) ≡ Err (Expected at)
   no_action word a b c =
-      let r : Reading = standing place.Action w d set in
-      let ask : Step = if env.learn then Err (AskWithLearn at) else Ok (record w { place = place.Tail false true }) in
-      let bad : Step = Err (Expected at) in
+      let r : Reading = places_of_reading place.Action w d set in
+      let ask : StepResult = if env.learn then Err (AskWithLearn at) else Ok (record w { place = place.Tail false true }) in
+      let bad : StepResult = Err (Expected at) in
       step-unless env r (Word word) (bytes_eq word (codes "permit")) (Ok (record w { place = place.Tail true true })) _ a
       ∙ step-unless env r (Word word) (bytes_eq word (codes "deny")) (Ok (record w { place = place.Denial })) _ b
       ∙ step-unless env r (Word word) (bytes_eq word (codes "ask")) ask bad c
 
-  pub kept-action : Facts env old rows front place.Action w d set → (s : Symbol) → Holds env old rows (front ++ s ∷ []) (read_step env (standing place.Action w d set) at s)
+  pub kept-action : Facts env old rows front place.Action w d set → (s : Symbol) → HasFacts env old rows (front ++ s ∷ []) (read_step env (places_of_reading place.Action w d set) at s)
   kept-action h (Word word) =
-      let P : List ℕ → Type 0 = λ word. Holds env old rows (front ++ Word word ∷ []) (read_step env (standing place.Action w d set) at (Word word)) in
+      let P : List ℕ → Type 0 = λ word. HasFacts env old rows (front ++ Word word ∷ []) (read_step env (places_of_reading place.Action w d set) at (Word word)) in
       by-word P (codes "permit") word (permitted h) (λ a. by-word P (codes "deny") word (denied h) (λ b. by-word P (codes "ask") word (kept-ask h) (λ c.
-      subst (λ (x : Read). Holds env old rows (front ++ Word word ∷ []) x) (sym (no_action word a b c)) tt)))
+      subst (λ (x : Read). HasFacts env old rows (front ++ Word word ∷ []) x) (sym (no_action word a b c)) tt)))
   kept-action h s = tt
 
   -- ---- the front of a clause
@@ -126,15 +126,15 @@ module _ (env : Env) (old : List BinaryPolicy) (rows front : List Symbol) (w : W
   clause-actions : Facts env old rows front place.Clause w d set → Facts env old rows front place.Action w d set
   clause-actions h = (clause-plain h, filter-map env old rows front w.filters w.name set _ _ h first-action)
 
-  kept-clause_ask : Facts env old rows front place.Clause w d set → Holds env old rows (front ++ Word (codes "ask") ∷ []) (read_step env (standing place.Clause w d set) at (Word (codes "ask")))
-  kept-clause_ask h = by-test env old rows (front ++ Word (codes "ask") ∷ []) (standing place.Clause w d set) (Word (codes "ask")) env.learn (Err (AskWithLearn at)) (Ok (record w { place = place.Tail false true })) (λ e. tt) (λ e. asked e (clause-actions h))
+  kept-clause_ask : Facts env old rows front place.Clause w d set → HasFacts env old rows (front ++ Word (codes "ask") ∷ []) (read_step env (places_of_reading place.Clause w d set) at (Word (codes "ask")))
+  kept-clause_ask h = by-test env old rows (front ++ Word (codes "ask") ∷ []) (places_of_reading place.Clause w d set) (Word (codes "ask")) env.learn (Err (AskWithLearn at)) (Ok (record w { place = place.Tail false true })) (λ e. tt) (λ e. asked e (clause-actions h))
 
-  kept-no_action : Facts env old rows front place.Clause w d set → (s : Symbol) → is_action s ≡ false → Holds env old rows (front ++ s ∷ []) (read_step env (standing place.Clause w d set) at s)
-  kept-no_action h s e = subst (λ (x : Read). Holds env old rows (front ++ s ∷ []) x) (sym (clause-operand env w d set at s e)) (kept-operand env old rows front w d set at (clause-operands h) s)
+  kept-no_action : Facts env old rows front place.Clause w d set → (s : Symbol) → is_action s ≡ false → HasFacts env old rows (front ++ s ∷ []) (read_step env (places_of_reading place.Clause w d set) at s)
+  kept-no_action h s e = subst (λ (x : Read). HasFacts env old rows (front ++ s ∷ []) x) (sym (clause-operand env w d set at s e)) (kept-operand env old rows front w d set at (clause-operands h) s)
 
-  pub kept-clause : Facts env old rows front place.Clause w d set → (s : Symbol) → Holds env old rows (front ++ s ∷ []) (read_step env (standing place.Clause w d set) at s)
+  pub kept-clause : Facts env old rows front place.Clause w d set → (s : Symbol) → HasFacts env old rows (front ++ s ∷ []) (read_step env (places_of_reading place.Clause w d set) at s)
   kept-clause h (Word word) =
-      let P : List ℕ → Type 0 = λ word. Holds env old rows (front ++ Word word ∷ []) (read_step env (standing place.Clause w d set) at (Word word)) in
+      let P : List ℕ → Type 0 = λ word. HasFacts env old rows (front ++ Word word ∷ []) (read_step env (places_of_reading place.Clause w d set) at (Word word)) in
       by-word P (codes "permit") word (permitted (clause-actions h)) (λ a. by-word P (codes "deny") word (denied (clause-actions h)) (λ b. by-word P (codes "ask") word (kept-clause_ask h) (λ c.
       kept-no_action h (Word word) (or_from (bytes_eq word (codes "permit")) _ a (or_from (bytes_eq word (codes "deny")) (bytes_eq word (codes "ask")) b c)))))
   kept-clause h s = kept-no_action h s refl
@@ -154,13 +154,13 @@ module _ (env : Env) (old : List BinaryPolicy) (rows front : List Symbol) (w : W
         record { word = word; errno = errno; condition = b.condition; parts = b.parts; condition_is = b.condition_is; errno_is = e; action_is = refl }),
   )
 
-  pub kept-error : Facts env old rows front place.Error w d set → (s : Symbol) → Holds env old rows (front ++ s ∷ []) (read_step env (standing place.Error w d set) at s)
-  kept-error h (Word word) = by-some env old rows (front ++ Word word ∷ []) (λ o. stepped env (standing place.Error w d set) (Word word) (step_errno (record w { place = place.Error }) at o)) (error_named word)
+  pub kept-error : Facts env old rows front place.Error w d set → (s : Symbol) → HasFacts env old rows (front ++ s ∷ []) (read_step env (places_of_reading place.Error w d set) at s)
+  kept-error h (Word word) = by-some env old rows (front ++ Word word ∷ []) (λ o. reading_step env (places_of_reading place.Error w d set) (Word word) (step_errno (record w { place = place.Error }) at o)) (error_named word)
       (λ errno e. let same : errno ≡ unwrap_or (error_named word) EPERM = sym (ap (λ (o : Option Errno). unwrap_or o EPERM) e) in
       subst (λ (x : Errno). Facts env old rows (front ++ Word word ∷ []) place.ErrorEnd w (record d { action = Deny x }) set) same (erring word errno e h)) tt
   kept-error h s = tt
 
-  pub kept-error_end : Facts env old rows front place.ErrorEnd w d set → (s : Symbol) → Holds env old rows (front ++ s ∷ []) (read_step env (standing place.ErrorEnd w d set) at s)
+  pub kept-error_end : Facts env old rows front place.ErrorEnd w d set → (s : Symbol) → HasFacts env old rows (front ++ s ∷ []) (read_step env (places_of_reading place.ErrorEnd w d set) at s)
   kept-error_end h CloseBracket = filter-more env old rows front w.filters w.name set _ _ CloseBracket h.1 (λ us a.
       let begun : List Symbol = Word (codes "deny") ∷ OpenBracket ∷ Word a.word ∷ [] in
       let b : ActionFront env w.name d.expression.formula (begun ++ CloseBracket ∷ []) (us ++ CloseBracket ∷ []) =

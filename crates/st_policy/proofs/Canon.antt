@@ -3,14 +3,16 @@ use Rattle.std.proofs.Common.{◌≤◌, List, [], ◌∷◌, ◌++◌, refl, sy
 use Rattle.st_lex.specs.Pieces.{StandWell}
 use Rattle.st_lex.proofs.Pieces.{print_is_read}
 use Rattle.st_policy.specs.declared.env.Env.{Env}
-use Rattle.st_policy.specs.declared.set.BinaryPolicy.{BinaryPolicy}
+use Rattle.st_filter.specs.declared.set.BinaryPolicy.{BinaryPolicy}
 use Rattle.st_policy.specs.Symbol.{Symbol, Line}
-use Rattle.st_policy.specs.Grammar.{AreRows, symbols_in, filters_in, most_filters, AreNew, Reads}
+use Rattle.st_policy.specs.Grammar.{AreRows, symbols_in, AreNew, Reads}
+use Rattle.st_filter.specs.Policies.{filters_in}
 use Rattle.st_policy.specs.Canon.{set_pieces, canon}
 use Rattle.st_policy.specs.Readable.{WasRead, Nothing, Behind, HasPlainDollars, HasSmallIds}
 use Rattle.st_policy.proofs.Rows.{IsReadablePolicy, AreReadable, each-append, readable_rows, are_rows, well_set}
 use Rattle.st_policy.proofs.Symbols.{ArePrintable, ArePrintable-append}
 use Rattle.st_policy.proofs.PrintedTexts.{symbols_in-print, printable_symbols}
+use Rattle.st_filter.specs.declared.set.TheConstants.{MOST_FILTERS}
 
 AreNew-append : (known ps qs : List BinaryPolicy) → AreNew known ps → AreNew (known ++ ps) qs → AreNew known (ps ++ qs)
 AreNew-append known [] qs a b = subst (λ (ks : List BinaryPolicy). AreNew ks qs) (append-nil known) b
@@ -21,7 +23,7 @@ AreNew-append known (p ∷ ps) qs a b =
 record IsReadable (env : Env) (set : List BinaryPolicy) : Type 0 where
   each : AreReadable env set
   new : AreNew [] set
-  few : filters_in set ≤ most_filters
+  few : filters_in set ≤ MOST_FILTERS
 
 more_read : (env : Env) (text : List ℕ) (old set : List BinaryPolicy) → HasSmallIds env → ArePrintable env (symbols_in text) → IsReadable env old → Reads text env old set → IsReadable env set
 more_read env text old set small printable known reads =

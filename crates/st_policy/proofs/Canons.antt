@@ -4,8 +4,8 @@ use Rattle.std.specs.List.{flat_map}
 use Rattle.std.proofs.lemmas.List.{append_assoc, append-nil}
 use Rattle.st_lex.specs.Pieces.{Piece, print}
 use Rattle.st_lex.proofs.Pieces.{print-append}
-use Rattle.st_policy.specs.declared.set.BinaryPolicy.{BinaryPolicy}
-use Rattle.st_policy.specs.Formula.{FilterValue}
+use Rattle.st_filter.specs.declared.set.BinaryPolicy.{BinaryPolicy}
+use Rattle.st_filter.specs.Formula.{FilterValue}
 use Rattle.st_policy.specs.Canon.{canon, policy_pieces, set_pieces, header_pieces, row_pieces, filter_pieces}
 
 abbrev rows_of : List FilterValue → List Piece

@@ -7,15 +7,15 @@ use Rattle.st_policy.specs.declared.fault.Unsupported.TheVariants.{Re}
 use Rattle.st_base.specs.declared.errno.Errno.TheVariants.{ENOENT}
 use Rattle.st_calls.specs.declared.call.SysCall.TheVariants.{Bind}
 use Rattle.st_calls.specs.declared.rule.Rule.TheVariants.{Call, FsRead}
-use Rattle.st_policy.specs.declared.filter.Action.TheVariants.{Permit, Deny}
-use Rattle.st_policy.specs.declared.filter.Cmp.TheVariants as cmp
-use Rattle.st_policy.specs.declared.filter.FilterName.TheVariants as name
-use Rattle.st_policy.specs.declared.filter.Op.TheVariants.{Eq}
-use Rattle.st_policy.specs.declared.filter.Who.TheVariants.{User}
-use Rattle.st_policy.specs.Formula.{FilterValue, True, Test, Not, And, Or}
+use Rattle.st_filter.specs.declared.filter.Action.TheVariants.{Permit, Deny}
+use Rattle.st_filter.specs.declared.filter.Cmp.TheVariants as cmp
+use Rattle.st_filter.specs.declared.filter.FilterName.TheVariants as name
+use Rattle.st_filter.specs.declared.filter.Op.TheVariants.{Eq}
+use Rattle.st_filter.specs.declared.filter.Who.TheVariants.{User}
+use Rattle.st_filter.specs.Formula.{FilterValue, True, Test, Not, And, Or}
 use Rattle.st_policy.specs.Diagram.{fault_in}
 use Rattle.st_policy.specs.Draft.{Reading, reading_of}
-use Rattle.st_policy.specs.declared.set.BinaryPolicy.{BinaryPolicy}
+use Rattle.st_filter.specs.declared.set.BinaryPolicy.{BinaryPolicy}
 use Rattle.st_policy.specs.declared.fault.PolicyFault.{PolicyFault}
 
 abbrev with_elevate : Env
@@ -30,22 +30,22 @@ with_elevate = record {
 abbrev without_elevate : Env
 without_elevate = record with_elevate { elevate = false }
 
-abbrev behind_header : List ℕ → List ℕ
-behind_header row = codes "Policy: /bin/a, Emulation: native" ++ 10 ∷ row
+abbrev after_header : List ℕ → List ℕ
+after_header row = codes "Policy: /bin/a, Emulation: native" ++ 10 ∷ row
 
-open_quote : fault_in (behind_header (codes "native-fsread: filename eq \"/etc")) with_elevate [] ≡ Some (Lex (OpenQuote 61))
+open_quote : fault_in (after_header (codes "native-fsread: filename eq \"/etc")) with_elevate [] ≡ Some (Lex (OpenQuote 61))
 open_quote = refl
 
-regular_expression : fault_in (behind_header (codes "native-fsread: filename re \"x\" then permit")) with_elevate [] ≡ Some (NotSupported 58 Re)
+regular_expression : fault_in (after_header (codes "native-fsread: filename re \"x\" then permit")) with_elevate [] ≡ Some (NotSupported 58 Re)
 regular_expression = refl
 
-no_ids : fault_in (behind_header (codes "native-bind: permit as root")) without_elevate [] ≡ Some (ElevateWithoutIds 54)
+no_ids : fault_in (after_header (codes "native-bind: permit as root")) without_elevate [] ≡ Some (ElevateWithoutIds 54)
 no_ids = refl
 
-sets_ids : fault_in (behind_header (codes "native-setuid: permit as root")) with_elevate [] ≡ Some (ElevateOnSetId 56)
+sets_ids : fault_in (after_header (codes "native-setuid: permit as root")) with_elevate [] ≡ Some (ElevateOnSetId 56)
 sets_ids = refl
 
-good : fault_in (behind_header (codes "native-fsread: filename eq \"/etc\" or not true and true then deny[enoent] log, if user != root")) with_elevate [] ≡ None
+good : fault_in (after_header (codes "native-fsread: filename eq \"/etc\" or not true and true then deny[enoent] log, if user != root")) with_elevate [] ≡ None
 good = refl
 
 abbrev set_in : Result Reading PolicyFault → Option (List BinaryPolicy)
@@ -72,7 +72,7 @@ permission = record {
   predicate = None;
 }
 
-good_set : set_in (reading_of (behind_header (codes "native-fsread: filename eq \"/etc\" or not true and true then deny[enoent] log, if user != root" ++ 10 ∷ codes "native-bind: permit log as 0:wheel")) with_elevate [])
+good_set : set_in (reading_of (after_header (codes "native-fsread: filename eq \"/etc\" or not true and true then deny[enoent] log, if user != root" ++ 10 ∷ codes "native-bind: permit log as 0:wheel")) with_elevate [])
     ≡ Some (record { binary = codes "/bin/a"; filters = denial ∷ permission ∷ [] } ∷ [])
 good_set = refl
 

@@ -3,16 +3,17 @@ use Rattle.std.proofs.Common.{◌≡◌, ℕ, Bool, true, false, ◌&&◌, List,
 use Rattle.std.proofs.lemmas.List.{map-append}
 use Rattle.st_lex.specs.declared.token.LexFault.{LexFault}
 use Rattle.st_lex.specs.declared.token.Token.{Token}
-use Rattle.st_lex.specs.Tokens.{lexed_of}
+use Rattle.st_lex.specs.Tokens.{lexed_text}
 use Rattle.st_policy.specs.declared.env.Env.{Env}
 use Rattle.st_policy.specs.declared.fault.PolicyFault.{PolicyFault}
-use Rattle.st_policy.specs.declared.filter.FilterName.{FilterName}
+use Rattle.st_filter.specs.declared.filter.FilterName.{FilterName}
 use Rattle.st_policy.specs.declared.place.Place.{Place}
 use Rattle.st_policy.specs.declared.place.Place.TheVariants as place
-use Rattle.st_policy.specs.declared.set.BinaryPolicy.{BinaryPolicy}
-use Rattle.st_policy.specs.Diagram.{Step, is_line, next, known_after, fault_of, lexical, fault_at_end, fault_from, fault_in, binaries}
-use Rattle.st_policy.specs.Draft.{Draft, Reading, draft_after, add_filter, new_policy, set_after, ends_filter, filter_of, stepped, lexically, read_end, read_from, first_reading, reading_of}
-use Rattle.st_policy.specs.Formula.{FilterValue}
+use Rattle.st_filter.specs.declared.set.BinaryPolicy.{BinaryPolicy}
+use Rattle.st_policy.specs.Diagram.{StepResult, is_line, next, known_after, fault_of, lexical, fault_at_end, fault_from, fault_in, binaries}
+use Rattle.st_policy.specs.Draft.{Draft, Reading, draft_after, new_policy, set_after, ends_filter, filter_of, reading_step, unless_lexical, read_end, read_from, first_reading, reading_of}
+use Rattle.st_filter.specs.Policies.{add_filter}
+use Rattle.st_filter.specs.Formula.{FilterValue}
 use Rattle.st_policy.specs.Grammar.{binary_of}
 use Rattle.st_policy.specs.Symbol.{Symbol, Line, Broken, symbol_of}
 
@@ -42,11 +43,11 @@ binaries-after env name d s p set = binaries-kept (ends_filter p && is_line s) s
 
 -- ---- the faults
 
-fault-stepped : (env : Env) (r : Reading) (s : Symbol) (step : Step) → fault_of step ≡ error_in (stepped env r s step)
+fault-stepped : (env : Env) (r : Reading) (s : Symbol) (step : StepResult) → fault_of step ≡ error_in (reading_step env r s step)
 fault-stepped env r s (Ok w) = refl
 fault-stepped env r s (Err fault) = refl
 
-fault-lexical : (fault : LexFault) (env : Env) (r : Reading) (s : Symbol) (step : Step) → option_map (lexical fault) (fault_of step) ≡ error_in (lexically fault (stepped env r s step))
+fault-lexical : (fault : LexFault) (env : Env) (r : Reading) (s : Symbol) (step : StepResult) → option_map (lexical fault) (fault_of step) ≡ error_in (unless_lexical fault (reading_step env r s step))
 fault-lexical fault env r s (Ok w) = refl
 fault-lexical fault env r s (Err found) = refl
 
@@ -55,16 +56,16 @@ fault-end env text None r = fault-stepped env r Line (next env (binaries r.set) 
 fault-end env text (Some fault) r = fault-lexical fault env r Broken (next env (binaries r.set) r.walk (length text) Broken)
 
 -- what is read behind a token
-abbrev pub behind : Env → List ℕ → Option LexFault → List Token → Result Reading PolicyFault → Result Reading PolicyFault
-behind env text broken ts (Ok r) = read_from env text broken r ts
-behind env text broken ts (Err fault) = Err fault
+abbrev pub result_after : Env → List ℕ → Option LexFault → List Token → Result Reading PolicyFault → Result Reading PolicyFault
+result_after env text broken ts (Ok r) = read_from env text broken r ts
+result_after env text broken ts (Err fault) = Err fault
 
-abbrev fault_behind : Env → List ℕ → Option LexFault → List Token → List (List ℕ) → Step → Option PolicyFault
+abbrev fault_behind : Env → List ℕ → Option LexFault → List Token → List (List ℕ) → StepResult → Option PolicyFault
 fault_behind env text broken ts known (Ok w) = fault_from env text broken known w ts
 fault_behind env text broken ts known (Err fault) = Some fault
 
 fault-behind : (env : Env) (text : List ℕ) (broken : Option LexFault) (ts : List Token) → ((r : Reading) → fault_from env text broken (binaries r.set) r.walk ts ≡ error_in (read_from env text broken r ts)) →
-    (r : Reading) (s : Symbol) (step : Step) → fault_behind env text broken ts (known_after env s r.walk.place (binaries r.set)) step ≡ error_in (behind env text broken ts (stepped env r s step))
+    (r : Reading) (s : Symbol) (step : StepResult) → fault_behind env text broken ts (known_after env s r.walk.place (binaries r.set)) step ≡ error_in (result_after env text broken ts (reading_step env r s step))
 fault-behind env text broken ts ih r s (Err fault) = refl
 fault-behind env text broken ts ih r s (Ok w) =
     let after : Reading = record { walk = w; draft = draft_after env r.walk.label r.draft s r.walk.place; set = set_after env r.walk.name r.draft s r.walk.place r.set } in
@@ -76,4 +77,4 @@ faults-from env text broken (t ∷ ts) r = fault-behind env text broken ts (faul
 
 -- the diagram's fault is the reading's
 pub faults-agree : (text : List ℕ) (env : Env) (old : List BinaryPolicy) → fault_in text env old ≡ error_in (reading_of text env old)
-faults-agree text env old = faults-from env text (lexed_of text).fault (lexed_of text).tokens (first_reading old)
+faults-agree text env old = faults-from env text (lexed_text text).fault (lexed_text text).tokens (first_reading old)

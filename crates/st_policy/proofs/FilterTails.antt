@@ -5,20 +5,20 @@ use Rattle.st_base.specs.declared.errno.Errno.TheVariants.{EPERM}
 use Rattle.st_base.specs.Errno.{error_named}
 use Rattle.st_policy.specs.declared.env.Env.{Env}
 use Rattle.st_policy.specs.declared.fault.PolicyFault.TheVariants.{ElevateWithoutIds, ElevateOnSetId, AskWithLearn}
-use Rattle.st_policy.specs.declared.filter.Action.{Action}
-use Rattle.st_policy.specs.declared.filter.Action.TheVariants.{Permit, Deny, Ask}
-use Rattle.st_policy.specs.declared.filter.FilterName.{FilterName}
-use Rattle.st_policy.specs.declared.filter.Grant.{Grant}
-use Rattle.st_policy.specs.declared.filter.Predicate.{Predicate}
+use Rattle.st_filter.specs.declared.filter.Action.{Action}
+use Rattle.st_filter.specs.declared.filter.Action.TheVariants.{Permit, Deny, Ask}
+use Rattle.st_filter.specs.declared.filter.FilterName.{FilterName}
+use Rattle.st_filter.specs.declared.filter.Grant.{Grant}
+use Rattle.st_filter.specs.declared.filter.Predicate.{Predicate}
 use Rattle.st_policy.specs.declared.place.Place.{Place}
 use Rattle.st_policy.specs.declared.place.Place.TheVariants as place
-use Rattle.st_policy.specs.Diagram.{Walk, Step, is_colon, step_errno, step_known}
-use Rattle.st_policy.specs.Draft.{Draft, Reading, with_group, stepped}
-use Rattle.st_policy.specs.Formula.{Formula}
+use Rattle.st_policy.specs.Diagram.{GrammarState, StepResult, is_colon, step_errno, step_known}
+use Rattle.st_policy.specs.Draft.{Draft, Reading, with_group, reading_step}
+use Rattle.st_filter.specs.Formula.{Formula}
 use Rattle.st_policy.specs.Grammar.{IsAction, Permits, Denies, DeniesWith, Asks, IsGrant, OfUser, OfBoth, OfGroup, MayGrant, IsTail, Plain, Logs, Grants, GrantsAndLogs, LogsAndGrants, IsPredicate, Whoever, If}
 use Rattle.st_policy.specs.Symbol.{Symbol, Word, Colon, Comma, OpenBracket, CloseBracket, Line}
 use Rattle.st_policy.specs.Words.{sets_ids, id_in}
-use Rattle.st_policy.proofs.Readings.{Step1, Passes, passes-step, standing, At, stands}
+use Rattle.st_policy.proofs.Readings.{Step1, Passes, passes-step, places_of_reading, At, stands}
 use Rattle.st_policy.proofs.Expressions.{step-if, step-unless, Kept, IsFresh}
 use Rattle.st_policy.proofs.Clauses.{user-tail, denial-tail, is_open_bracket}
 use Rattle.st_policy.proofs.Filters.{steady, Alike, passes-alike, IsTailed, value, AtAdded, passes-predicate}
@@ -51,22 +51,22 @@ may-facts env name (Deny errno) m = absurd m
 may-facts env name Ask m = absurd m
 
 module _ (env : Env) (k : Kept) (f : Formula) (a : Action) where
-  tailed-log : (g : Option Grant) (l : Bool) (w : Walk) (d : Draft) → IsTailed k f a g l w d → IsTailed k f a g true w (record d { log = true })
+  tailed-log : (g : Option Grant) (l : Bool) (w : GrammarState) (d : Draft) → IsTailed k f a g l w d → IsTailed k f a g true w (record d { log = true })
   tailed-log g l w d h = record { name_is = h.name_is; filters_are = h.filters_are; formula_is = h.formula_is; action_is = h.action_is; grant_is = h.grant_is; log_is = refl; no_predicate = h.no_predicate }
 
-  tailed-grant : (g x : Option Grant) (y : Option Grant) (l : Bool) (w : Walk) (d : Draft) → x ≡ y → IsTailed k f a g l w d → IsTailed k f a y l w (record d { grant = x })
+  tailed-grant : (g x : Option Grant) (y : Option Grant) (l : Bool) (w : GrammarState) (d : Draft) → x ≡ y → IsTailed k f a g l w d → IsTailed k f a y l w (record d { grant = x })
   tailed-grant g x y l w d e h = record { name_is = h.name_is; filters_are = h.filters_are; formula_is = h.formula_is; action_is = h.action_is; grant_is = e; log_is = h.log_is; no_predicate = h.no_predicate }
 
   step-log : (grant : Bool) (g : Option Grant) (l : Bool) → Step1 env (AtTail k f a (place.Tail grant true) g l) (Word (codes "log")) (AtTail k f a (place.Tail grant false) g true)
-  step-log grant g l at r (stands w d h) = record { reading = standing (place.Tail grant false) w (record d { log = true }) k.set; step = refl; holds = stands w (record d { log = true }) (tailed-log g l w d h) }
+  step-log grant g l at r (stands w d h) = record { reading = places_of_reading (place.Tail grant false) w (record d { log = true }) k.set; step = refl; holds = stands w (record d { log = true }) (tailed-log g l w d h) }
 
   step-as : (log : Bool) (g : Option Grant) (l : Bool) → env.elevate ≡ true → sets_ids k.name ≡ false → Step1 env (AtTail k f a (place.Tail true log) g l) (Word (codes "as")) (AtTail k f a (place.Grant log) g l)
   step-as log g l e n at r (stands w d h) =
-      let r : Reading = standing (place.Tail true log) w d k.set in
-      let next : Step = Ok (record w { place = place.Grant log }) in
+      let r : Reading = places_of_reading (place.Tail true log) w d k.set in
+      let next : StepResult = Ok (record w { place = place.Grant log }) in
       let unset : sets_ids w.name ≡ false = ap sets_ids h.name_is ∙ n in
       record {
-        reading = standing (place.Grant log) w d k.set;
+        reading = places_of_reading (place.Grant log) w d k.set;
         step = step-if env r (Word (codes "as")) env.elevate (if sets_ids w.name then Err (ElevateOnSetId at) else next) (Err (ElevateWithoutIds at)) e
             ∙ step-unless env r (Word (codes "as")) (sets_ids w.name) (Err (ElevateOnSetId at)) next unset;
         holds = stands w d h;
@@ -74,39 +74,39 @@ module _ (env : Env) (k : Kept) (f : Formula) (a : Action) where
 
   step-user : (log : Bool) (g : Option Grant) (l : Bool) (user : List ℕ) (u : ℕ) → id_in env.users user ≡ Some u → Step1 env (AtTail k f a (place.Grant log) g l) (Word user) (AtTail k f a (place.User log) (Some (record { user = Some u; group = None })) l)
   step-user log g l user u e at r (stands w d h) =
-      let r : Reading = standing (place.Grant log) w d k.set in
+      let r : Reading = places_of_reading (place.Grant log) w d k.set in
       let made : Option ℕ → Option Grant = λ o. Some (record { user = o; group = None }) in
       let d' : Draft = record d { grant = made (Some u) } in
       record {
-        reading = standing (place.User log) w d' k.set;
-        step = ap (λ (o : Option ℕ). stepped env r (Word user) (step_known (record w { place = place.Grant log }) at (place.User log) o)) e
-            ∙ ap (λ (o : Option ℕ). Ok (standing (place.User log) w (record d { grant = made o }) k.set)) e;
+        reading = places_of_reading (place.User log) w d' k.set;
+        step = ap (λ (o : Option ℕ). reading_step env r (Word user) (step_known (record w { place = place.Grant log }) at (place.User log) o)) e
+            ∙ ap (λ (o : Option ℕ). Ok (places_of_reading (place.User log) w (record d { grant = made o }) k.set)) e;
         holds = stands w d' (tailed-grant g (made (Some u)) (made (Some u)) l w d refl h);
       }
 
   step-group : (log : Bool) (user : Option ℕ) (l : Bool) (group : List ℕ) (u : ℕ) → id_in env.groups group ≡ Some u →
       Step1 env (AtTail k f a (place.Group log) (Some (record { user = user; group = None })) l) (Word group) (AtTail k f a (place.Tail false log) (Some (record { user = user; group = Some u })) l)
   step-group log user l group u e at r (stands w d h) =
-      let r : Reading = standing (place.Group log) w d k.set in
+      let r : Reading = places_of_reading (place.Group log) w d k.set in
       let made : Option ℕ → Option Grant = λ o. option_map (with_group o) d.grant in
       let d' : Draft = record d { grant = made (Some u) } in
       record {
-        reading = standing (place.Tail false log) w d' k.set;
-        step = ap (λ (o : Option ℕ). stepped env r (Word group) (step_known (record w { place = place.Group log }) at (place.Tail false log) o)) e
-            ∙ ap (λ (o : Option ℕ). Ok (standing (place.Tail false log) w (record d { grant = made o }) k.set)) e;
+        reading = places_of_reading (place.Tail false log) w d' k.set;
+        step = ap (λ (o : Option ℕ). reading_step env r (Word group) (step_known (record w { place = place.Group log }) at (place.Tail false log) o)) e
+            ∙ ap (λ (o : Option ℕ). Ok (places_of_reading (place.Tail false log) w (record d { grant = made o }) k.set)) e;
         holds = stands w d' (tailed-grant (Some (record { user = user; group = None })) (made (Some u)) (Some (record { user = user; group = Some u })) l w d (ap (option_map (with_group (Some u))) h.grant_is) h);
       }
 
   step-no_user : (log : Bool) (g : Option Grant) (l : Bool) → Step1 env (AtTail k f a (place.Grant log) g l) Colon (AtTail k f a (place.Group log) (Some (record { user = None; group = None })) l)
   step-no_user log g l at r (stands w d h) =
       let none : Option Grant = Some (record { user = None; group = None }) in
-      record { reading = standing (place.Group log) w (record d { grant = none }) k.set; step = refl; holds = stands w (record d { grant = none }) (tailed-grant g none none l w d refl h) }
+      record { reading = places_of_reading (place.Group log) w (record d { grant = none }) k.set; step = refl; holds = stands w (record d { grant = none }) (tailed-grant g none none l w d refl h) }
 
   user-alike : (s : Symbol) (g : Option Grant) (log l : Bool) → is_colon s ≡ false → (r : Reading) → AtTail k f a (place.User log) g l r → Alike env r s (AtTail k f a (place.Tail false log) g l)
-  user-alike s g log l e r (stands w d h) = record { other = standing (place.Tail false log) w d k.set; holds = stands w d h; same = λ at. user-tail env w d k.set at log s e }
+  user-alike s g log l e r (stands w d h) = record { other = places_of_reading (place.Tail false log) w d k.set; holds = stands w d h; same = λ at. user-tail env w d k.set at log s e }
 
   denial-alike : (s : Symbol) → is_open_bracket s ≡ false → (r : Reading) → AtTail k f a place.Denial None false r → Alike env r s (AtTail k f a (place.Tail false true) None false)
-  denial-alike s e r (stands w d h) = record { other = standing (place.Tail false true) w d k.set; holds = stands w d h; same = λ at. denial-tail env w d k.set at s e }
+  denial-alike s e r (stands w d h) = record { other = places_of_reading (place.Tail false true) w d k.set; holds = stands w d h; same = λ at. denial-tail env w d k.set at s e }
 
   -- ids, and what follows them
   passes-grant : (Q : Reading → Type 0) (log l : Bool) (g : Option Grant) {ts : List Symbol} {x : Grant} → IsGrant env ts x → (us : List Symbol) → Opening us → Passes env (AtTail k f a (place.Tail false log) (Some x) l) us Q →
@@ -167,7 +167,7 @@ module _ (env : Env) (k : Kept) (f : Formula) (a : Action) where
 -- ---- actions
 
 -- an expression has been read, and no action yet
-pub record IsFormula (k : Kept) (f : Formula) (w : Walk) (d : Draft) : Type 0 where
+pub record IsFormula (k : Kept) (f : Formula) (w : GrammarState) (d : Draft) : Type 0 where
   pub fresh : IsFresh k w d
   pub formula_is : d.expression.formula ≡ f
 
@@ -180,39 +180,39 @@ abbrev pub AtAction : Kept → Formula → Bool → Reading → Type 0
 AtAction k f b = At (action_place b) k.set (IsFormula k f)
 
 module _ (env : Env) (k : Kept) (f : Formula) where
-  acted : (a x : Action) → a ≡ x → (w : Walk) (d : Draft) → IsFormula k f w d → IsTailed k f x None false w (record d { action = a })
+  acted : (a x : Action) → a ≡ x → (w : GrammarState) (d : Draft) → IsFormula k f w d → IsTailed k f x None false w (record d { action = a })
   acted a x e w d h = record { name_is = h.fresh.name_is; filters_are = h.fresh.filters_are; formula_is = h.formula_is; action_is = e; grant_is = h.fresh.no_grant; log_is = h.fresh.no_log; no_predicate = h.fresh.no_predicate }
 
   step-permit : (b : Bool) → Step1 env (AtAction k f b) (Word (codes "permit")) (AtTail k f Permit (place.Tail true true) None false)
-  step-permit true at r (stands w d h) = record { reading = standing (place.Tail true true) w (record d { action = Permit }) k.set; step = refl; holds = stands w (record d { action = Permit }) (acted Permit Permit refl w d h) }
-  step-permit false at r (stands w d h) = record { reading = standing (place.Tail true true) w (record d { action = Permit }) k.set; step = refl; holds = stands w (record d { action = Permit }) (acted Permit Permit refl w d h) }
+  step-permit true at r (stands w d h) = record { reading = places_of_reading (place.Tail true true) w (record d { action = Permit }) k.set; step = refl; holds = stands w (record d { action = Permit }) (acted Permit Permit refl w d h) }
+  step-permit false at r (stands w d h) = record { reading = places_of_reading (place.Tail true true) w (record d { action = Permit }) k.set; step = refl; holds = stands w (record d { action = Permit }) (acted Permit Permit refl w d h) }
 
   step-deny : (b : Bool) → Step1 env (AtAction k f b) (Word (codes "deny")) (AtTail k f (Deny EPERM) place.Denial None false)
-  step-deny true at r (stands w d h) = record { reading = standing place.Denial w (record d { action = Deny EPERM }) k.set; step = refl; holds = stands w (record d { action = Deny EPERM }) (acted (Deny EPERM) (Deny EPERM) refl w d h) }
-  step-deny false at r (stands w d h) = record { reading = standing place.Denial w (record d { action = Deny EPERM }) k.set; step = refl; holds = stands w (record d { action = Deny EPERM }) (acted (Deny EPERM) (Deny EPERM) refl w d h) }
+  step-deny true at r (stands w d h) = record { reading = places_of_reading place.Denial w (record d { action = Deny EPERM }) k.set; step = refl; holds = stands w (record d { action = Deny EPERM }) (acted (Deny EPERM) (Deny EPERM) refl w d h) }
+  step-deny false at r (stands w d h) = record { reading = places_of_reading place.Denial w (record d { action = Deny EPERM }) k.set; step = refl; holds = stands w (record d { action = Deny EPERM }) (acted (Deny EPERM) (Deny EPERM) refl w d h) }
 
   step-ask : (b : Bool) → env.learn ≡ false → Step1 env (AtAction k f b) (Word (codes "ask")) (AtTail k f Ask (place.Tail false true) None false)
   step-ask true e at r (stands w d h) = record {
-    reading = standing (place.Tail false true) w (record d { action = Ask }) k.set;
-    step = step-unless env (standing place.Action w d k.set) (Word (codes "ask")) env.learn (Err (AskWithLearn at)) (Ok (record w { place = place.Tail false true })) e;
+    reading = places_of_reading (place.Tail false true) w (record d { action = Ask }) k.set;
+    step = step-unless env (places_of_reading place.Action w d k.set) (Word (codes "ask")) env.learn (Err (AskWithLearn at)) (Ok (record w { place = place.Tail false true })) e;
     holds = stands w (record d { action = Ask }) (acted Ask Ask refl w d h);
   }
   step-ask false e at r (stands w d h) = record {
-    reading = standing (place.Tail false true) w (record d { action = Ask }) k.set;
-    step = step-unless env (standing place.Clause w d k.set) (Word (codes "ask")) env.learn (Err (AskWithLearn at)) (Ok (record w { place = place.Tail false true })) e;
+    reading = places_of_reading (place.Tail false true) w (record d { action = Ask }) k.set;
+    step = step-unless env (places_of_reading place.Clause w d k.set) (Word (codes "ask")) env.learn (Err (AskWithLearn at)) (Ok (record w { place = place.Tail false true })) e;
     holds = stands w (record d { action = Ask }) (acted Ask Ask refl w d h);
   }
 
-  retailed : (a x y : Action) → x ≡ y → (w : Walk) (d : Draft) → IsTailed k f a None false w d → IsTailed k f y None false w (record d { action = x })
+  retailed : (a x y : Action) → x ≡ y → (w : GrammarState) (d : Draft) → IsTailed k f a None false w d → IsTailed k f y None false w (record d { action = x })
   retailed a x y e w d h = record { name_is = h.name_is; filters_are = h.filters_are; formula_is = h.formula_is; action_is = e; grant_is = h.grant_is; log_is = h.log_is; no_predicate = h.no_predicate }
 
   step-errno : (a : Action) (word : List ℕ) (errno : Errno) → error_named word ≡ Some errno → Step1 env (AtTail k f a place.Error None false) (Word word) (AtTail k f (Deny errno) place.ErrorEnd None false)
   step-errno a word errno e at r (stands w d h) =
-      let r : Reading = standing place.Error w d k.set in
+      let r : Reading = places_of_reading place.Error w d k.set in
       let made : Option Errno → Action = λ o. Deny (unwrap_or o EPERM) in
       record {
-        reading = standing place.ErrorEnd w (record d { action = made (error_named word) }) k.set;
-        step = ap (λ (o : Option Errno). stepped env r (Word word) (step_errno (record w { place = place.Error }) at o)) e;
+        reading = places_of_reading place.ErrorEnd w (record d { action = made (error_named word) }) k.set;
+        step = ap (λ (o : Option Errno). reading_step env r (Word word) (step_errno (record w { place = place.Error }) at o)) e;
         holds = stands w (record d { action = made (error_named word) }) (retailed a (made (error_named word)) (Deny errno) (ap made e) w d h);
       }
 

@@ -6,26 +6,28 @@ use Rattle.st_base.specs.declared.errno.Errno.TheVariants.{EPERM}
 use Rattle.st_base.specs.Errno.{error_named}
 use Rattle.st_lex.specs.Unquote.{unquoted}
 use Rattle.st_policy.specs.declared.env.Env.{Env}
-use Rattle.st_policy.specs.declared.filter.Action.{Action}
-use Rattle.st_policy.specs.declared.filter.Action.TheVariants.{Permit, Deny}
-use Rattle.st_policy.specs.declared.filter.Cmp.{Cmp}
-use Rattle.st_policy.specs.declared.filter.FilterName.{FilterName}
-use Rattle.st_policy.specs.declared.filter.Grant.{Grant}
-use Rattle.st_policy.specs.declared.filter.Op.{Op}
-use Rattle.st_policy.specs.declared.filter.Predicate.{Predicate}
-use Rattle.st_policy.specs.declared.filter.Who.{Who}
+use Rattle.st_filter.specs.declared.filter.Action.{Action}
+use Rattle.st_filter.specs.declared.filter.Action.TheVariants.{Permit, Deny}
+use Rattle.st_filter.specs.declared.filter.Cmp.{Cmp}
+use Rattle.st_filter.specs.declared.filter.FilterName.{FilterName}
+use Rattle.st_filter.specs.declared.filter.Grant.{Grant}
+use Rattle.st_filter.specs.declared.filter.Op.{Op}
+use Rattle.st_filter.specs.declared.filter.Predicate.{Predicate}
+use Rattle.st_filter.specs.declared.filter.Who.{Who}
 use Rattle.st_policy.specs.declared.place.Place.{Place}
 use Rattle.st_policy.specs.declared.place.Place.TheVariants as place
-use Rattle.st_policy.specs.declared.set.BinaryPolicy.{BinaryPolicy}
-use Rattle.st_policy.specs.Diagram.{Walk, Step}
-use Rattle.st_policy.specs.Draft.{Draft, Reading, Reduced, Pending, first_draft, stepped}
-use Rattle.st_policy.specs.Formula.{Formula, Test}
-use Rattle.st_policy.specs.Grammar.{Operand, Spells, IsCondition, IsAction, IsGrant, MayGrant, IsTail, IsPredicate, AreRows, AreNew, who_named, comparison, binary_of, joins, most_joins, most_filters, filters_in}
+use Rattle.st_filter.specs.declared.set.BinaryPolicy.{BinaryPolicy}
+use Rattle.st_policy.specs.Diagram.{GrammarState, StepResult}
+use Rattle.st_policy.specs.Draft.{Draft, Reading, Reduced, PendingOperand, first_draft, reading_step}
+use Rattle.st_filter.specs.Formula.{Formula, Test}
+use Rattle.st_policy.specs.Grammar.{Operand, Spells, IsCondition, IsAction, IsGrant, MayGrant, IsTail, IsPredicate, AreRows, AreNew, who_named, comparison, binary_of, is_join, most_joins}
+use Rattle.st_filter.specs.Policies.{filters_in}
 use Rattle.st_policy.specs.Symbol.{Symbol, Word, Quoted, Colon, Comma, OpenBracket}
-use Rattle.st_policy.specs.Words.{is_label, filter_name, allows, op_named, index_in, id_in}
+use Rattle.st_policy.specs.Words.{is_label, filter_name, may_test, op_named, index_in, id_in}
 use Rattle.st_policy.proofs.Keywords.{same-word}
 use Rattle.st_policy.proofs.Readings.{Read}
 use Rattle.st_policy.proofs.Stacks.{Opens, Ends, groups}
+use Rattle.st_filter.specs.declared.set.TheConstants.{MOST_FILTERS}
 
 -- ---- rows and headers
 
@@ -37,7 +39,7 @@ pub record RowFront (env : Env) (old : List BinaryPolicy) (rows front spelled : 
   pub set_is : set ≡ old ++ policies
   pub new : AreNew old policies
   pub filters_are : filters ≡ filters_in set
-  pub few : filters ≤ most_filters
+  pub few : filters ≤ MOST_FILTERS
 
 -- a header whose binary has been read, and what follows that
 pub record HeaderFront (env : Env) (old : List BinaryPolicy) (rows front more : List Symbol) (filters : ℕ) (set : List BinaryPolicy) : Type 0 where
@@ -50,7 +52,7 @@ pub record HeaderFront (env : Env) (old : List BinaryPolicy) (rows front more : 
   pub set_is : set ≡ old ++ policies ++ record { binary = binary; filters = [] } ∷ []
   pub new : AreNew old (policies ++ record { binary = binary; filters = [] } ∷ [])
   pub filters_are : filters ≡ filters_in set
-  pub few : filters ≤ most_filters
+  pub few : filters ≤ MOST_FILTERS
 
 -- rows of which the last header's policy takes filters
 pub record Behind (env : Env) (old : List BinaryPolicy) (rows : List Symbol) (set : List BinaryPolicy) : Type 0 where
@@ -64,12 +66,12 @@ pub record BelowHeader (env : Env) (old : List BinaryPolicy) (rows front : List 
   pub front_is : front ≡ []
   pub behind : Behind env old rows set
   pub filters_are : filters ≡ filters_in set
-  pub few : filters ≤ most_filters
+  pub few : filters ≤ MOST_FILTERS
 
-pub record NameFront (env : Env) (old : List BinaryPolicy) (rows front : List Symbol) (w : Walk) (d : Draft) (set : List BinaryPolicy) : Type 0 where
+pub record NameFront (env : Env) (old : List BinaryPolicy) (rows front : List Symbol) (w : GrammarState) (d : Draft) (set : List BinaryPolicy) : Type 0 where
   pub behind : Behind env old rows set
   pub filters_are : w.filters ≡ filters_in set + 1
-  pub few : w.filters ≤ most_filters
+  pub few : w.filters ≤ MOST_FILTERS
   pub spelled : List ℕ
   pub front_is : front ≡ Word spelled ∷ []
   pub name_is : filter_name spelled ≡ Some w.name
@@ -83,7 +85,7 @@ pub record NameFront (env : Env) (old : List BinaryPolicy) (rows front : List Sy
 pub record FilterFront (env : Env) (old : List BinaryPolicy) (rows front : List Symbol) (filters : ℕ) (name : FilterName) (set : List BinaryPolicy) (P : List Symbol → Type 0) : Type 0 where
   pub behind : Behind env old rows set
   pub filters_are : filters ≡ filters_in set + 1
-  pub few : filters ≤ most_filters
+  pub few : filters ≤ MOST_FILTERS
   pub spelled : List ℕ
   pub us : List Symbol
   pub front_is : front ≡ Word spelled ∷ Colon ∷ us
@@ -95,25 +97,25 @@ pub record IsPlain (grant : Option Grant) (log : Bool) (predicate : Option Predi
   pub no_log : log ≡ false
   pub no_predicate : predicate ≡ None
 
-pub record IsFirst (w : Walk) (d : Draft) (us : List Symbol) : Type 0 where
+pub record IsFirst (w : GrammarState) (d : Draft) (us : List Symbol) : Type 0 where
   pub none : us ≡ []
   pub first : d ≡ first_draft
   pub no_parens : w.parens ≡ 0
   pub no_joins : w.joins ≡ 0
 
-pub record OperandFront (env : Env) (name : FilterName) (s : List Pending) (parens n : ℕ) (us : List Symbol) : Type 0 where
+pub record OperandFront (env : Env) (name : FilterName) (s : List PendingOperand) (parens n : ℕ) (us : List Symbol) : Type 0 where
   pub opens : Opens env name s us
   pub parens_are : parens ≡ groups s
-  pub joins_are : n ≡ sum_by joins us
+  pub joins_are : n ≡ sum_by is_join us
   pub few : n ≤ most_joins
 
 -- a test that has begun behind what waits for it
-pub record TestFront (env : Env) (name : FilterName) (s : List Pending) (parens n : ℕ) (P : List Symbol → Type 0) (us : List Symbol) : Type 0 where
+pub record TestFront (env : Env) (name : FilterName) (s : List PendingOperand) (parens n : ℕ) (P : List Symbol → Type 0) (us : List Symbol) : Type 0 where
   pub front : List Symbol
   pub begun : List Symbol
   pub parts : us ≡ front ++ begun
   pub operand : OperandFront env name s parens n front
-  pub none : sum_by joins begun ≡ 0
+  pub none : sum_by is_join begun ≡ 0
   pub rest : P begun
 
 -- with an operator and a text it is a test of this argument
@@ -138,12 +140,12 @@ pub record IndexedFront (name : FilterName) (label : List ℕ) (index : ℕ) (be
   pub begun_is : begun ≡ Word label ∷ OpenBracket ∷ Word digits ∷ []
   pub labels : is_label label ≡ true
   pub index_is : index_in digits ≡ Some index
-  pub allowed : allows name label index ≡ true
+  pub allowed : may_test name label index ≡ true
 
 pub record JointFront (env : Env) (name : FilterName) (e : Reduced) (parens n : ℕ) (us : List Symbol) : Type 0 where
   pub ends : Ends env name e us
   pub parens_are : parens ≡ groups e.pending
-  pub joins_are : n ≡ sum_by joins us
+  pub joins_are : n ≡ sum_by is_join us
   pub few : n ≤ most_joins
 
 -- ---- actions and what follows them
@@ -239,23 +241,23 @@ pub record ComparedFront (who : Who) (cmp : Cmp) (begun : List Symbol) : Type 0 
 
 -- ---- all places
 
-abbrev pub Filtered : Env → List BinaryPolicy → List Symbol → List Symbol → Walk → List BinaryPolicy → (List Symbol → Type 0) → Type 0
+abbrev pub Filtered : Env → List BinaryPolicy → List Symbol → List Symbol → GrammarState → List BinaryPolicy → (List Symbol → Type 0) → Type 0
 Filtered env old rows front w set P = FilterFront env old rows front w.filters w.name set P
 
 abbrev pub Plain : Draft → Type 0
 Plain d = IsPlain d.grant d.log d.predicate
 
-abbrev pub Tested : Env → Walk → Draft → (List Symbol → Type 0) → List Symbol → Type 0
+abbrev pub Tested : Env → GrammarState → Draft → (List Symbol → Type 0) → List Symbol → Type 0
 Tested env w d P us = TestFront env w.name d.expression.pending w.parens w.joins P us
 
-abbrev pub Acted : Env → Walk → Draft → (List Symbol → Type 0) → List Symbol → Type 0
+abbrev pub Acted : Env → GrammarState → Draft → (List Symbol → Type 0) → List Symbol → Type 0
 Acted env w d P us = ActedFront env w.name d.expression.formula d.action P us
 
-abbrev pub Tailed : Env → Walk → Draft → (List Symbol → Type 0) → List Symbol → Type 0
+abbrev pub Tailed : Env → GrammarState → Draft → (List Symbol → Type 0) → List Symbol → Type 0
 Tailed env w d P us = ActedFront env w.name d.expression.formula d.action (PredicateFront env w.name d.action d.grant d.log P) us
 
 -- what the symbols of a row so far have spelled
-abbrev pub Facts : Env → List BinaryPolicy → List Symbol → List Symbol → Place → Walk → Draft → List BinaryPolicy → Type 0
+abbrev pub Facts : Env → List BinaryPolicy → List Symbol → List Symbol → Place → GrammarState → Draft → List BinaryPolicy → Type 0
 Facts env old rows front place.Start w d set = RowFront env old rows front [] w.filters set
 Facts env old rows front place.Row w d set = BelowHeader env old rows front w.filters set
 Facts env old rows front place.PolicyColon w d set = RowFront env old rows front (Word (codes "Policy") ∷ []) w.filters set
@@ -289,9 +291,9 @@ Facts env old rows front (place.Id who) w d set = (d.predicate ≡ None) × Filt
 Facts env old rows front place.FilterEnd w d set = Filtered env old rows front w set (Tailed env w d (λ begun. IsPredicate env begun d.predicate))
 
 -- the facts of what is read, unless it is a fault
-abbrev pub Holds : Env → List BinaryPolicy → List Symbol → List Symbol → Read → Type 0
-Holds env old rows front (Ok r) = Facts env old rows front r.walk.place r.walk r.draft r.set
-Holds env old rows front (Err fault) = Unit {0}
+abbrev pub HasFacts : Env → List BinaryPolicy → List Symbol → List Symbol → Read → Type 0
+HasFacts env old rows front (Ok r) = Facts env old rows front r.walk.place r.walk r.draft r.set
+HasFacts env old rows front (Err fault) = Unit {0}
 
 -- ---- steps
 
@@ -302,8 +304,8 @@ by-word P k w p q = by (bytes_eq w k) refl where
   by true e = subst P (sym (same-word w k e)) p
   by false e = q e
 
-pub by-test : (env : Env) (old : List BinaryPolicy) (rows front : List Symbol) (r : Reading) (s : Symbol) (b : Bool) (x y : Step) →
-    (b ≡ true → Holds env old rows front (stepped env r s x)) → (b ≡ false → Holds env old rows front (stepped env r s y)) → Holds env old rows front (stepped env r s (if b then x else y))
+pub by-test : (env : Env) (old : List BinaryPolicy) (rows front : List Symbol) (r : Reading) (s : Symbol) (b : Bool) (x y : StepResult) →
+    (b ≡ true → HasFacts env old rows front (reading_step env r s x)) → (b ≡ false → HasFacts env old rows front (reading_step env r s y)) → HasFacts env old rows front (reading_step env r s (if b then x else y))
 by-test env old rows front r s true x y f g = f refl
 by-test env old rows front r s false x y f g = g refl
 

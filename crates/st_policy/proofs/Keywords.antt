@@ -5,10 +5,10 @@ use Rattle.std.specs.List.{list_any}
 use Rattle.std.proofs.lemmas.Slice.Eq.{bytes_eq-Decides}
 use Rattle.std.proofs.lemmas.Bool.{false_from_ne_true, or_parts, not-true}
 use Rattle.std.proofs.lemmas.List.Sums.{sum_by-append}
-use Rattle.st_policy.specs.declared.filter.Op.{Op}
-use Rattle.st_policy.specs.Grammar.{joins}
+use Rattle.st_filter.specs.declared.filter.Op.{Op}
+use Rattle.st_policy.specs.Grammar.{is_join}
 use Rattle.st_policy.specs.Symbol.{Symbol, Word}
-use Rattle.st_policy.specs.Words.{is_label, reserved, op_named, index_in}
+use Rattle.st_policy.specs.Words.{is_label, reserved_words, op_named, index_in}
 
 pub same-word : (a b : List ℕ) → bytes_eq a b ≡ true → a ≡ b
 same-word a b e = (bytes_eq-Decides a b).0 e
@@ -30,7 +30,7 @@ pub record IsOther (w : List ℕ) : Type 0 where
 -- a label is no reserved word
 pub label-other : (w : List ℕ) → is_label w ≡ true → IsOther w
 label-other w e =
-    let none : list_any (bytes_eq w) reserved ≡ false = not-true (list_any (bytes_eq w) reserved) e in
+    let none : list_any (bytes_eq w) reserved_words ≡ false = not-true (list_any (bytes_eq w) reserved_words) e in
     let a = or_parts (bytes_eq w (codes "not")) _ none in
     let b = or_parts (bytes_eq w (codes "true")) _ a.1 in
     let c = or_parts (bytes_eq w (codes "and")) _ b.1 in
@@ -46,23 +46,23 @@ label-other w e =
 abbrev joins_by : Bool → Bool → Bool → ℕ
 joins_by a b c = if a || (b || c) then 1 else 0
 
-joins-none : (w : List ℕ) → bytes_eq w (codes "not") ≡ false → bytes_eq w (codes "and") ≡ false → bytes_eq w (codes "or") ≡ false → joins (Word w) ≡ 0
+joins-none : (w : List ℕ) → bytes_eq w (codes "not") ≡ false → bytes_eq w (codes "and") ≡ false → bytes_eq w (codes "or") ≡ false → is_join (Word w) ≡ 0
 joins-none w a b c =
     ap (λ (x : Bool). joins_by x (bytes_eq w (codes "and")) (bytes_eq w (codes "or"))) a
     ∙ ap (λ (x : Bool). joins_by false x (bytes_eq w (codes "or"))) b
     ∙ ap (λ (x : Bool). joins_by false false x) c
 
-pub joins-label : (w : List ℕ) → is_label w ≡ true → joins (Word w) ≡ 0
+pub joins-label : (w : List ℕ) → is_label w ≡ true → is_join (Word w) ≡ 0
 joins-label w e = let o : IsOther w = label-other w e in joins-none w o.no_not o.no_and o.no_or
 
-pub joins-op : (w : List ℕ) (o : Op) → op_named w ≡ Some o → joins (Word w) ≡ 0
+pub joins-op : (w : List ℕ) (o : Op) → op_named w ≡ Some o → is_join (Word w) ≡ 0
 joins-op w o e = joins-none w (not-keyword op_named w (codes "not") o refl e) (not-keyword op_named w (codes "and") o refl e) (not-keyword op_named w (codes "or") o refl e)
 
-pub joins-index : (w : List ℕ) (n : ℕ) → index_in w ≡ Some n → joins (Word w) ≡ 0
+pub joins-index : (w : List ℕ) (n : ℕ) → index_in w ≡ Some n → is_join (Word w) ≡ 0
 joins-index w n e = joins-none w (not-keyword index_in w (codes "not") n refl e) (not-keyword index_in w (codes "and") n refl e) (not-keyword index_in w (codes "or") n refl e)
 
-pub joins-append : (ts us : List Symbol) → sum_by joins (ts ++ us) ≡ sum_by joins ts + sum_by joins us
-joins-append ts us = sum_by-append joins ts us
+pub joins-append : (ts us : List Symbol) → sum_by is_join (ts ++ us) ≡ sum_by is_join ts + sum_by is_join us
+joins-append ts us = sum_by-append is_join ts us
 
-pub joins-first : (s : Symbol) (ts : List Symbol) → sum_by joins (s ∷ ts) ≡ joins s + sum_by joins ts
-joins-first s ts = let one : sum_by joins (s ∷ []) ≡ joins s = omega arith in sum_by-append joins (s ∷ []) ts ∙ ap (λ (n : ℕ). n + sum_by joins ts) one
+pub joins-first : (s : Symbol) (ts : List Symbol) → sum_by is_join (s ∷ ts) ≡ is_join s + sum_by is_join ts
+joins-first s ts = let one : sum_by is_join (s ∷ []) ≡ is_join s = omega arith in sum_by-append is_join (s ∷ []) ts ∙ ap (λ (n : ℕ). n + sum_by is_join ts) one

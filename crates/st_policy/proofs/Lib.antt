@@ -6,8 +6,6 @@ pub mod Canon
 pub mod Canons
 pub mod Clauses
 pub mod Complete
-pub mod Counts
-pub mod Entries
 pub mod Examples
 pub mod Expressions
 pub mod FaultPlaces
@@ -40,3 +38,4 @@ pub mod Symbols
 pub mod TailsKept
 pub mod Texts
 pub mod WaysOn
+pub mod Indices

@@ -8,8 +8,8 @@ use Rattle.st_calls.specs.declared.rule.Rule.{Rule}
 use Rattle.st_calls.specs.declared.rule.Rule.TheVariants.{Call, FsRead, FsWrite}
 use Rattle.st_calls.specs.Call.{rule_named}
 use Rattle.st_lex.specs.Pieces.{is_word_text}
-use Rattle.st_policy.specs.declared.filter.FilterName.{FilterName}
-use Rattle.st_policy.specs.declared.filter.FilterName.TheVariants as name
+use Rattle.st_filter.specs.declared.filter.FilterName.{FilterName}
+use Rattle.st_filter.specs.declared.filter.FilterName.TheVariants as name
 use Rattle.st_policy.specs.Words.{is_name_byte, if_name, native_name, name_by, filter_name}
 use Rattle.st_policy.specs.Canon.{call_word}
 

@@ -1,5 +1,6 @@
 -- Numbers in decimal digits are read back: as indexes, and as ids.
 use Rattle.std.proofs.Common.{◌≡◌, ℕ, ◌+◌, ◌-◌, ◌^◌, ◌<◌, Bool, true, false, cond, ◌&&◌, nat_eq, nat_lt, List, [], ◌∷◌, decimal, Option, Some, None, option_and_then, refl, ap, sym, ◌∙◌, arith, lt-ltb, ltb-true, leb-true, nat_le, ◌≤◌, find, option_map}
+use Rattle.std.proofs.lemmas.Bool.{and_parts}
 use Rattle.std.specs.List.{AllByRecursion}
 use Rattle.std.specs.Str.Parse.{AllDigits, digits_value}
 use Rattle.std.proofs.lemmas.List.Elements.{recursion_from_All}
@@ -57,10 +58,6 @@ small (Some n) index e = small_by (nat_lt n (2 ^ 32)) n index (ltb-true n (2 ^ 3
 pub index_in-small : (digits : List ℕ) (index : ℕ) → index_in digits ≡ Some index → index < 2 ^ 32
 index_in-small digits index e = small (number_in digits) index e
 
-second : (a b : Bool) → (a && b) ≡ true → b ≡ true
-second true b e = e
-second false b e = absurd (cc)
-
 found_by : (b : Bool) (row : NamedId) (o : Option NamedId) (id : ℕ) → row.id < 2 ^ 32 → (option_map (λ row. row.id) o ≡ Some id → id < 2 ^ 32) → option_map (λ row. row.id) (cond b (Some row) o) ≡ Some id → id < 2 ^ 32
 found_by true row o id h others e = let same : row.id ≡ id = cc in omega (arith, same, h)
 found_by false row o id h others e = others e
@@ -74,7 +71,7 @@ id_by-small rows word (Some n) id small e is =
     let value : ℕ = digits_value 10 word in
     let same : n ≡ id = cc in
     let all : Bool = is_numeral 10 word && nat_le value (2 ^ 32 - 1) in
-    let fits : all ≡ true → value < 2 ^ 32 = λ t. let l : value ≤ 2 ^ 32 - 1 = leb-true value (2 ^ 32 - 1) (second (is_numeral 10 word) (nat_le value (2 ^ 32 - 1)) t) in omega (arith, l) in
+    let fits : all ≡ true → value < 2 ^ 32 = λ t. let l : value ≤ 2 ^ 32 - 1 = leb-true value (2 ^ 32 - 1) (and_parts (is_numeral 10 word) (nat_le value (2 ^ 32 - 1)) t).1 in omega (arith, l) in
     let l : n < 2 ^ 32 = small_by all value n fits e in
     omega (arith, same, l)
 id_by-small rows word None id small e is = found rows word id (recursion_from_All (λ row. row.id < 2 ^ 32) rows small) is

@@ -3,22 +3,22 @@ use Rattle.std.proofs.Common.{◌≡◌, ℕ, Bool, false, List, [], ◌∷◌, 
 use Rattle.std.specs.Str.{bytes_eq}
 use Rattle.st_policy.specs.declared.env.Env.{Env}
 use Rattle.st_policy.specs.declared.fault.PolicyFault.TheVariants.{Expected}
-use Rattle.st_policy.specs.declared.filter.Action.{Action}
-use Rattle.st_policy.specs.declared.filter.Cmp.{Cmp}
-use Rattle.st_policy.specs.declared.filter.Cmp.TheVariants as cmp
-use Rattle.st_policy.specs.declared.filter.FilterName.{FilterName}
-use Rattle.st_policy.specs.declared.filter.Grant.{Grant}
-use Rattle.st_policy.specs.declared.filter.Predicate.{Predicate}
-use Rattle.st_policy.specs.declared.filter.Who.{Who}
+use Rattle.st_filter.specs.declared.filter.Action.{Action}
+use Rattle.st_filter.specs.declared.filter.Cmp.{Cmp}
+use Rattle.st_filter.specs.declared.filter.Cmp.TheVariants as cmp
+use Rattle.st_filter.specs.declared.filter.FilterName.{FilterName}
+use Rattle.st_filter.specs.declared.filter.Grant.{Grant}
+use Rattle.st_filter.specs.declared.filter.Predicate.{Predicate}
+use Rattle.st_filter.specs.declared.filter.Who.{Who}
 use Rattle.st_policy.specs.declared.place.Place.TheVariants as place
-use Rattle.st_policy.specs.declared.set.BinaryPolicy.{BinaryPolicy}
-use Rattle.st_policy.specs.Diagram.{Walk, is_line, step_who, step_known}
-use Rattle.st_policy.specs.Draft.{Draft, stepped, read_step, filter_of}
+use Rattle.st_filter.specs.declared.set.BinaryPolicy.{BinaryPolicy}
+use Rattle.st_policy.specs.Diagram.{GrammarState, is_line, step_who, step_known}
+use Rattle.st_policy.specs.Draft.{Draft, reading_step, read_step, filter_of}
 use Rattle.st_policy.specs.Grammar.{IsPredicate, Whoever, If, IsFilter, who_named, comparison}
 use Rattle.st_policy.specs.Symbol.{Symbol, Word, Colon, Comma, Equal, NotEqual, Less, Greater, Line}
 use Rattle.st_policy.specs.Words.{id_in, names_for}
-use Rattle.st_policy.proofs.Readings.{Read, standing}
-use Rattle.st_policy.proofs.Fronts.{Filtered, ActedFront, Tailed, PredicateFront, TailFront, WhoFront, ComparedFront, Facts, Holds, by-word, filter-more}
+use Rattle.st_policy.proofs.Readings.{Read, places_of_reading}
+use Rattle.st_policy.proofs.Fronts.{Filtered, ActedFront, Tailed, PredicateFront, TailFront, WhoFront, ComparedFront, Facts, HasFacts, by-word, filter-more}
 use Rattle.st_policy.proofs.ActionsKept.{by-some}
 use Rattle.st_policy.proofs.TailsKept.{acted-more}
 
@@ -34,35 +34,35 @@ predicate-more env name action grant logs P Q us s h f = record {
 }
 
 -- one more symbol of a filter's predicate
-tailed-more : (env : Env) (old : List BinaryPolicy) (rows front : List Symbol) (w : Walk) (d : Draft) (set : List BinaryPolicy) (P Q : List Symbol → Type 0) (s : Symbol) → Filtered env old rows front w set (Tailed env w d P) → ((begun : List Symbol) → P begun → Q (begun ++ s ∷ [])) →
+tailed-more : (env : Env) (old : List BinaryPolicy) (rows front : List Symbol) (w : GrammarState) (d : Draft) (set : List BinaryPolicy) (P Q : List Symbol → Type 0) (s : Symbol) → Filtered env old rows front w set (Tailed env w d P) → ((begun : List Symbol) → P begun → Q (begun ++ s ∷ [])) →
     Filtered env old rows (front ++ s ∷ []) w set (Tailed env w d Q)
 tailed-more env old rows front w d set P Q s h f =
     filter-more env old rows front w.filters w.name set (Tailed env w d P) (Tailed env w d Q) s h (λ us t.
     acted-more env w.name d.expression.formula d.action (PredicateFront env w.name d.action d.grant d.log P) (PredicateFront env w.name d.action d.grant d.log Q) us s t (λ begun x.
     predicate-more env w.name d.action d.grant d.log P Q begun s x f))
 
-module _ (env : Env) (old : List BinaryPolicy) (rows front : List Symbol) (w : Walk) (d : Draft) (set : List BinaryPolicy) (at : ℕ) where
+module _ (env : Env) (old : List BinaryPolicy) (rows front : List Symbol) (w : GrammarState) (d : Draft) (set : List BinaryPolicy) (at : ℕ) where
   iffed : Facts env old rows front place.If w d set → Facts env old rows (front ++ Word (codes "if") ∷ []) place.Who w d set
   iffed h = (h.0, tailed-more env old rows front w d set (λ begun. begun ≡ Comma ∷ []) (λ begun. begun ≡ Comma ∷ Word (codes "if") ∷ []) (Word (codes "if")) h.1 (λ begun e. ap (λ (ts : List Symbol). ts ++ Word (codes "if") ∷ []) e))
 
-  no_if : (word : List ℕ) → bytes_eq word (codes "if") ≡ false → read_step env (standing place.If w d set) at (Word word) ≡ Err (Expected at)
-  no_if word e = ap (λ (b : Bool). stepped env (standing place.If w d set) (Word word) (if b then Ok (record w { place = place.Who }) else Err (Expected at))) e
+  no_if : (word : List ℕ) → bytes_eq word (codes "if") ≡ false → read_step env (places_of_reading place.If w d set) at (Word word) ≡ Err (Expected at)
+  no_if word e = ap (λ (b : Bool). reading_step env (places_of_reading place.If w d set) (Word word) (if b then Ok (record w { place = place.Who }) else Err (Expected at))) e
 
-  pub kept-if : Facts env old rows front place.If w d set → (s : Symbol) → Holds env old rows (front ++ s ∷ []) (read_step env (standing place.If w d set) at s)
+  pub kept-if : Facts env old rows front place.If w d set → (s : Symbol) → HasFacts env old rows (front ++ s ∷ []) (read_step env (places_of_reading place.If w d set) at s)
   kept-if h (Word word) =
-      let P : List ℕ → Type 0 = λ word. Holds env old rows (front ++ Word word ∷ []) (read_step env (standing place.If w d set) at (Word word)) in
-      by-word P (codes "if") word (iffed h) (λ e. subst (λ (x : Read). Holds env old rows (front ++ Word word ∷ []) x) (sym (no_if word e)) tt)
+      let P : List ℕ → Type 0 = λ word. HasFacts env old rows (front ++ Word word ∷ []) (read_step env (places_of_reading place.If w d set) at (Word word)) in
+      by-word P (codes "if") word (iffed h) (λ e. subst (λ (x : Read). HasFacts env old rows (front ++ Word word ∷ []) x) (sym (no_if word e)) tt)
   kept-if h s = tt
 
-  pub kept-who : Facts env old rows front place.Who w d set → (s : Symbol) → Holds env old rows (front ++ s ∷ []) (read_step env (standing place.Who w d set) at s)
-  kept-who h (Word word) = by-some env old rows (front ++ Word word ∷ []) (λ o. stepped env (standing place.Who w d set) (Word word) (step_who (record w { place = place.Who }) at o)) (who_named word)
+  pub kept-who : Facts env old rows front place.Who w d set → (s : Symbol) → HasFacts env old rows (front ++ s ∷ []) (read_step env (places_of_reading place.Who w d set) at s)
+  kept-who h (Word word) = by-some env old rows (front ++ Word word ∷ []) (λ o. reading_step env (places_of_reading place.Who w d set) (Word word) (step_who (record w { place = place.Who }) at o)) (who_named word)
       (λ who e. (h.0, tailed-more env old rows front w d set (λ begun. begun ≡ Comma ∷ Word (codes "if") ∷ []) (WhoFront who) (Word word) h.1 (λ begun b. record { word = word; begun_is = ap (λ (ts : List Symbol). ts ++ Word word ∷ []) b; who_is = e }))) tt
   kept-who h s = tt
 
   compared : (who : Who) (s : Symbol) (c : Cmp) → comparison s ≡ Some c → Facts env old rows front (place.Comparison who) w d set → Facts env old rows (front ++ s ∷ []) (place.Id who) w (record d { cmp = c }) set
   compared who s c e h = (h.0, tailed-more env old rows front w d set (WhoFront who) (ComparedFront who c) s h.1 (λ begun x. record { word = x.word; symbol = s; begun_is = ap (λ (ts : List Symbol). ts ++ s ∷ []) x.begun_is; who_is = x.who_is; cmp_is = e }))
 
-  pub kept-comparison : (who : Who) → Facts env old rows front (place.Comparison who) w d set → (s : Symbol) → Holds env old rows (front ++ s ∷ []) (read_step env (standing (place.Comparison who) w d set) at s)
+  pub kept-comparison : (who : Who) → Facts env old rows front (place.Comparison who) w d set → (s : Symbol) → HasFacts env old rows (front ++ s ∷ []) (read_step env (places_of_reading (place.Comparison who) w d set) at s)
   kept-comparison who h Equal = compared who Equal cmp.Same refl h
   kept-comparison who h NotEqual = compared who NotEqual cmp.Other refl h
   kept-comparison who h Less = compared who Less cmp.Below refl h
@@ -74,12 +74,12 @@ module _ (env : Env) (old : List BinaryPolicy) (rows front : List Symbol) (w : W
   predicated who word id e h = tailed-more env old rows front w d set (ComparedFront who d.cmp) (λ begun. IsPredicate env begun (Some (record { who = who; cmp = d.cmp; id = id }))) (Word word) h.1 (λ begun x.
       subst (λ (ts : List Symbol). IsPredicate env (ts ++ Word word ∷ []) (Some (record { who = who; cmp = d.cmp; id = id }))) (sym x.begun_is) (If x.who_is x.cmp_is e))
 
-  pub kept-id : (who : Who) → Facts env old rows front (place.Id who) w d set → (s : Symbol) → Holds env old rows (front ++ s ∷ []) (read_step env (standing (place.Id who) w d set) at s)
-  kept-id who h (Word word) = by-some env old rows (front ++ Word word ∷ []) (λ o. stepped env (standing (place.Id who) w d set) (Word word) (step_known (record w { place = place.Id who }) at place.FilterEnd o)) (id_in (names_for env who) word)
+  pub kept-id : (who : Who) → Facts env old rows front (place.Id who) w d set → (s : Symbol) → HasFacts env old rows (front ++ s ∷ []) (read_step env (places_of_reading (place.Id who) w d set) at s)
+  kept-id who h (Word word) = by-some env old rows (front ++ Word word ∷ []) (λ o. reading_step env (places_of_reading (place.Id who) w d set) (Word word) (step_known (record w { place = place.Id who }) at place.FilterEnd o)) (id_in (names_for env who) word)
       (λ id e. subst (λ (o : Option ℕ). Facts env old rows (front ++ Word word ∷ []) place.FilterEnd w (record d { predicate = option_map (λ id. record { who = who; cmp = d.cmp; id = id }) o }) set) (sym e) (predicated who word id e h)) tt
   kept-id who h s = tt
 
-  pub kept-filter_end : (s : Symbol) → is_line s ≡ false → Holds env old rows (front ++ s ∷ []) (read_step env (standing place.FilterEnd w d set) at s)
+  pub kept-filter_end : (s : Symbol) → is_line s ≡ false → HasFacts env old rows (front ++ s ∷ []) (read_step env (places_of_reading place.FilterEnd w d set) at s)
   kept-filter_end Line e = absurd (cc)
   kept-filter_end s e = tt
 

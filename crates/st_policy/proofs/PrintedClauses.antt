@@ -6,19 +6,19 @@ use Rattle.st_lex.specs.Pieces.{Piece, PlainWord, Space, is_word_text, StandApar
 use Rattle.st_lex.proofs.Pieces.{StandWell-append}
 use Rattle.st_lex.proofs.Words.{is_word_text-decimal}
 use Rattle.st_policy.specs.declared.env.Env.{Env}
-use Rattle.st_policy.specs.declared.filter.Action.{Action}
-use Rattle.st_policy.specs.declared.filter.Action.TheVariants.{Permit, Deny, Ask}
-use Rattle.st_policy.specs.declared.filter.Cmp.{Cmp}
-use Rattle.st_policy.specs.declared.filter.Cmp.TheVariants as cmp
-use Rattle.st_policy.specs.declared.filter.FilterName.{FilterName}
-use Rattle.st_policy.specs.declared.filter.Grant.{Grant}
-use Rattle.st_policy.specs.declared.filter.Predicate.{Predicate}
-use Rattle.st_policy.specs.declared.filter.Who.{Who}
-use Rattle.st_policy.specs.declared.filter.Who.TheVariants as who
-use Rattle.st_policy.specs.Formula.{Formula, True}
+use Rattle.st_filter.specs.declared.filter.Action.{Action}
+use Rattle.st_filter.specs.declared.filter.Action.TheVariants.{Permit, Deny, Ask}
+use Rattle.st_filter.specs.declared.filter.Cmp.{Cmp}
+use Rattle.st_filter.specs.declared.filter.Cmp.TheVariants as cmp
+use Rattle.st_filter.specs.declared.filter.FilterName.{FilterName}
+use Rattle.st_filter.specs.declared.filter.Grant.{Grant}
+use Rattle.st_filter.specs.declared.filter.Predicate.{Predicate}
+use Rattle.st_filter.specs.declared.filter.Who.{Who}
+use Rattle.st_filter.specs.declared.filter.Who.TheVariants as who
+use Rattle.st_filter.specs.Formula.{Formula, True}
 use Rattle.st_policy.specs.Symbol.{Symbol, Word}
 use Rattle.st_policy.specs.Words.{names_for}
-use Rattle.st_policy.specs.Grammar.{joins, most_joins, IsCondition, Short, Then, IsAction, Permits, Denies, DeniesWith, Asks, IsGrant, OfUser, OfBoth, OfGroup, MayGrant, IsTail, Plain, Logs, Grants, GrantsAndLogs, LogsAndGrants, who_named, IsPredicate, Whoever, If}
+use Rattle.st_policy.specs.Grammar.{is_join, most_joins, IsCondition, Short, Then, IsAction, Permits, Denies, DeniesWith, Asks, IsGrant, OfUser, OfBoth, OfGroup, MayGrant, IsTail, Plain, Logs, Grants, GrantsAndLogs, LogsAndGrants, who_named, IsPredicate, Whoever, If}
 use Rattle.st_policy.specs.Canon.{expression_pieces, condition_pieces, deny_pieces, action_pieces, user_pieces, group_pieces, grant_pieces, log_pieces, word_of_who, cmp_piece, predicate_pieces}
 use Rattle.st_policy.specs.Readable.{AreSmallIds, HasSmallIds}
 use Rattle.st_policy.proofs.PrintedExpressions.{IsReadableFormula, readable_formula, spells_expression, well_expression}
@@ -30,7 +30,7 @@ use Rattle.st_policy.proofs.Symbols.{piece_symbols, piece_symbols-append, ArePri
 
 pub record IsReadableCondition (name : FilterName) (f : Formula) : Type 0 where
   pub formula : IsReadableFormula name f
-  pub few : sum_by joins (piece_symbols (expression_pieces f)) ≤ most_joins
+  pub few : sum_by is_join (piece_symbols (expression_pieces f)) ≤ most_joins
 
 pub readable_condition : (env : Env) (name : FilterName) {ts : List Symbol} {f : Formula} → IsCondition env name ts f → ArePrintable env ts → IsReadableCondition name f
 readable_condition env name Short p = record { formula = tt; few = omega arith }

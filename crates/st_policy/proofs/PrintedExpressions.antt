@@ -8,14 +8,14 @@ use Rattle.st_lex.proofs.Pieces.{StandWell-append}
 use Rattle.st_lex.proofs.Unquotes.{unquoted-quoted}
 use Rattle.st_lex.proofs.Words.{is_word_text-decimal}
 use Rattle.st_policy.specs.declared.env.Env.{Env}
-use Rattle.st_policy.specs.declared.filter.FilterName.{FilterName}
-use Rattle.st_policy.specs.declared.filter.Op.{Op}
-use Rattle.st_policy.specs.declared.filter.Op.TheVariants as op
-use Rattle.st_policy.specs.Formula.{Formula, True, Test, Not, And, Or}
+use Rattle.st_filter.specs.declared.filter.FilterName.{FilterName}
+use Rattle.st_filter.specs.declared.filter.Op.{Op}
+use Rattle.st_filter.specs.declared.filter.Op.TheVariants as op
+use Rattle.st_filter.specs.Formula.{Formula, True, Test, Not, And, Or}
 use Rattle.st_policy.specs.Symbol.{Symbol, Word, Quoted, Open, Close, OpenBracket, CloseBracket}
-use Rattle.st_policy.specs.Words.{is_label, allows, op_named}
-use Rattle.st_policy.specs.Grammar.{Level, Operand, Conjunction, Disjunction, Spells, Always, First, Indexed, Negated, Grouped, OneOperand, Both, OneConjunction, Either, joins}
-use Rattle.st_policy.specs.Canon.{word_of_op, fits, in_parens, expression_pieces}
+use Rattle.st_policy.specs.Words.{is_label, may_test, op_named}
+use Rattle.st_policy.specs.Grammar.{Level, Operand, Conjunction, Disjunction, Spells, Always, First, Indexed, Negated, Grouped, OneOperand, Both, OneConjunction, Either, is_join}
+use Rattle.st_policy.specs.Canon.{word_of_op, needs_no_parens, in_parens, expression_pieces}
 use Rattle.st_policy.proofs.Numbers.{index_in-decimal, index_in-small}
 use Rattle.st_policy.proofs.Symbols.{piece_symbols, piece_symbols-append, ArePrintable, ArePrintable-parts}
 
@@ -23,7 +23,7 @@ use Rattle.st_policy.proofs.Symbols.{piece_symbols, piece_symbols-append, ArePri
 abbrev pub IsReadableFormula : FilterName → Formula → Type 0
 IsReadableFormula name True = Unit {0}
 IsReadableFormula name (Test label index op text) =
-    (is_word_text label ≡ true) × (is_label label ≡ true) × (allows name label index ≡ true) × (index < 2 ^ 32) × AreBytes text
+    (is_word_text label ≡ true) × (is_label label ≡ true) × (may_test name label index ≡ true) × (index < 2 ^ 32) × AreBytes text
 IsReadableFormula name (Not f) = IsReadableFormula name f
 IsReadableFormula name (And f g) = IsReadableFormula name f × IsReadableFormula name g
 IsReadableFormula name (Or f g) = IsReadableFormula name f × IsReadableFormula name g
@@ -38,13 +38,13 @@ with_parens false n = 1 + n
 abbrev pub joins_in : Formula → ℕ
 joins_in True = 0
 joins_in (Test label index op text) = 0
-joins_in (Not f) = 1 + with_parens (fits Operand f) (joins_in f)
-joins_in (And f g) = with_parens (fits Conjunction f) (joins_in f) + (1 + with_parens (fits Operand g) (joins_in g))
-joins_in (Or f g) = with_parens (fits Disjunction f) (joins_in f) + (1 + with_parens (fits Conjunction g) (joins_in g))
+joins_in (Not f) = 1 + with_parens (needs_no_parens Operand f) (joins_in f)
+joins_in (And f g) = with_parens (needs_no_parens Conjunction f) (joins_in f) + (1 + with_parens (needs_no_parens Operand g) (joins_in g))
+joins_in (Or f g) = with_parens (needs_no_parens Disjunction f) (joins_in f) + (1 + with_parens (needs_no_parens Conjunction g) (joins_in g))
 
 -- those of one that stands at a level
 abbrev pub joins_at : Level → Formula → ℕ
-joins_at level f = with_parens (fits level f) (joins_in f)
+joins_at level f = with_parens (needs_no_parens level f) (joins_in f)
 
 joins_at-Conjunction : (f : Formula) → joins_at Conjunction f ≤ joins_at Operand f
 joins_at-Conjunction True = omega arith
@@ -68,7 +68,7 @@ joins_at-parens (Not f) = omega arith
 joins_at-parens (And f g) = omega arith
 joins_at-parens (Or f g) = omega arith
 
-fits_all : (f : Formula) → fits Disjunction f ≡ true
+fits_all : (f : Formula) → needs_no_parens Disjunction f ≡ true
 fits_all True = refl
 fits_all (Test label index op text) = refl
 fits_all (Not f) = refl
@@ -82,17 +82,17 @@ joins_at-all (Not f) = refl
 joins_at-all (And f g) = refl
 joins_at-all (Or f g) = refl
 
-pub sum-first : (s : Symbol) (ts : List Symbol) → sum_by joins (s ∷ ts) ≡ joins s + sum_by joins ts
-sum-first s ts = let e : sum_by joins (s ∷ ts) ≡ sum_by joins (s ∷ []) + sum_by joins ts = sum_by-append joins (s ∷ []) ts in omega (arith, e)
+pub sum-first : (s : Symbol) (ts : List Symbol) → sum_by is_join (s ∷ ts) ≡ is_join s + sum_by is_join ts
+sum-first s ts = let e : sum_by is_join (s ∷ ts) ≡ sum_by is_join (s ∷ []) + sum_by is_join ts = sum_by-append is_join (s ∷ []) ts in omega (arith, e)
 
-pub sum-joined : (ts us : List Symbol) (s : Symbol) → sum_by joins (ts ++ s ∷ us) ≡ sum_by joins ts + (joins s + sum_by joins us)
-sum-joined ts us s = omega (arith, sum_by-append joins ts (s ∷ us), sum-first s us)
+pub sum-joined : (ts us : List Symbol) (s : Symbol) → sum_by is_join (ts ++ s ∷ us) ≡ sum_by is_join ts + (is_join s + sum_by is_join us)
+sum-joined ts us s = omega (arith, sum_by-append is_join ts (s ∷ us), sum-first s us)
 
-pub sum-parens : (ts : List Symbol) → sum_by joins (Open ∷ ts ++ Close ∷ []) ≡ 1 + sum_by joins ts
-sum-parens ts = omega (arith, sum-first Open (ts ++ Close ∷ []), sum_by-append joins ts (Close ∷ []))
+pub sum-parens : (ts : List Symbol) → sum_by is_join (Open ∷ ts ++ Close ∷ []) ≡ 1 + sum_by is_join ts
+sum-parens ts = omega (arith, sum-first Open (ts ++ Close ∷ []), sum_by-append is_join ts (Close ∷ []))
 
 -- the canonical expression has no more joins than what it was read from
-pub fewest_joins : (env : Env) (name : FilterName) {level : Level} {ts : List Symbol} {f : Formula} → Spells env name level ts f → joins_at level f ≤ sum_by joins ts
+pub fewest_joins : (env : Env) (name : FilterName) {level : Level} {ts : List Symbol} {f : Formula} → Spells env name level ts f → joins_at level f ≤ sum_by is_join ts
 fewest_joins env name Always = omega arith
 fewest_joins env name (First label allowed op) = omega arith
 fewest_joins env name (Indexed label index allowed op) = omega arith
@@ -148,7 +148,7 @@ spells_test : (env : Env) (name : FilterName) (label : List ℕ) (index : ℕ) (
 spells_test env name label index o text true e r =
     let first : index ≡ 0 = eqb-true index 0 e in
     let symbols : List Symbol = Word label ∷ Word (word_of_op o) ∷ Quoted (quoted text) ∷ [] in
-    let allowed : allows name label 0 ≡ true = subst (λ (n : ℕ). allows name label n ≡ true) first r.2 in
+    let allowed : may_test name label 0 ≡ true = subst (λ (n : ℕ). may_test name label n ≡ true) first r.2 in
     subst (λ (n : ℕ). Spells env name Operand symbols (Test label n o text)) (sym first)
     (subst (λ (t : List ℕ). Spells env name Operand symbols (Test label 0 o t)) (unquoted-quoted env.dollars text r.4)
     (First r.1 allowed (op_named-word o)))
@@ -178,7 +178,7 @@ in_group env name ps f s =
     subst (λ (ts : List Symbol). Spells env name Operand (Open ∷ ts) f) (sym (piece_symbols-append ps (Sign kind.Close ∷ []))) (Grouped s)
 
 -- with the parentheses that it needs there, an expression stands at any level
-spells_at : (env : Env) (name : FilterName) (ps : List Piece) (level : Level) (f : Formula) → Spells env name (own_level f) (piece_symbols ps) f → Spells env name level (piece_symbols (in_parens (fits level f) ps)) f
+spells_at : (env : Env) (name : FilterName) (ps : List Piece) (level : Level) (f : Formula) → Spells env name (own_level f) (piece_symbols ps) f → Spells env name level (piece_symbols (in_parens (needs_no_parens level f) ps)) f
 spells_at env name ps Operand True s = s
 spells_at env name ps Operand (Test label index o text) s = s
 spells_at env name ps Operand (Not f) s = s
@@ -201,13 +201,13 @@ spells_formula env name True r = Always
 spells_formula env name (Test label index o text) r = spells_test env name label index o text (nat_eq index 0) refl r
 spells_formula env name (Not f) r = Negated (spells_at env name (expression_pieces f) Operand f (spells_formula env name f r))
 spells_formula env name (And f g) r =
-    let left : List Piece = in_parens (fits Conjunction f) (expression_pieces f) in
-    let right : List Piece = in_parens (fits Operand g) (expression_pieces g) in
+    let left : List Piece = in_parens (needs_no_parens Conjunction f) (expression_pieces f) in
+    let right : List Piece = in_parens (needs_no_parens Operand g) (expression_pieces g) in
     subst (λ (ts : List Symbol). Spells env name Conjunction ts (And f g)) (sym (piece_symbols-append left (Space ∷ PlainWord (codes "and") ∷ Space ∷ right)))
     (Both (spells_at env name (expression_pieces f) Conjunction f (spells_formula env name f r.0)) (spells_at env name (expression_pieces g) Operand g (spells_formula env name g r.1)))
 spells_formula env name (Or f g) r =
-    let left : List Piece = in_parens (fits Disjunction f) (expression_pieces f) in
-    let right : List Piece = in_parens (fits Conjunction g) (expression_pieces g) in
+    let left : List Piece = in_parens (needs_no_parens Disjunction f) (expression_pieces f) in
+    let right : List Piece = in_parens (needs_no_parens Conjunction g) (expression_pieces g) in
     subst (λ (ts : List Symbol). Spells env name Disjunction ts (Or f g)) (sym (piece_symbols-append left (Space ∷ PlainWord (codes "or") ∷ Space ∷ right)))
     (Either (spells_at env name (expression_pieces f) Disjunction f (spells_formula env name f r.0)) (spells_at env name (expression_pieces g) Conjunction g (spells_formula env name g r.1)))
 
@@ -228,12 +228,12 @@ well_joined ps qs word is p q = StandWell-append ps (Space ∷ PlainWord word �
 pub well_expression : (name : FilterName) (f : Formula) → IsReadableFormula name f → StandWell (expression_pieces f)
 well_expression name True r = (refl, tt, tt)
 well_expression name (Test label index o text) r = well_test name label index o text (nat_eq index 0) r
-well_expression name (Not f) r = (refl, tt, well_parens (fits Operand f) (expression_pieces f) (well_expression name f r))
+well_expression name (Not f) r = (refl, tt, well_parens (needs_no_parens Operand f) (expression_pieces f) (well_expression name f r))
 well_expression name (And f g) r =
-    well_joined (in_parens (fits Conjunction f) (expression_pieces f)) (in_parens (fits Operand g) (expression_pieces g)) (codes "and") refl
-    (well_parens (fits Conjunction f) (expression_pieces f) (well_expression name f r.0))
-    (well_parens (fits Operand g) (expression_pieces g) (well_expression name g r.1))
+    well_joined (in_parens (needs_no_parens Conjunction f) (expression_pieces f)) (in_parens (needs_no_parens Operand g) (expression_pieces g)) (codes "and") refl
+    (well_parens (needs_no_parens Conjunction f) (expression_pieces f) (well_expression name f r.0))
+    (well_parens (needs_no_parens Operand g) (expression_pieces g) (well_expression name g r.1))
 well_expression name (Or f g) r =
-    well_joined (in_parens (fits Disjunction f) (expression_pieces f)) (in_parens (fits Conjunction g) (expression_pieces g)) (codes "or") refl
-    (well_parens (fits Disjunction f) (expression_pieces f) (well_expression name f r.0))
-    (well_parens (fits Conjunction g) (expression_pieces g) (well_expression name g r.1))
+    well_joined (in_parens (needs_no_parens Disjunction f) (expression_pieces f)) (in_parens (needs_no_parens Conjunction g) (expression_pieces g)) (codes "or") refl
+    (well_parens (needs_no_parens Disjunction f) (expression_pieces f) (well_expression name f r.0))
+    (well_parens (needs_no_parens Conjunction g) (expression_pieces g) (well_expression name g r.1))

@@ -3,7 +3,7 @@ use Rattle.std.proofs.Common.{◌≡◌, List, ◌∷◌, ◌++◌, codes, refl,
 use Rattle.st_lex.specs.Pieces.{Piece, StandWell}
 use Rattle.st_lex.proofs.Pieces.{StandWell-append}
 use Rattle.st_policy.specs.declared.env.Env.{Env}
-use Rattle.st_policy.specs.Formula.{FilterValue}
+use Rattle.st_filter.specs.Formula.{FilterValue}
 use Rattle.st_policy.specs.Symbol.{Symbol, Word, Colon}
 use Rattle.st_policy.specs.Grammar.{IsFilter}
 use Rattle.st_policy.specs.Canon.{condition_pieces, action_pieces, grant_pieces, log_pieces, predicate_pieces, call_word, filter_pieces}

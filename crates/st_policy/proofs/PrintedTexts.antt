@@ -10,7 +10,7 @@ use Rattle.st_lex.specs.Text.{text_of_token, inside}
 use Rattle.st_lex.specs.Unquote.{unquoted}
 use Rattle.st_lex.proofs.Holdings.{holds_bytes}
 use Rattle.st_lex.proofs.Wholes.{IsWholeToken, words_whole, HasInside, quotes_inside}
-use Rattle.st_lex.specs.Tokens.{lexed_of}
+use Rattle.st_lex.specs.Tokens.{lexed_text}
 use Rattle.st_lex.specs.Pieces.{Piece, print, StandWell, is_word_text, spelled_tokens}
 use Rattle.st_lex.proofs.Pieces.{print_is_read}
 use Rattle.st_policy.specs.declared.env.Env.{Env}
@@ -25,7 +25,7 @@ spelled-symbols text (t ∷ ts) = ap (λ (us : List Symbol). symbol_of text t �
 
 -- pieces that are printed have the symbols that they are read as
 pub symbols_in-print : (pieces : List Piece) → StandWell pieces → symbols_in (print pieces) ≡ piece_symbols pieces
-symbols_in-print pieces well = spelled-symbols (print pieces) (lexed_of (print pieces)).tokens ∙ ap (map spelled_symbol) (print_is_read pieces well).in_order
+symbols_in-print pieces well = spelled-symbols (print pieces) (lexed_text (print pieces)).tokens ∙ ap (map spelled_symbol) (print_is_read pieces well).in_order
 
 -- ---- the symbols of a text can be printed
 
@@ -43,4 +43,4 @@ printable_tokens env text (t ∷ ts) plain words quotes = (
 
 pub printable_symbols : (env : Env) (text : List ℕ) → HasPlainDollars env → AreTextBytes text → ArePrintable env (symbols_in text)
 printable_symbols env text plain bytes =
-    printable_tokens env text (lexed_of text).tokens plain (words_whole text) (quotes_inside text (recursion_from_All (λ b. b < 256) text bytes))
+    printable_tokens env text (lexed_text text).tokens plain (words_whole text) (quotes_inside text (recursion_from_All (λ b. b < 256) text bytes))

@@ -3,8 +3,8 @@ use Rattle.std.proofs.Common.{◌≡◌, ℕ, List, [], ◌∷◌, ◌++◌, map
 use Rattle.st_policy.specs.declared.env.Env.{Env}
 use Rattle.st_policy.specs.declared.fault.PolicyFault.{PolicyFault}
 use Rattle.st_policy.specs.declared.place.Place.{Place}
-use Rattle.st_policy.specs.declared.set.BinaryPolicy.{BinaryPolicy}
-use Rattle.st_policy.specs.Diagram.{Walk}
+use Rattle.st_filter.specs.declared.set.BinaryPolicy.{BinaryPolicy}
+use Rattle.st_policy.specs.Diagram.{GrammarState}
 use Rattle.st_policy.specs.Draft.{Draft, Reading, read_step}
 use Rattle.st_policy.specs.Symbol.{Symbol}
 
@@ -19,19 +19,19 @@ symbols zs = map (λ z. z.symbol) zs
 abbrev pub Read : Type 0
 Read = Result Reading PolicyFault
 
-abbrev pub followed : (Reading → Read) → Read → Read
-followed f (Ok r) = f r
-followed f (Err fault) = Err fault
+abbrev pub reading_followed : (Reading → Read) → Read → Read
+reading_followed f (Ok r) = f r
+reading_followed f (Err fault) = Err fault
 
 abbrev pub read_over : Env → Reading → List Placed → Read
 read_over env r [] = Ok r
-read_over env r (z ∷ zs) = followed (λ r. read_over env r zs) (read_step env r z.at z.symbol)
+read_over env r (z ∷ zs) = reading_followed (λ r. read_over env r zs) (read_step env r z.at z.symbol)
 
-followed-step : (env : Env) (ys : List Placed) (f : Reading → Read) (g : Reading → Read) → ((r : Reading) → f r ≡ followed (λ r. read_over env r ys) (g r)) → (x : Read) → followed f x ≡ followed (λ r. read_over env r ys) (followed g x)
+followed-step : (env : Env) (ys : List Placed) (f : Reading → Read) (g : Reading → Read) → ((r : Reading) → f r ≡ reading_followed (λ r. read_over env r ys) (g r)) → (x : Read) → reading_followed f x ≡ reading_followed (λ r. read_over env r ys) (reading_followed g x)
 followed-step env ys f g h (Ok r) = h r
 followed-step env ys f g h (Err fault) = refl
 
-pub over-append : (env : Env) (xs ys : List Placed) (r : Reading) → read_over env r (xs ++ ys) ≡ followed (λ r. read_over env r ys) (read_over env r xs)
+pub over-append : (env : Env) (xs ys : List Placed) (r : Reading) → read_over env r (xs ++ ys) ≡ reading_followed (λ r. read_over env r ys) (read_over env r xs)
 over-append env [] ys r = refl
 over-append env (x ∷ xs) ys r = followed-step env ys (λ r. read_over env r (xs ++ ys)) (λ r. read_over env r xs) (over-append env xs ys) (read_step env r x.at x.symbol)
 
@@ -86,7 +86,7 @@ passes-append env P Q R ts us p q = record {
       let b : Leads env a.reading c.back R = q.pass c.back c.back_is a.reading a.holds in
       record {
         reading = b.reading;
-        over = ap (read_over env r) c.parts ∙ over-append env c.front c.back r ∙ ap (followed (λ r. read_over env r c.back)) a.over ∙ b.over;
+        over = ap (read_over env r) c.parts ∙ over-append env c.front c.back r ∙ ap (reading_followed (λ r. read_over env r c.back)) a.over ∙ b.over;
         holds = b.holds;
       };
 }
@@ -98,7 +98,7 @@ passes-one env P Q s f = record { pass = one } where
   one (z ∷ []) e r p =
       let same : z.symbol ≡ s = cc in
       let a : Steps env r z.at s Q = f z.at r p in
-      record { reading = a.reading; over = ap (λ (s : Symbol). followed (λ r. Ok r) (read_step env r z.at s)) same ∙ ap (followed (λ r. Ok r)) a.step; holds = a.holds }
+      record { reading = a.reading; over = ap (λ (s : Symbol). reading_followed (λ r. Ok r) (read_step env r z.at s)) same ∙ ap (reading_followed (λ r. Ok r)) a.step; holds = a.holds }
   one (z ∷ y ∷ zs) e r p = absurd (cc)
 
 pub passes-step : (env : Env) (P Q R : Reading → Type 0) (s : Symbol) (ts : List Symbol) → Step1 env P s Q → Passes env Q ts R → Passes env P (s ∷ ts) R
@@ -113,9 +113,9 @@ passes-more env P Q R ts p f = record {
 
 -- ---- readings by their place
 
-abbrev pub standing : Place → Walk → Draft → List BinaryPolicy → Reading
-standing p w d set = record { walk = record w { place = p }; draft = d; set = set }
+abbrev pub places_of_reading : Place → GrammarState → Draft → List BinaryPolicy → Reading
+places_of_reading p w d set = record { walk = record w { place = p }; draft = d; set = set }
 
 -- a reading at this place, with this set and with a walk and a draft of this kind
-pub data At (p : Place) (set : List BinaryPolicy) (H : Walk → Draft → Type 0) : Reading → Type 0 where
-  stands : (w : Walk) (d : Draft) → H w d → At p set H (standing p w d set)
+pub data At (p : Place) (set : List BinaryPolicy) (H : GrammarState → Draft → Type 0) : Reading → Type 0 where
+  stands : (w : GrammarState) (d : Draft) → H w d → At p set H (places_of_reading p w d set)

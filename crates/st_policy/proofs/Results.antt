@@ -2,23 +2,25 @@
 use Rattle.std.proofs.Common.{◌≡◌, ℕ, ◌≤◌, List, Some, Result, Ok, Err, refl, ap, subst, ◌∙◌}
 use Rattle.st_policy.specs.declared.env.Env.{Env}
 use Rattle.st_policy.specs.declared.fault.PolicyFault.{PolicyFault}
-use Rattle.st_policy.specs.declared.set.BinaryPolicy.{BinaryPolicy}
+use Rattle.st_filter.specs.declared.set.BinaryPolicy.{BinaryPolicy}
 use Rattle.st_policy.specs.Diagram.{fault_in}
 use Rattle.st_policy.specs.Draft.{Reading, reading_of, set_of, policies_in}
-use Rattle.st_policy.specs.Grammar.{Reads, filters_in, most_filters}
+use Rattle.st_policy.specs.Grammar.{Reads}
+use Rattle.st_filter.specs.Policies.{filters_in}
 use Rattle.st_policy.proofs.Faults.{error_in, faults-agree}
-use Rattle.st_policy.proofs.Sound.{sound}
+use Rattle.st_policy.proofs.Sound.{reading-is_sound}
+use Rattle.st_filter.specs.declared.set.TheConstants.{MOST_FILTERS}
 
 abbrev set_in : List BinaryPolicy → Result (List BinaryPolicy) PolicyFault → List BinaryPolicy
 set_in d (Ok set) = set
 set_in d (Err fault) = d
 
 module _ (text : List ℕ) (env : Env) (old : List BinaryPolicy) where
-  reads-by : (set : List BinaryPolicy) (r : Result Reading PolicyFault) → filters_in old ≤ most_filters → reading_of text env old ≡ r → set_of r ≡ Ok set → Reads text env old set
-  reads-by set (Ok r) few is e = subst (λ (s : List BinaryPolicy). Reads text env old s) (ap (set_in old) e) (sound text env old r few is)
+  reads-by : (set : List BinaryPolicy) (r : Result Reading PolicyFault) → filters_in old ≤ MOST_FILTERS → reading_of text env old ≡ r → set_of r ≡ Ok set → Reads text env old set
+  reads-by set (Ok r) few is e = subst (λ (s : List BinaryPolicy). Reads text env old s) (ap (set_in old) e) (reading-is_sound text env old r few is)
   reads-by set (Err fault) few is e = absurd (cc)
 
-  pub policies_read : (set : List BinaryPolicy) → filters_in old ≤ most_filters → policies_in text env old ≡ Ok set → Reads text env old set
+  pub policies_read : (set : List BinaryPolicy) → filters_in old ≤ MOST_FILTERS → policies_in text env old ≡ Ok set → Reads text env old set
   policies_read set few e = reads-by set (reading_of text env old) few refl e
 
   fault-by : (fault : PolicyFault) (r : Result Reading PolicyFault) → set_of r ≡ Err fault → error_in r ≡ Some fault

@@ -3,12 +3,13 @@ use Rattle.std.proofs.Common.{◌≡◌, List, [], ◌∷◌, ◌++◌, flat_map
 use Rattle.std.specs.List.{AllByRecursion}
 use Rattle.st_lex.specs.declared.token.TokenKind.TheVariants as kind
 use Rattle.st_lex.specs.Pieces.{Piece, Sign, StandWell}
-use Rattle.st_lex.proofs.Pieces.{StandWell-append, StandWell-behind}
+use Rattle.st_lex.proofs.Pieces.{StandWell-append, StandWell-after}
 use Rattle.st_policy.specs.declared.env.Env.{Env}
-use Rattle.st_policy.specs.declared.set.BinaryPolicy.{BinaryPolicy}
-use Rattle.st_policy.specs.Formula.{FilterValue}
+use Rattle.st_filter.specs.declared.set.BinaryPolicy.{BinaryPolicy}
+use Rattle.st_filter.specs.Formula.{FilterValue}
 use Rattle.st_policy.specs.Symbol.{Symbol, Line}
-use Rattle.st_policy.specs.Grammar.{AreRows, NoRow, Blank, Header, FilterRow, with_filter}
+use Rattle.st_policy.specs.Grammar.{AreRows, NoRow, Blank, Header, FilterRow}
+use Rattle.st_filter.specs.Policies.{with_filter}
 use Rattle.st_policy.specs.Canon.{filter_pieces, header_pieces, row_pieces, set_pieces}
 use Rattle.st_policy.specs.Readable.{HasSmallIds}
 use Rattle.st_policy.proofs.PrintedFilters.{IsReadableFilter, readable_filter, is_filter, well_filter}
@@ -102,7 +103,7 @@ are_rows env set r = Blank (piece_symbols (set_pieces set)) set (set_rows env []
 
 -- a row and its end stand well before anything that does
 well_row : (row qs : List Piece) → StandWell row → StandWell qs → StandWell (row_pieces row ++ qs)
-well_row row qs w q = StandWell-behind row qs (Sign kind.Line) (StandWell-append row (Sign kind.Line ∷ []) w (refl, tt) tt) tt q
+well_row row qs w q = StandWell-after row qs (Sign kind.Line) (StandWell-append row (Sign kind.Line ∷ []) w (refl, tt) tt) tt q
 
 well_filters : (env : Env) (fs : List FilterValue) (qs : List Piece) → AllByRecursion (IsReadableFilter env) fs → StandWell qs → StandWell (rows_of fs ++ qs)
 well_filters env [] qs r q = q

@@ -7,18 +7,20 @@ use Rattle.std.proofs.lemmas.List.Sums.{sum_by-append}
 use Rattle.st_policy.specs.declared.env.Env.{Env}
 use Rattle.st_policy.specs.declared.fault.PolicyFault.TheVariants.{Expected, DuplicatePolicy, NotSupported, TooMany}
 use Rattle.st_policy.specs.declared.fault.Unsupported.TheVariants as unsupported
-use Rattle.st_policy.specs.declared.filter.FilterName.{FilterName}
+use Rattle.st_filter.specs.declared.filter.FilterName.{FilterName}
 use Rattle.st_policy.specs.declared.place.Place.TheVariants as place
-use Rattle.st_policy.specs.declared.set.BinaryPolicy.{BinaryPolicy}
-use Rattle.st_policy.specs.Diagram.{Walk, is_line, binaries, step_name, step_binary}
-use Rattle.st_policy.specs.Draft.{Draft, Reading, first_draft, new_policy, stepped, read_step}
-use Rattle.st_policy.specs.Grammar.{AreNew, has_policy, filters_in, most_filters, binary_of}
+use Rattle.st_filter.specs.declared.set.BinaryPolicy.{BinaryPolicy}
+use Rattle.st_policy.specs.Diagram.{GrammarState, is_line, binaries, step_name, step_binary}
+use Rattle.st_policy.specs.Draft.{Draft, Reading, first_draft, new_policy, reading_step, read_step}
+use Rattle.st_policy.specs.Grammar.{AreNew, binary_of}
+use Rattle.st_filter.specs.Policies.{has_policy, filters_in}
 use Rattle.st_policy.specs.Symbol.{Symbol, Word, Colon, Comma, Line}
 use Rattle.st_policy.specs.Words.{filter_name}
-use Rattle.st_policy.proofs.Readings.{Read, standing}
+use Rattle.st_policy.proofs.Readings.{Read, places_of_reading}
 use Rattle.st_policy.proofs.Expressions.{step-unless}
-use Rattle.st_policy.proofs.Fronts.{RowFront, HeaderFront, BelowHeader, Facts, Holds, by-word, by-test}
+use Rattle.st_policy.proofs.Fronts.{RowFront, HeaderFront, BelowHeader, Facts, HasFacts, by-word, by-test}
 use Rattle.st_policy.proofs.ActionsKept.{by-some}
+use Rattle.st_filter.specs.declared.set.TheConstants.{MOST_FILTERS}
 
 abbrev pub fresh_policy : List ℕ → BinaryPolicy
 fresh_policy binary = record { binary = binary; filters = [] }
@@ -56,18 +58,18 @@ below-row env old rows front filters set h = record {
   few = h.few;
 }
 
-module _ (env : Env) (old : List BinaryPolicy) (rows front : List Symbol) (w : Walk) (d : Draft) (set : List BinaryPolicy) (at : ℕ) where
-  no_policy : (word : List ℕ) → bytes_eq word (codes "Policy") ≡ false → read_step env (standing place.Start w d set) at (Word word) ≡ Err (Expected at)
-  no_policy word e = step-unless env (standing place.Start w d set) (Word word) (bytes_eq word (codes "Policy")) (Ok (record w { place = place.PolicyColon })) (Err (Expected at)) e
+module _ (env : Env) (old : List BinaryPolicy) (rows front : List Symbol) (w : GrammarState) (d : Draft) (set : List BinaryPolicy) (at : ℕ) where
+  no_policy : (word : List ℕ) → bytes_eq word (codes "Policy") ≡ false → read_step env (places_of_reading place.Start w d set) at (Word word) ≡ Err (Expected at)
+  no_policy word e = step-unless env (places_of_reading place.Start w d set) (Word word) (bytes_eq word (codes "Policy")) (Ok (record w { place = place.PolicyColon })) (Err (Expected at)) e
 
-  pub kept-start : Facts env old rows front place.Start w d set → (s : Symbol) → is_line s ≡ false → Holds env old rows (front ++ s ∷ []) (read_step env (standing place.Start w d set) at s)
+  pub kept-start : Facts env old rows front place.Start w d set → (s : Symbol) → is_line s ≡ false → HasFacts env old rows (front ++ s ∷ []) (read_step env (places_of_reading place.Start w d set) at s)
   kept-start h Line e = absurd (cc)
   kept-start h (Word word) e =
-      let P : List ℕ → Type 0 = λ word. Holds env old rows (front ++ Word word ∷ []) (read_step env (standing place.Start w d set) at (Word word)) in
-      by-word P (codes "Policy") word (row-more env old rows front [] w.filters set (Word (codes "Policy")) h) (λ e. subst (λ (x : Read). Holds env old rows (front ++ Word word ∷ []) x) (sym (no_policy word e)) tt)
+      let P : List ℕ → Type 0 = λ word. HasFacts env old rows (front ++ Word word ∷ []) (read_step env (places_of_reading place.Start w d set) at (Word word)) in
+      by-word P (codes "Policy") word (row-more env old rows front [] w.filters set (Word (codes "Policy")) h) (λ e. subst (λ (x : Read). HasFacts env old rows (front ++ Word word ∷ []) x) (sym (no_policy word e)) tt)
   kept-start h s e = tt
 
-  named : (word : List ℕ) (name : FilterName) → filter_name word ≡ Some name → w.filters < most_filters → Facts env old rows front place.Row w d set →
+  named : (word : List ℕ) (name : FilterName) → filter_name word ≡ Some name → w.filters < MOST_FILTERS → Facts env old rows front place.Row w d set →
       Facts env old rows (front ++ Word word ∷ []) place.NameColon (record w { place = place.NameColon; filters = w.filters + 1; name = name; parens = 0; joins = 0 }) first_draft set
   named word name e few h = record {
     behind = h.behind;
@@ -81,23 +83,23 @@ module _ (env : Env) (old : List BinaryPolicy) (rows front : List Symbol) (w : W
     no_joins = refl;
   }
 
-  kept-name : (word : List ℕ) → bytes_eq word (codes "Policy") ≡ false → Facts env old rows front place.Row w d set → Holds env old rows (front ++ Word word ∷ []) (read_step env (standing place.Row w d set) at (Word word))
+  kept-name : (word : List ℕ) → bytes_eq word (codes "Policy") ≡ false → Facts env old rows front place.Row w d set → HasFacts env old rows (front ++ Word word ∷ []) (read_step env (places_of_reading place.Row w d set) at (Word word))
   kept-name word n h =
-      let r : Reading = standing place.Row w d set in
-      let here : Walk = record w { place = place.Row } in
-      subst (λ (x : Read). Holds env old rows (front ++ Word word ∷ []) x) (sym (step-unless env r (Word word) (bytes_eq word (codes "Policy")) (Ok (record w { place = place.PolicyColon })) (step_name here at (filter_name word)) n))
-      (by-some env old rows (front ++ Word word ∷ []) (λ o. stepped env r (Word word) (step_name here at o)) (filter_name word)
+      let r : Reading = places_of_reading place.Row w d set in
+      let here : GrammarState = record w { place = place.Row } in
+      subst (λ (x : Read). HasFacts env old rows (front ++ Word word ∷ []) x) (sym (step-unless env r (Word word) (bytes_eq word (codes "Policy")) (Ok (record w { place = place.PolicyColon })) (step_name here at (filter_name word)) n))
+      (by-some env old rows (front ++ Word word ∷ []) (λ o. reading_step env r (Word word) (step_name here at o)) (filter_name word)
       (λ name e. by-test env old rows (front ++ Word word ∷ []) r (Word word) (nat_lt w.filters 4096) (Ok (record w { place = place.NameColon; filters = w.filters + 1; name = name; parens = 0; joins = 0 })) (Err (TooMany at))
       (λ t. named word name e (ltb-true w.filters 4096 t) h) (λ t. tt)) tt)
 
-  pub kept-row : Facts env old rows front place.Row w d set → (s : Symbol) → is_line s ≡ false → Holds env old rows (front ++ s ∷ []) (read_step env (standing place.Row w d set) at s)
+  pub kept-row : Facts env old rows front place.Row w d set → (s : Symbol) → is_line s ≡ false → HasFacts env old rows (front ++ s ∷ []) (read_step env (places_of_reading place.Row w d set) at s)
   kept-row h Line e = absurd (cc)
   kept-row h (Word word) e =
-      let P : List ℕ → Type 0 = λ word. Holds env old rows (front ++ Word word ∷ []) (read_step env (standing place.Row w d set) at (Word word)) in
+      let P : List ℕ → Type 0 = λ word. HasFacts env old rows (front ++ Word word ∷ []) (read_step env (places_of_reading place.Row w d set) at (Word word)) in
       by-word P (codes "Policy") word (row-more env old rows front [] w.filters set (Word (codes "Policy")) (below-row env old rows front w.filters set h)) (λ n. kept-name word n h)
   kept-row h s e = tt
 
-  pub kept-name_colon : Facts env old rows front place.NameColon w d set → (s : Symbol) → Holds env old rows (front ++ s ∷ []) (read_step env (standing place.NameColon w d set) at s)
+  pub kept-name_colon : Facts env old rows front place.NameColon w d set → (s : Symbol) → HasFacts env old rows (front ++ s ∷ []) (read_step env (places_of_reading place.NameColon w d set) at s)
   kept-name_colon h Colon = record {
     behind = h.behind;
     filters_are = h.filters_are;
@@ -112,7 +114,7 @@ module _ (env : Env) (old : List BinaryPolicy) (rows front : List Symbol) (w : W
 
   -- ---- headers
 
-  pub kept-policy_colon : Facts env old rows front place.PolicyColon w d set → (s : Symbol) → Holds env old rows (front ++ s ∷ []) (read_step env (standing place.PolicyColon w d set) at s)
+  pub kept-policy_colon : Facts env old rows front place.PolicyColon w d set → (s : Symbol) → HasFacts env old rows (front ++ s ∷ []) (read_step env (places_of_reading place.PolicyColon w d set) at s)
   kept-policy_colon h Colon = row-more env old rows front (Word (codes "Policy") ∷ []) w.filters set Colon h
   kept-policy_colon h s = tt
 
@@ -133,40 +135,40 @@ module _ (env : Env) (old : List BinaryPolicy) (rows front : List Symbol) (w : W
         few = h.few;
       }
 
-  pub kept-binary : Facts env old rows front place.Binary w d set → (s : Symbol) → Holds env old rows (front ++ s ∷ []) (read_step env (standing place.Binary w d set) at s)
+  pub kept-binary : Facts env old rows front place.Binary w d set → (s : Symbol) → HasFacts env old rows (front ++ s ∷ []) (read_step env (places_of_reading place.Binary w d set) at s)
   kept-binary h s =
-      let r : Reading = standing place.Binary w d set in
-      let here : Walk = record w { place = place.Binary } in
-      by-some env old rows (front ++ s ∷ []) (λ o. stepped env r s (step_binary (binaries set) here at o)) (binary_of env s)
+      let r : Reading = places_of_reading place.Binary w d set in
+      let here : GrammarState = record w { place = place.Binary } in
+      by-some env old rows (front ++ s ∷ []) (λ o. reading_step env r s (step_binary (binaries set) here at o)) (binary_of env s)
       (λ binary e. by-test env old rows (front ++ s ∷ []) r s (list_any (λ b. bytes_eq b binary) (binaries set)) (Err (DuplicatePolicy at)) (Ok (record w { place = place.Comma })) (λ t. tt)
       (λ n. subst (λ (o : Option (List ℕ)). Facts env old rows (front ++ s ∷ []) place.Comma w d (set ++ new_policy o)) (sym e) (begins s binary e n h))) tt
 
-  pub kept-comma : Facts env old rows front place.Comma w d set → (s : Symbol) → Holds env old rows (front ++ s ∷ []) (read_step env (standing place.Comma w d set) at s)
+  pub kept-comma : Facts env old rows front place.Comma w d set → (s : Symbol) → HasFacts env old rows (front ++ s ∷ []) (read_step env (places_of_reading place.Comma w d set) at s)
   kept-comma h Comma = header-more env old rows front [] w.filters set Comma h
   kept-comma h s = tt
 
-  no_emulation : (word : List ℕ) → bytes_eq word (codes "Emulation") ≡ false → read_step env (standing place.Emulation w d set) at (Word word) ≡ Err (Expected at)
-  no_emulation word e = step-unless env (standing place.Emulation w d set) (Word word) (bytes_eq word (codes "Emulation")) (Ok (record w { place = place.EmulationColon })) (Err (Expected at)) e
+  no_emulation : (word : List ℕ) → bytes_eq word (codes "Emulation") ≡ false → read_step env (places_of_reading place.Emulation w d set) at (Word word) ≡ Err (Expected at)
+  no_emulation word e = step-unless env (places_of_reading place.Emulation w d set) (Word word) (bytes_eq word (codes "Emulation")) (Ok (record w { place = place.EmulationColon })) (Err (Expected at)) e
 
-  pub kept-emulation : Facts env old rows front place.Emulation w d set → (s : Symbol) → Holds env old rows (front ++ s ∷ []) (read_step env (standing place.Emulation w d set) at s)
+  pub kept-emulation : Facts env old rows front place.Emulation w d set → (s : Symbol) → HasFacts env old rows (front ++ s ∷ []) (read_step env (places_of_reading place.Emulation w d set) at s)
   kept-emulation h (Word word) =
-      let P : List ℕ → Type 0 = λ word. Holds env old rows (front ++ Word word ∷ []) (read_step env (standing place.Emulation w d set) at (Word word)) in
-      by-word P (codes "Emulation") word (header-more env old rows front (Comma ∷ []) w.filters set (Word (codes "Emulation")) h) (λ e. subst (λ (x : Read). Holds env old rows (front ++ Word word ∷ []) x) (sym (no_emulation word e)) tt)
+      let P : List ℕ → Type 0 = λ word. HasFacts env old rows (front ++ Word word ∷ []) (read_step env (places_of_reading place.Emulation w d set) at (Word word)) in
+      by-word P (codes "Emulation") word (header-more env old rows front (Comma ∷ []) w.filters set (Word (codes "Emulation")) h) (λ e. subst (λ (x : Read). HasFacts env old rows (front ++ Word word ∷ []) x) (sym (no_emulation word e)) tt)
   kept-emulation h s = tt
 
-  pub kept-emulation_colon : Facts env old rows front place.EmulationColon w d set → (s : Symbol) → Holds env old rows (front ++ s ∷ []) (read_step env (standing place.EmulationColon w d set) at s)
+  pub kept-emulation_colon : Facts env old rows front place.EmulationColon w d set → (s : Symbol) → HasFacts env old rows (front ++ s ∷ []) (read_step env (places_of_reading place.EmulationColon w d set) at s)
   kept-emulation_colon h Colon = header-more env old rows front (Comma ∷ Word (codes "Emulation") ∷ []) w.filters set Colon h
   kept-emulation_colon h s = tt
 
-  no_native : (word : List ℕ) → bytes_eq word (codes "native") ≡ false → read_step env (standing place.System w d set) at (Word word) ≡ Err (NotSupported at unsupported.Emulation)
-  no_native word e = step-unless env (standing place.System w d set) (Word word) (bytes_eq word (codes "native")) (Ok (record w { place = place.HeaderEnd })) (Err (NotSupported at unsupported.Emulation)) e
+  no_native : (word : List ℕ) → bytes_eq word (codes "native") ≡ false → read_step env (places_of_reading place.System w d set) at (Word word) ≡ Err (NotSupported at unsupported.Emulation)
+  no_native word e = step-unless env (places_of_reading place.System w d set) (Word word) (bytes_eq word (codes "native")) (Ok (record w { place = place.HeaderEnd })) (Err (NotSupported at unsupported.Emulation)) e
 
-  pub kept-system : Facts env old rows front place.System w d set → (s : Symbol) → Holds env old rows (front ++ s ∷ []) (read_step env (standing place.System w d set) at s)
+  pub kept-system : Facts env old rows front place.System w d set → (s : Symbol) → HasFacts env old rows (front ++ s ∷ []) (read_step env (places_of_reading place.System w d set) at s)
   kept-system h (Word word) =
-      let P : List ℕ → Type 0 = λ word. Holds env old rows (front ++ Word word ∷ []) (read_step env (standing place.System w d set) at (Word word)) in
-      by-word P (codes "native") word (header-more env old rows front (Comma ∷ Word (codes "Emulation") ∷ Colon ∷ []) w.filters set (Word (codes "native")) h) (λ e. subst (λ (x : Read). Holds env old rows (front ++ Word word ∷ []) x) (sym (no_native word e)) tt)
+      let P : List ℕ → Type 0 = λ word. HasFacts env old rows (front ++ Word word ∷ []) (read_step env (places_of_reading place.System w d set) at (Word word)) in
+      by-word P (codes "native") word (header-more env old rows front (Comma ∷ Word (codes "Emulation") ∷ Colon ∷ []) w.filters set (Word (codes "native")) h) (λ e. subst (λ (x : Read). HasFacts env old rows (front ++ Word word ∷ []) x) (sym (no_native word e)) tt)
   kept-system h s = tt
 
-  pub kept-header_end : (s : Symbol) → is_line s ≡ false → Holds env old rows (front ++ s ∷ []) (read_step env (standing place.HeaderEnd w d set) at s)
+  pub kept-header_end : (s : Symbol) → is_line s ≡ false → HasFacts env old rows (front ++ s ∷ []) (read_step env (places_of_reading place.HeaderEnd w d set) at s)
   kept-header_end Line e = absurd (cc)
   kept-header_end s e = tt

@@ -4,22 +4,22 @@ use Rattle.std.specs.Str.{bytes_eq}
 use Rattle.std.proofs.lemmas.Bool.{and_left}
 use Rattle.st_policy.specs.declared.env.Env.{Env}
 use Rattle.st_policy.specs.declared.fault.PolicyFault.TheVariants.{Expected, ElevateWithoutIds, ElevateOnSetId}
-use Rattle.st_policy.specs.declared.filter.Action.{Action}
-use Rattle.st_policy.specs.declared.filter.Action.TheVariants.{Permit}
-use Rattle.st_policy.specs.declared.filter.FilterName.{FilterName}
-use Rattle.st_policy.specs.declared.filter.Grant.{Grant}
-use Rattle.st_policy.specs.declared.filter.Predicate.{Predicate}
+use Rattle.st_filter.specs.declared.filter.Action.{Action}
+use Rattle.st_filter.specs.declared.filter.Action.TheVariants.{Permit}
+use Rattle.st_filter.specs.declared.filter.FilterName.{FilterName}
+use Rattle.st_filter.specs.declared.filter.Grant.{Grant}
+use Rattle.st_filter.specs.declared.filter.Predicate.{Predicate}
 use Rattle.st_policy.specs.declared.place.Place.TheVariants as place
-use Rattle.st_policy.specs.declared.set.BinaryPolicy.{BinaryPolicy}
-use Rattle.st_policy.specs.Diagram.{Walk, Step, is_line, step_as, step_known}
-use Rattle.st_policy.specs.Draft.{Draft, Reading, with_group, stepped, read_step}
-use Rattle.st_policy.specs.Formula.{Formula}
+use Rattle.st_filter.specs.declared.set.BinaryPolicy.{BinaryPolicy}
+use Rattle.st_policy.specs.Diagram.{GrammarState, StepResult, is_line, step_as, step_known}
+use Rattle.st_policy.specs.Draft.{Draft, Reading, with_group, reading_step, read_step}
+use Rattle.st_filter.specs.Formula.{Formula}
 use Rattle.st_policy.specs.Grammar.{IsGrant, OfUser, OfBoth, OfGroup, MayGrant, IsTail, Grants, GrantsAndLogs, LogsAndGrants}
 use Rattle.st_policy.specs.Symbol.{Symbol, Word, Colon, Comma, OpenBracket, Line}
 use Rattle.st_policy.specs.Words.{sets_ids, id_in}
-use Rattle.st_policy.proofs.Readings.{Read, standing}
+use Rattle.st_policy.proofs.Readings.{Read, places_of_reading}
 use Rattle.st_policy.proofs.Expressions.{step-unless}
-use Rattle.st_policy.proofs.Fronts.{ActedFront, logged, MayAs, TailFront, Facts, Holds, by-word, by-test, filter-more}
+use Rattle.st_policy.proofs.Fronts.{ActedFront, logged, MayAs, TailFront, Facts, HasFacts, by-word, by-test, filter-more}
 use Rattle.st_policy.proofs.Clauses.{user-tail, denial-tail}
 use Rattle.st_policy.proofs.ActionsKept.{filter-map, by-some, denial-tails, action-more}
 
@@ -68,7 +68,7 @@ may-grant env name action e a b = subst (λ (x : Action). MayGrant env name x) (
 logged-append : (log : Bool) (s : Symbol) (ts us : List Symbol) → (logged log ++ s ∷ ts) ++ us ≡ logged log ++ (s ∷ (ts ++ us))
 logged-append log s ts us = append_assoc (logged log) (s ∷ ts) us
 
-module _ (env : Env) (old : List BinaryPolicy) (rows front : List Symbol) (w : Walk) (d : Draft) (set : List BinaryPolicy) (at : ℕ) where
+module _ (env : Env) (old : List BinaryPolicy) (rows front : List Symbol) (w : GrammarState) (d : Draft) (set : List BinaryPolicy) (at : ℕ) where
   -- `as` behind an action
   granting : (log : Bool) → env.elevate ≡ true → sets_ids w.name ≡ false → Facts env old rows front (place.Tail true log) w d set → Facts env old rows (front ++ Word (codes "as") ∷ []) (place.Grant log) w d set
   granting log a b h = filter-more env old rows front w.filters w.name set _ _ (Word (codes "as")) h (λ us t.
@@ -76,11 +76,11 @@ module _ (env : Env) (old : List BinaryPolicy) (rows front : List Symbol) (w : W
       let m : MayAs log d.action d.grant d.log begun = x.grants refl in
       record { may = may-grant env w.name d.action m.permits a b; begun_is = ap (λ (ts : List Symbol). ts ++ Word (codes "as") ∷ []) m.begun_is; logs_are = m.logs_are; no_predicate = x.no_predicate }))
 
-  kept-as : (grant log : Bool) → Facts env old rows front (place.Tail grant log) w d set → Holds env old rows (front ++ Word (codes "as") ∷ []) (read_step env (standing (place.Tail grant log) w d set) at (Word (codes "as")))
+  kept-as : (grant log : Bool) → Facts env old rows front (place.Tail grant log) w d set → HasFacts env old rows (front ++ Word (codes "as") ∷ []) (read_step env (places_of_reading (place.Tail grant log) w d set) at (Word (codes "as")))
   kept-as false log h = tt
   kept-as true log h =
-      let r : Reading = standing (place.Tail true log) w d set in
-      let next : Step = Ok (record w { place = place.Grant log }) in
+      let r : Reading = places_of_reading (place.Tail true log) w d set in
+      let next : StepResult = Ok (record w { place = place.Grant log }) in
       by-test env old rows (front ++ Word (codes "as") ∷ []) r (Word (codes "as")) env.elevate (if sets_ids w.name then Err (ElevateOnSetId at) else next) (Err (ElevateWithoutIds at))
       (λ a. by-test env old rows (front ++ Word (codes "as") ∷ []) r (Word (codes "as")) (sets_ids w.name) (Err (ElevateOnSetId at)) next (λ b. tt) (λ b. granting log a b h)) (λ a. tt)
 
@@ -93,15 +93,15 @@ module _ (env : Env) (old : List BinaryPolicy) (rows front : List Symbol) (w : W
         no_predicate = x.no_predicate;
       }))
 
-  kept-log : (grant log : Bool) → Facts env old rows front (place.Tail grant log) w d set → Holds env old rows (front ++ Word (codes "log") ∷ []) (read_step env (standing (place.Tail grant log) w d set) at (Word (codes "log")))
+  kept-log : (grant log : Bool) → Facts env old rows front (place.Tail grant log) w d set → HasFacts env old rows (front ++ Word (codes "log") ∷ []) (read_step env (places_of_reading (place.Tail grant log) w d set) at (Word (codes "log")))
   kept-log grant true h = logging-facts grant h
   kept-log grant false h = tt
 
-  no_tail : (grant log : Bool) (word : List ℕ) → bytes_eq word (codes "as") ≡ false → bytes_eq word (codes "log") ≡ false → read_step env (standing (place.Tail grant log) w d set) at (Word word) ≡ Err (Expected at)
+  no_tail : (grant log : Bool) (word : List ℕ) → bytes_eq word (codes "as") ≡ false → bytes_eq word (codes "log") ≡ false → read_step env (places_of_reading (place.Tail grant log) w d set) at (Word word) ≡ Err (Expected at)
   no_tail grant log word a b =
-      let r : Reading = standing (place.Tail grant log) w d set in
-      let next : Step = Ok (record w { place = place.Tail grant false }) in
-      let bad : Step = Err (Expected at) in
+      let r : Reading = places_of_reading (place.Tail grant log) w d set in
+      let next : StepResult = Ok (record w { place = place.Tail grant false }) in
+      let bad : StepResult = Err (Expected at) in
       step-unless env r (Word word) (bytes_eq word (codes "as") && grant) (step_as env (record w { place = place.Tail grant log }) at log) (if bytes_eq word (codes "log") && log then next else bad) (and_left (bytes_eq word (codes "as")) grant a)
       ∙ step-unless env r (Word word) (bytes_eq word (codes "log") && log) next bad (and_left (bytes_eq word (codes "log")) log b)
 
@@ -114,21 +114,21 @@ module _ (env : Env) (old : List BinaryPolicy) (rows front : List Symbol) (w : W
             acted-more env w.name d.expression.formula d.action _ _ us Comma t (λ begun x. record { tail = begun; begun = Comma ∷ []; parts = refl; tail_is = x.tail_is; rest = refl })),
       )
 
-  pub kept-tail : (grant log : Bool) → Facts env old rows front (place.Tail grant log) w d set → (s : Symbol) → is_line s ≡ false → Holds env old rows (front ++ s ∷ []) (read_step env (standing (place.Tail grant log) w d set) at s)
+  pub kept-tail : (grant log : Bool) → Facts env old rows front (place.Tail grant log) w d set → (s : Symbol) → is_line s ≡ false → HasFacts env old rows (front ++ s ∷ []) (read_step env (places_of_reading (place.Tail grant log) w d set) at s)
   kept-tail grant log h Line e = absurd (cc)
   kept-tail grant log h Comma e = predicating grant log h
   kept-tail grant log h (Word word) e =
-      let P : List ℕ → Type 0 = λ word. Holds env old rows (front ++ Word word ∷ []) (read_step env (standing (place.Tail grant log) w d set) at (Word word)) in
+      let P : List ℕ → Type 0 = λ word. HasFacts env old rows (front ++ Word word ∷ []) (read_step env (places_of_reading (place.Tail grant log) w d set) at (Word word)) in
       by-word P (codes "as") word (kept-as grant log h) (λ a. by-word P (codes "log") word (kept-log grant log h) (λ b.
-      subst (λ (x : Read). Holds env old rows (front ++ Word word ∷ []) x) (sym (no_tail grant log word a b)) tt))
+      subst (λ (x : Read). HasFacts env old rows (front ++ Word word ∷ []) x) (sym (no_tail grant log word a b)) tt))
   kept-tail grant log h s e = tt
 
-  pub kept-denial : Facts env old rows front place.Denial w d set → (s : Symbol) → is_line s ≡ false → Holds env old rows (front ++ s ∷ []) (read_step env (standing place.Denial w d set) at s)
+  pub kept-denial : Facts env old rows front place.Denial w d set → (s : Symbol) → is_line s ≡ false → HasFacts env old rows (front ++ s ∷ []) (read_step env (places_of_reading place.Denial w d set) at s)
   kept-denial h OpenBracket e = (
     h.0,
     filter-more env old rows front w.filters w.name set _ _ OpenBracket h.2 (λ us a. action-more env w.name d.expression.formula (Word (codes "deny") ∷ []) us OpenBracket a),
   )
-  kept-denial h s e = subst (λ (x : Read). Holds env old rows (front ++ s ∷ []) x) (sym (denial-tail env w d set at s refl)) (kept-tail false true (denial-tails env old rows front w d set at h) s e)
+  kept-denial h s e = subst (λ (x : Read). HasFacts env old rows (front ++ s ∷ []) x) (sym (denial-tail env w d set at s refl)) (kept-tail false true (denial-tails env old rows front w d set at h) s e)
 
   -- ---- ids that are granted
 
@@ -159,9 +159,9 @@ module _ (env : Env) (old : List BinaryPolicy) (rows front : List Symbol) (w : W
         no_predicate = x.no_predicate;
       }))
 
-  pub kept-grant : (log : Bool) → Facts env old rows front (place.Grant log) w d set → (s : Symbol) → Holds env old rows (front ++ s ∷ []) (read_step env (standing (place.Grant log) w d set) at s)
+  pub kept-grant : (log : Bool) → Facts env old rows front (place.Grant log) w d set → (s : Symbol) → HasFacts env old rows (front ++ s ∷ []) (read_step env (places_of_reading (place.Grant log) w d set) at s)
   kept-grant log h Colon = group-begun log h
-  kept-grant log h (Word word) = by-some env old rows (front ++ Word word ∷ []) (λ o. stepped env (standing (place.Grant log) w d set) (Word word) (step_known (record w { place = place.Grant log }) at (place.User log) o)) (id_in env.users word)
+  kept-grant log h (Word word) = by-some env old rows (front ++ Word word ∷ []) (λ o. reading_step env (places_of_reading (place.Grant log) w d set) (Word word) (step_known (record w { place = place.Grant log }) at (place.User log) o)) (id_in env.users word)
       (λ id e. subst (λ (o : Option ℕ). Facts env old rows (front ++ Word word ∷ []) (place.User log) w (record d { grant = Some (record { user = o; group = None }) }) set) (sym e) (user-begun log word id e h)) tt
   kept-grant log h s = tt
 
@@ -183,9 +183,9 @@ module _ (env : Env) (old : List BinaryPolicy) (rows front : List Symbol) (w : W
         no_predicate = x.no_predicate;
       }))
 
-  pub kept-user : (log : Bool) → Facts env old rows front (place.User log) w d set → (s : Symbol) → is_line s ≡ false → Holds env old rows (front ++ s ∷ []) (read_step env (standing (place.User log) w d set) at s)
+  pub kept-user : (log : Bool) → Facts env old rows front (place.User log) w d set → (s : Symbol) → is_line s ≡ false → HasFacts env old rows (front ++ s ∷ []) (read_step env (places_of_reading (place.User log) w d set) at s)
   kept-user log h Colon e = both-begun log h
-  kept-user log h s e = subst (λ (x : Read). Holds env old rows (front ++ s ∷ []) x) (sym (user-tail env w d set at log s refl)) (kept-tail false log (user-tails log h) s e)
+  kept-user log h s e = subst (λ (x : Read). HasFacts env old rows (front ++ s ∷ []) x) (sym (user-tail env w d set at log s refl)) (kept-tail false log (user-tails log h) s e)
 
   grouped : (log : Bool) (word : List ℕ) (id : ℕ) → id_in env.groups word ≡ Some id → Facts env old rows front (place.Group log) w d set →
       Facts env old rows (front ++ Word word ∷ []) (place.Tail false log) w (record d { grant = option_map (with_group (Some id)) d.grant }) set
@@ -194,7 +194,7 @@ module _ (env : Env) (old : List BinaryPolicy) (rows front : List Symbol) (w : W
       grant-tail env w.name log d.action (option_map (with_group (Some id)) d.grant) d.log d.predicate (begun ++ Word word ∷ []) (x.granted ++ Word word ∷ []) (record { user = x.user; group = Some id })
       (ap (λ (ts : List Symbol). ts ++ Word word ∷ []) x.begun_is ∙ logged-append log (Word (codes "as")) x.granted (Word word ∷ [])) (ap (option_map (with_group (Some id))) x.grant_is) x.logs_are x.no_predicate x.may (x.with_group word id e)))
 
-  pub kept-group : (log : Bool) → Facts env old rows front (place.Group log) w d set → (s : Symbol) → Holds env old rows (front ++ s ∷ []) (read_step env (standing (place.Group log) w d set) at s)
-  kept-group log h (Word word) = by-some env old rows (front ++ Word word ∷ []) (λ o. stepped env (standing (place.Group log) w d set) (Word word) (step_known (record w { place = place.Group log }) at (place.Tail false log) o)) (id_in env.groups word)
+  pub kept-group : (log : Bool) → Facts env old rows front (place.Group log) w d set → (s : Symbol) → HasFacts env old rows (front ++ s ∷ []) (read_step env (places_of_reading (place.Group log) w d set) at s)
+  kept-group log h (Word word) = by-some env old rows (front ++ Word word ∷ []) (λ o. reading_step env (places_of_reading (place.Group log) w d set) (Word word) (step_known (record w { place = place.Group log }) at (place.Tail false log) o)) (id_in env.groups word)
       (λ id e. subst (λ (o : Option ℕ). Facts env old rows (front ++ Word word ∷ []) (place.Tail false log) w (record d { grant = option_map (with_group o) d.grant }) set) (sym e) (grouped log word id e h)) tt
   kept-group log h s = tt

@@ -2,16 +2,17 @@
 use Rattle.std.specs.Prelude.{◌≡◌, ℕ, ◌+◌, ◌≤◌, Bool, true, false, List, [], ◌∷◌, ◌++◌}
 use Rattle.st_policy.specs.declared.place.Place.{Place}
 use Rattle.st_policy.specs.declared.place.Place.TheVariants as place
-use Rattle.st_policy.specs.declared.set.BinaryPolicy.{BinaryPolicy}
+use Rattle.st_filter.specs.declared.set.BinaryPolicy.{BinaryPolicy}
 use Rattle.st_policy.specs.Draft.{Reading}
-use Rattle.st_policy.specs.Grammar.{filters_in, most_filters}
+use Rattle.st_filter.specs.Policies.{filters_in, is_some_policy}
+use Rattle.st_filter.specs.declared.set.TheConstants.{MOST_FILTERS}
 
 -- whether a header of this text must have come before
-abbrev pub is_behind_header : Place → Bool
-is_behind_header place.Start = false
-is_behind_header place.PolicyColon = false
-is_behind_header place.Binary = false
-is_behind_header _ = true
+abbrev pub needs_header : Place → Bool
+needs_header place.Start = false
+needs_header place.PolicyColon = false
+needs_header place.Binary = false
+needs_header _ = true
 
 -- how many filters are begun and not ended
 abbrev pub open_filters : Place → ℕ
@@ -26,14 +27,10 @@ open_filters place.System = 0
 open_filters place.HeaderEnd = 0
 open_filters _ = 1
 
-abbrev pub is_some_policy : List BinaryPolicy → Bool
-is_some_policy [] = false
-is_some_policy (p ∷ ps) = true
-
 -- the policies read before are still in front, and each filter is counted
 pub record IsSound (old : List BinaryPolicy) (r : Reading) : Type 0 where
   pub own : List BinaryPolicy
   pub set_is : r.set ≡ old ++ own
-  pub begun : is_behind_header r.walk.place ≡ true → is_some_policy own ≡ true
+  pub begun : needs_header r.walk.place ≡ true → is_some_policy own ≡ true
   pub counted : filters_in r.set + open_filters r.walk.place ≡ r.walk.filters
-  pub few : r.walk.filters ≤ most_filters
+  pub few : r.walk.filters ≤ MOST_FILTERS

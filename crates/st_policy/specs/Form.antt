@@ -22,9 +22,11 @@ is_plain_row text (named ∷ colon ∷ action ∷ []) =
     is_plain_name text named && (is_colon colon.kind && (is_keyword text (codes "permit") action || is_keyword text (codes "deny") action))
 is_plain_row text _ = false
 
+-- the byte `$`
 abbrev pub dollar : ℕ
 dollar = 36
 
+-- whether there is a text and it has no `$`
 abbrev pub has_no_dollar : Option (List ℕ) → Bool
 has_no_dollar None = false
 has_no_dollar (Some bytes) = not (list_any (λ b. b == dollar) bytes)
@@ -74,6 +76,7 @@ abbrev pub are_policy_rows : List ℕ → List (List Token) → Bool
 are_policy_rows text [] = false
 are_policy_rows text (header ∷ rows) = is_header_row text header && list_all (is_filter_row text) rows
 
+-- whether there are tokens and they are a header, then filters
 abbrev pub are_policy_tokens : List ℕ → Option (List Token) → Bool
 are_policy_tokens text None = false
 are_policy_tokens text (Some tokens) = are_policy_rows text (rows tokens)

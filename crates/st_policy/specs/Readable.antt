@@ -3,9 +3,10 @@ use Rattle.std.specs.Prelude.{ℕ, ◌<◌, ◌^◌, List, [], All}
 use Rattle.st_lex.specs.Quote.{AreBytes}
 use Rattle.st_policy.specs.declared.env.Env.{Env}
 use Rattle.st_policy.specs.declared.env.NamedId.{NamedId}
-use Rattle.st_policy.specs.declared.set.BinaryPolicy.{BinaryPolicy}
+use Rattle.st_filter.specs.declared.set.BinaryPolicy.{BinaryPolicy}
 use Rattle.st_policy.specs.Grammar.{Reads}
 
+-- each number of a text is a byte
 abbrev pub AreTextBytes : List ℕ → Type 0
 AreTextBytes text = All (λ b. b < 256) text
 
@@ -20,6 +21,7 @@ pub record HasPlainDollars (env : Env) : Type 0 where
   pub user : AreBytes env.dollars.user
   pub cwd : AreBytes env.dollars.cwd
 
+-- each id of these rows has 32 bits
 abbrev pub AreSmallIds : List NamedId → Type 0
 AreSmallIds rows = All (λ row. row.id < 2 ^ 32) rows
 

@@ -7,6 +7,7 @@ use Rattle.st_lex.specs.Text.{text_of_token}
 use Rattle.st_policy.specs.declared.symbol.Symbol as declared
 use Rattle.st_policy.specs.declared.symbol.Symbol.TheVariants as variant
 
+-- a token as the grammar of policies sees it
 pub data Symbol : Type 0 where
   Word : List ℕ → Symbol
   -- a quoted text as it stands, with its quotes
@@ -25,6 +26,7 @@ pub data Symbol : Type 0 where
   -- what is no token
   Broken : Symbol
 
+-- the symbol of a token, by its kind and its bytes
 abbrev pub symbol_by : TokenKind → List ℕ → Symbol
 symbol_by kind.Word text = Word text
 symbol_by kind.Quoted text = Quoted text
@@ -44,6 +46,7 @@ symbol_by kind.Line text = Line
 abbrev pub symbol_of : List ℕ → Token → Symbol
 symbol_of text token = symbol_by token.kind (text_of_token text token)
 
+-- a symbol, without where its bytes lie in memory
 abbrev pub seen : declared.Symbol → Symbol
 seen (variant.Word bytes) = Word bytes.now
 seen (variant.Quoted bytes) = Quoted bytes.now

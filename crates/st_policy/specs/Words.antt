@@ -12,20 +12,20 @@ use Rattle.st_calls.specs.Argument.{has_argument, has_label}
 use Rattle.st_calls.specs.Call.{rule_named}
 use Rattle.st_policy.specs.declared.env.Env.{Env}
 use Rattle.st_policy.specs.declared.env.NamedId.{NamedId}
-use Rattle.st_policy.specs.declared.filter.FilterName.{FilterName}
-use Rattle.st_policy.specs.declared.filter.FilterName.TheVariants as name
-use Rattle.st_policy.specs.declared.filter.Op.{Op}
-use Rattle.st_policy.specs.declared.filter.Op.TheVariants.{Match, Eq, Neq, Sub, Nsub, Inpath}
-use Rattle.st_policy.specs.declared.filter.Who.{Who}
-use Rattle.st_policy.specs.declared.filter.Who.TheVariants.{User, Group}
+use Rattle.st_filter.specs.declared.filter.FilterName.{FilterName}
+use Rattle.st_filter.specs.declared.filter.FilterName.TheVariants as name
+use Rattle.st_filter.specs.declared.filter.Op.{Op}
+use Rattle.st_filter.specs.declared.filter.Op.TheVariants.{Match, Eq, Neq, Sub, Nsub, Inpath}
+use Rattle.st_filter.specs.declared.filter.Who.{Who}
+use Rattle.st_filter.specs.declared.filter.Who.TheVariants.{User, Group}
 
 -- the words that are no labels
-abbrev pub reserved : List (List ℕ)
-reserved = codes "not" ∷ codes "true" ∷ codes "and" ∷ codes "or" ∷ codes "then" ∷ codes "permit" ∷ codes "deny" ∷ codes "ask" ∷ []
+abbrev pub reserved_words : List (List ℕ)
+reserved_words = codes "not" ∷ codes "true" ∷ codes "and" ∷ codes "or" ∷ codes "then" ∷ codes "permit" ∷ codes "deny" ∷ codes "ask" ∷ []
 
 -- any word but those is a label
 abbrev pub is_label : List ℕ → Bool
-is_label word = not (list_any (bytes_eq word) reserved)
+is_label word = not (list_any (bytes_eq word) reserved_words)
 
 -- ---- filters' names
 
@@ -33,6 +33,7 @@ is_label word = not (list_any (bytes_eq word) reserved)
 abbrev pub is_name_byte : ℕ → Bool
 is_name_byte b = is_ascii_alphanumeric b || (b == 95)
 
+-- a text that can be a call's name: letters, digits and `_`, at least one
 abbrev pub if_name : List ℕ → Option (List ℕ)
 if_name name = if nat_lt 0 (length name) && list_all is_name_byte name then Some name else None
 
@@ -40,6 +41,7 @@ if_name name = if nat_lt 0 (length name) && list_all is_name_byte name then Some
 abbrev pub native_name : List ℕ → Option (List ℕ)
 native_name word = if starts_with nat_eq word (codes "native-") then if_name (drop 7 word) else None
 
+-- what a filter of this word is for, by the rule that it names, if it names one
 abbrev pub name_by : List ℕ → Option Rule → FilterName
 name_by word (Some rule) = name.Rule rule
 name_by word None = name.Other word
@@ -49,15 +51,16 @@ abbrev pub filter_name : List ℕ → Option FilterName
 filter_name word = option_map (λ call. name_by call (rule_named call)) (native_name word)
 
 -- whether a filter may test the argument of this label and index
-abbrev pub allows : FilterName → List ℕ → ℕ → Bool
-allows (name.Rule rule) label index = has_argument rule label index
-allows (name.Other word) label index = true
+abbrev pub may_test : FilterName → List ℕ → ℕ → Bool
+may_test (name.Rule rule) label index = has_argument rule label index
+may_test (name.Other word) label index = true
 
 -- whether it may test an argument of this label with some index
-abbrev pub knows : FilterName → List ℕ → Bool
-knows (name.Rule rule) label = has_label rule label
-knows (name.Other word) label = true
+abbrev pub may_test_label : FilterName → List ℕ → Bool
+may_test_label (name.Rule rule) label = has_label rule label
+may_test_label (name.Other word) label = true
 
+-- whether a call sets ids
 abbrev pub is_set_id : SysCall → Bool
 is_set_id SetUid = true
 is_set_id SetEuid = true
@@ -72,6 +75,7 @@ sets_ids _ = false
 
 -- ---- operators, indexes and ids
 
+-- the operator that a word names
 abbrev pub op_named : List ℕ → Option Op
 op_named word =
     if bytes_eq word (codes "match") then Some Match
@@ -82,6 +86,7 @@ op_named word =
     else if bytes_eq word (codes "inpath") then Some Inpath
     else None
 
+-- a number below 2^32
 abbrev pub if_small : ℕ → Option ℕ
 if_small n = if nat_lt n (2 ^ 32) then Some n else None
 
@@ -89,9 +94,11 @@ if_small n = if nat_lt n (2 ^ 32) then Some n else None
 abbrev pub index_in : List ℕ → Option ℕ
 index_in word = option_and_then if_small (number_in word)
 
+-- whether the row of an id has this name
 abbrev pub has_name : List ℕ → NamedId → Bool
 has_name word row = bytes_eq row.name word
 
+-- the id that a word is, by the number that it spells, if it spells one
 abbrev pub id_by : List NamedId → List ℕ → Option ℕ → Option ℕ
 id_by rows word (Some id) = Some id
 id_by rows word None = option_map (λ row. row.id) (find (has_name word) rows)

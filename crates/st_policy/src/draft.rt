@@ -1,16 +1,16 @@
 ghost use Rattle.std.specs.Prelude.{◌≡◌, ◌∷◌, [], ◌<◌, true, false, length, IfOk, IfSome, IfNone, OnOk};
-ghost use Rattle.st_policy.specs.Formula.{formula};
+ghost use Rattle.st_filter.specs.Formula.{formula};
 ghost use Rattle.st_policy.specs.Grammar.{comparison};
 ghost use Rattle.st_policy.specs.Symbol.{seen};
-ghost use Rattle.st_policy.specs.Stack.{waiting, binds, is_either, is_group, newest_is, applied};
-ghost use Rattle.st_policy.specs.Draft.{reduced, settle, close_either, without_group, first_draft, waits, completes, joins_both, joins_either, close_group, draft_operand, draft_operator, draft_index, draft_text, draft_joint, draft_action, draft_clause, draft_error, draft_tail, draft_grant, draft_group, draft_comparison, draft_id, drafted, filter_of};
+ghost use Rattle.st_policy.specs.Stack.{waiting, is_tight, is_either, is_group, newest_is, with_right_operand};
+ghost use Rattle.st_policy.specs.Draft.{reduced, settle, close_either, without_group, first_draft, with_pending, with_operand, joins_both, joins_either, close_group, draft_operand, draft_operator, draft_index, draft_text, draft_joint, draft_action, draft_clause, draft_error, draft_tail, draft_grant, draft_group, draft_comparison, draft_id, draft_step, filter_of};
 
 use crate::env::Env;
-use crate::filter::{Action, Cmp, Expr, Filter, FilterName, Grant, Op, Predicate, Who};
 use crate::place::Place;
 use crate::symbol::Symbol;
-use crate::words::{id_of, index_of, is, names_for};
+use crate::words::{id_of, index_of, is, names_for, op_named};
 use st_base::{Errno, Text};
+use st_filter::{Action, Cmp, Expr, Filter, FilterName, Grant, Op, Predicate, Who};
 use st_lex::unquote;
 use std::alloc::{AllocError, Global};
 use std::marker::Model;
@@ -18,7 +18,7 @@ use std::mem::replace;
 
 /// What waits for its right operand, or to be closed.
 #[derive(Drop)]
-pub(crate) enum Pending {
+pub(crate) enum PendingOperand {
     Negation,
     Group,
     /// Joined by `and` with what comes next.
@@ -27,16 +27,16 @@ pub(crate) enum Pending {
     Either(Expr),
 }
 
-impl Pending {
+impl PendingOperand {
     // Whether it takes an operand as soon as that is complete.
-    fn binds(&self) -> bool
-        ensures { result ≡ binds (waiting self.now) }
+    fn is_tight(&self) -> bool
+        ensures { result ≡ is_tight (waiting self.now) }
     {
         match self {
-            Pending::Negation => true,
-            Pending::Group => false,
-            Pending::Both(_) => true,
-            Pending::Either(_) => false,
+            PendingOperand::Negation => true,
+            PendingOperand::Group => false,
+            PendingOperand::Both(_) => true,
+            PendingOperand::Either(_) => false,
         }
     }
 
@@ -44,10 +44,10 @@ impl Pending {
         ensures { result ≡ is_either (waiting self.now) }
     {
         match self {
-            Pending::Negation => false,
-            Pending::Group => false,
-            Pending::Both(_) => false,
-            Pending::Either(_) => true,
+            PendingOperand::Negation => false,
+            PendingOperand::Group => false,
+            PendingOperand::Both(_) => false,
+            PendingOperand::Either(_) => true,
         }
     }
 
@@ -55,22 +55,28 @@ impl Pending {
         ensures { result ≡ is_group (waiting self.now) }
     {
         match self {
-            Pending::Negation => false,
-            Pending::Group => true,
-            Pending::Both(_) => false,
-            Pending::Either(_) => false,
+            PendingOperand::Negation => false,
+            PendingOperand::Group => true,
+            PendingOperand::Both(_) => false,
+            PendingOperand::Either(_) => false,
         }
     }
 
     // What it makes of its right operand.
-    fn applied(self, alloc: Global, right: Expr) -> Result<Expr, AllocError>
-        ensures { IfOk result (λ e. formula e ≡ applied (waiting self) (formula right)) }
+    fn with_right_operand(self, alloc: Global, right: Expr) -> Result<Expr, AllocError>
+        ensures { IfOk result (λ e. formula e ≡ with_right_operand (waiting self) (formula right)) }
     {
         match self {
-            Pending::Negation => Ok(Expr::Not(Box::new(alloc, right)?)),
-            Pending::Group => Ok(right),
-            Pending::Both(left) => Ok(Expr::And(Box::new(alloc, left)?, Box::new(alloc, right)?)),
-            Pending::Either(left) => Ok(Expr::Or(Box::new(alloc, left)?, Box::new(alloc, right)?)),
+            PendingOperand::Negation => Ok(Expr::Not(Box::new(alloc, right)?)),
+            PendingOperand::Group => Ok(right),
+            PendingOperand::Both(left) => Ok(Expr::And(
+                Box::new(alloc, left)?,
+                Box::new(alloc, right)?,
+            )),
+            PendingOperand::Either(left) => Ok(Expr::Or(
+                Box::new(alloc, left)?,
+                Box::new(alloc, right)?,
+            )),
         }
     }
 }
@@ -79,17 +85,17 @@ impl Pending {
 #[derive(Drop)]
 pub(crate) struct Stack {
     // The newest last.
-    items: Vec<Pending>,
+    items: Vec<PendingOperand>,
 }
 
 impl Model for Stack {
     ghost use Rattle.std.specs.Prelude.{List};
     ghost use Rattle.std.specs.Coded.{codes};
-    ghost use Rattle.st_policy.specs.FormulaCode.{formula_code};
-    ghost use Rattle.st_policy.specs.Draft.{Pending};
+    ghost use Rattle.st_filter.specs.FormulaCode.{formula_code};
+    ghost use Rattle.st_policy.specs.Draft.{PendingOperand};
     ghost use Rattle.st_policy.specs.Stack.{stacked};
 
-    ghost Value = { List Pending };
+    ghost Value = { List PendingOperand };
 
     ghost coded = { Prim.hlevel (codes, formula_code) };
 
@@ -105,14 +111,14 @@ impl Stack {
         }
     }
 
-    fn push(&mut self, pending: Pending) -> Result<(), AllocError>
+    fn push(&mut self, pending: PendingOperand) -> Result<(), AllocError>
         ensures { OnOk result (self.new ≡ waiting pending ∷ self.old) }
     {
         self.items.push(pending)?;
         Ok(())
     }
 
-    fn pop(&mut self) -> Option<Pending>
+    fn pop(&mut self) -> Option<PendingOperand>
         ensures some { IfSome result (λ p. self.old ≡ waiting p ∷ self.new) }
         ensures none { IfNone result (self.old ≡ []) }
     {
@@ -120,17 +126,17 @@ impl Stack {
     }
 
     // The newest, where it takes an operand at once.
-    fn pop_binding(&mut self) -> Option<Pending>
-        ensures some { IfSome result (λ p. (self.old ≡ waiting p ∷ self.new) × (binds (waiting p) ≡ true)) }
-        ensures none { IfNone result ((self.new ≡ self.old) × (newest_is binds self.old ≡ false)) }
+    fn pop_binding(&mut self) -> Option<PendingOperand>
+        ensures some { IfSome result (λ p. (self.old ≡ waiting p ∷ self.new) × (is_tight (waiting p) ≡ true)) }
+        ensures none { IfNone result ((self.new ≡ self.old) × (newest_is is_tight self.old ≡ false)) }
     {
         match self.items.last() {
-            Some(pending) if pending.binds() => self.pop(),
+            Some(pending) if pending.is_tight() => self.pop(),
             _ => None,
         }
     }
 
-    fn pop_either(&mut self) -> Option<Pending>
+    fn pop_either(&mut self) -> Option<PendingOperand>
         ensures some { IfSome result (λ p. (self.old ≡ waiting p ∷ self.new) × (is_either (waiting p) ≡ true)) }
         ensures none { IfNone result ((self.new ≡ self.old) × (newest_is is_either self.old ≡ false)) }
     {
@@ -140,7 +146,7 @@ impl Stack {
         }
     }
 
-    fn pop_group(&mut self) -> Option<Pending>
+    fn pop_group(&mut self) -> Option<PendingOperand>
         ensures some { IfSome result (λ p. (self.old ≡ waiting p ∷ self.new) × (is_group (waiting p) ≡ true)) }
         ensures none { IfNone result ((self.new ≡ self.old) × (newest_is is_group self.old ≡ false)) }
     {
@@ -157,7 +163,7 @@ impl Stack {
     {
         let mut expr = operand;
         while let Some(pending) = self.pop_binding() {
-            expr = pending.applied(alloc, expr)?;
+            expr = pending.with_right_operand(alloc, expr)?;
         }
         Ok(expr)
     }
@@ -168,7 +174,7 @@ impl Stack {
         ensures { IfOk result (λ e. reduced self.new (formula e) ≡ close_either self.old (formula conjunction)) }
     {
         match self.pop_either() {
-            Some(pending) => pending.applied(alloc, conjunction),
+            Some(pending) => pending.with_right_operand(alloc, conjunction),
             None => Ok(conjunction),
         }
     }
@@ -198,8 +204,8 @@ pub(crate) struct Draft {
 
 impl Model for Draft {
     ghost use Rattle.std.specs.Coded.{codes};
-    ghost use Rattle.st_policy.specs.Formula.{formula};
-    ghost use Rattle.st_policy.specs.FormulaCode.{formula_code};
+    ghost use Rattle.st_filter.specs.Formula.{formula};
+    ghost use Rattle.st_filter.specs.FormulaCode.{formula_code};
     ghost use Rattle.st_policy.specs.Draft.{Draft, reduced};
 
     ghost Value = { Draft };
@@ -228,15 +234,15 @@ impl Draft {
         }
     }
 
-    fn wait(&mut self, pending: Pending) -> Result<(), AllocError>
-        ensures { OnOk result (self.new ≡ waits self.old (waiting pending)) }
+    fn wait(&mut self, pending: PendingOperand) -> Result<(), AllocError>
+        ensures { OnOk result (self.new ≡ with_pending self.old (waiting pending)) }
     {
         self.pending.push(pending)
     }
 
     // An operand is complete.
     fn complete(&mut self, alloc: Global, operand: Expr) -> Result<(), AllocError>
-        ensures { OnOk result (self.new ≡ completes self.old (formula operand)) }
+        ensures { OnOk result (self.new ≡ with_operand self.old (formula operand)) }
     {
         self.expr = self.pending.settle(alloc, operand)?;
         Ok(())
@@ -246,10 +252,10 @@ impl Draft {
         ensures { OnOk result (self.new ≡ draft_operand self.old (seen symbol.now)) }
     {
         match *symbol {
-            Symbol::Open => self.wait(Pending::Group),
+            Symbol::Open => self.wait(PendingOperand::Group),
             Symbol::Word(word) => {
                 if is(word, b"not") {
-                    self.wait(Pending::Negation)
+                    self.wait(PendingOperand::Negation)
                 } else if is(word, b"true") {
                     self.complete(alloc, Expr::True)
                 } else {
@@ -265,7 +271,7 @@ impl Draft {
         ensures { self.new ≡ draft_operator self.old (seen symbol.now) }
     {
         if let Symbol::Word(word) = *symbol {
-            self.op = Op::named(word).unwrap_or(self.op);
+            self.op = op_named(word).unwrap_or(self.op);
         }
     }
 
@@ -312,14 +318,14 @@ impl Draft {
         ensures { OnOk result (self.new ≡ record self.old { expression = joins_both self.old.expression }) }
     {
         let left = replace(&mut self.expr, Expr::True);
-        self.pending.push(Pending::Both(left))
+        self.pending.push(PendingOperand::Both(left))
     }
 
     fn join_either(&mut self) -> Result<(), AllocError>
         ensures { OnOk result (self.new ≡ record self.old { expression = joins_either self.old.expression }) }
     {
         let left = replace(&mut self.expr, Expr::True);
-        self.pending.push(Pending::Either(left))
+        self.pending.push(PendingOperand::Either(left))
     }
 
     fn close_group(&mut self, alloc: Global) -> Result<(), AllocError>
@@ -455,7 +461,7 @@ impl Draft {
         place: Place,
         symbol: &Symbol,
     ) -> Result<(), AllocError>
-        ensures { OnOk result (self.new ≡ drafted env.now label.now self.old (seen symbol.now) place) }
+        ensures { OnOk result (self.new ≡ draft_step env.now label.now self.old (seen symbol.now) place) }
     {
         match place {
             Place::Row => *self = Draft::new(alloc),

@@ -1,16 +1,16 @@
 ghost use Rattle.std.specs.Prelude.{◌≡◌, ◌++◌, ◌^◌, ◌<◌, ◌↔◌, true, None, Some, length, IfOk};
 ghost use Rattle.st_policy.specs.Symbol.{seen};
-ghost use Rattle.st_policy.specs.Diagram.{Walk, known_after, binaries, first_walk, fault_in};
+ghost use Rattle.st_policy.specs.Diagram.{GrammarState, known_after, binaries, first_walk, fault_in};
 ghost use Rattle.st_policy.specs.Draft.{is_binary_place};
-ghost use Rattle.st_policy.specs.FaultPlace.{leads, place_by, fault_place_from, place_of_fault};
+ghost use Rattle.st_policy.specs.FaultPlace.{place_after, place_by, fault_place_from, place_of_fault};
 ghost use Rattle.st_policy.specs.Leftmost.{symbol_at_end};
 
 use crate::env::Env;
 use crate::place::Place;
 use crate::reader::binary_of;
-use crate::set::PolicySet;
 use crate::symbol::Symbol;
-use crate::walk::Walk;
+use crate::walk::GrammarState;
+use st_filter::PolicySet;
 use st_lex::{LexFault, Token, tokens};
 use std::alloc::{AllocError, Global};
 
@@ -21,13 +21,13 @@ fn step_binary<'a>(
     env: &Env,
     before: &PolicySet,
     begun: &mut PolicySet,
-    walk: &Walk<'a>,
+    walk: &GrammarState<'a>,
     at: u32,
     symbol: &Symbol<'a>,
-) -> Result<Option<Walk<'a>>, AllocError>
+) -> Result<Option<GrammarState<'a>>, AllocError>
     requires { is_binary_place walk.now.place ≡ true }
-    ensures step { IfOk result (λ found. found ≡ leads env.now (binaries before.now ++ binaries begun.old) walk.now at (seen symbol.now)) }
-    ensures known { IfOk result (λ found. (w : Walk) → found ≡ Some w → binaries begun.new ≡ known_after env.now (seen symbol.now) walk.now.place (binaries begun.old)) }
+    ensures step { IfOk result (λ found. found ≡ place_after env.now (binaries before.now ++ binaries begun.old) walk.now at (seen symbol.now)) }
+    ensures known { IfOk result (λ found. (w : GrammarState) → found ≡ Some w → binaries begun.new ≡ known_after env.now (seen symbol.now) walk.now.place (binaries begun.old)) }
 {
     let Some(binary) = binary_of(alloc, env, symbol)? else {
         return Ok(None);
@@ -50,12 +50,12 @@ fn step<'a>(
     env: &Env,
     before: &PolicySet,
     begun: &mut PolicySet,
-    walk: &Walk<'a>,
+    walk: &GrammarState<'a>,
     at: u32,
     symbol: &Symbol<'a>,
-) -> Result<Option<Walk<'a>>, AllocError>
-    ensures step { IfOk result (λ found. found ≡ leads env.now (binaries before.now ++ binaries begun.old) walk.now at (seen symbol.now)) }
-    ensures known { IfOk result (λ found. (w : Walk) → found ≡ Some w → binaries begun.new ≡ known_after env.now (seen symbol.now) walk.now.place (binaries begun.old)) }
+) -> Result<Option<GrammarState<'a>>, AllocError>
+    ensures step { IfOk result (λ found. found ≡ place_after env.now (binaries before.now ++ binaries begun.old) walk.now at (seen symbol.now)) }
+    ensures known { IfOk result (λ found. (w : GrammarState) → found ≡ Some w → binaries begun.new ≡ known_after env.now (seen symbol.now) walk.now.place (binaries begun.old)) }
 {
     if walk.place().is_binary() {
         step_binary(alloc, env, before, begun, walk, at, symbol)
@@ -70,11 +70,11 @@ fn place_at_end(
     env: &Env,
     before: &PolicySet,
     begun: &mut PolicySet,
-    walk: &Walk,
+    walk: &GrammarState,
     at: u32,
     broken: Option<LexFault>,
 ) -> Result<Option<Place>, AllocError>
-    ensures { IfOk result (λ place. place ≡ place_by walk.now.place (leads env.now (binaries before.now ++ binaries begun.old) walk.now at (symbol_at_end broken))) }
+    ensures { IfOk result (λ place. place ≡ place_by walk.now.place (place_after env.now (binaries before.now ++ binaries begun.old) walk.now at (symbol_at_end broken))) }
 {
     let last = match broken {
         None => Symbol::Line,
@@ -98,7 +98,7 @@ fn place_among(
     ensures { IfOk result (λ place. place ≡ fault_place_from env.now text.now broken (binaries set.now) (first_walk set.now) tokens.now) }
 {
     let mut begun = PolicySet::new(alloc);
-    let mut walk = Walk::new(set.filters());
+    let mut walk = GrammarState::new(set.filters());
     for token in tokens {
         let symbol = Symbol::of(text, token);
         match step(alloc, env, set, &mut begun, &walk, token.at, &symbol)? {

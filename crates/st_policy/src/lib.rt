@@ -5,12 +5,10 @@ mod draft;
 pub mod env;
 pub mod fault;
 mod fault_place;
-pub mod filter;
 pub mod form;
 pub mod place;
 pub mod print;
 pub mod reader;
-pub mod set;
 mod symbol;
 mod walk;
 mod words;
@@ -18,12 +16,14 @@ mod words;
 pub use env::{Env, NamedId};
 pub use fault::{PolicyFault, Unsupported};
 pub use fault_place::place_of_fault;
-pub use filter::{Action, Cmp, Expr, Filter, FilterName, Grant, Op, Policy, Predicate, Who};
 pub use form::{is_filter_row, is_header_row, is_in_form};
 pub use place::Place;
 pub use print::{print_filter, print_policies, printed_policies_are_read_again};
 pub use reader::{read_policies, reading_is_one};
-pub use set::{BinaryPolicy, PolicySet};
+pub use st_filter::{
+    Action, BinaryPolicy, Cmp, Expr, Filter, FilterName, Grant, MOST_FILTERS, Op, Policy,
+    PolicySet, Predicate, Who,
+};
 
 #[cfg(test)]
 mod tests;

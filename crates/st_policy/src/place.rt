@@ -1,6 +1,6 @@
 ghost use Rattle.std.specs.Prelude.{◌≡◌};
 
-use crate::filter::Who;
+use st_filter::Who;
 
 /// Where in the grammar of policies a token stands.
 #[derive(Clone, Copy, Debug, PartialEq, Eq)]

@@ -2,47 +2,37 @@ ghost use Rattle.std.specs.Prelude.{◌≡◌, ◌++◌, [], List, OnOk, OnErr, 
 ghost use Rattle.std.specs.List.{flat_map};
 ghost use Rattle.st_lex.specs.Pieces.{print, piece_bytes};
 ghost use Rattle.st_base.specs.Errno.{word_of_error};
-ghost use Rattle.st_policy.specs.Canon.{word_of_op, index_pieces, test_pieces, fits, in_parens, expression_pieces, condition_pieces, deny_pieces, action_pieces, user_pieces, group_pieces, grant_pieces, log_pieces, word_of_who, cmp_piece, predicate_pieces, call_word, filter_pieces, row_pieces, canon_filter, header_pieces, binary_piece, policy_pieces, canon};
-ghost use Rattle.st_policy.specs.Formula.{formula};
+ghost use Rattle.st_policy.specs.Canon.{word_of_op, index_pieces, test_pieces, needs_no_parens, in_parens, expression_pieces, condition_pieces, deny_pieces, action_pieces, user_pieces, group_pieces, grant_pieces, log_pieces, word_of_who, cmp_piece, predicate_pieces, call_word, filter_pieces, row_pieces, canon_filter, header_pieces, binary_piece, policy_pieces, canon};
+ghost use Rattle.st_filter.specs.Formula.{formula};
 ghost use Rattle.st_policy.specs.Grammar.{Operand, Conjunction, Reads};
 ghost use Rattle.st_policy.specs.Readable.{WasRead, HasPlainDollars, HasSmallIds};
 ghost use Rattle.st_policy.specs.declared.env.Env.{Env};
-ghost use Rattle.st_policy.specs.declared.set.BinaryPolicy.{BinaryPolicy};
+ghost use Rattle.st_filter.specs.declared.set.BinaryPolicy.{BinaryPolicy};
 
-use crate::filter::{Action, Cmp, Expr, Filter, FilterName, Grant, Op, Policy, Predicate, Who};
-use crate::set::PolicySet;
 use st_base::{Errno, Text};
+use st_calls::append_index;
+use st_filter::{
+    Action, Cmp, Expr, Filter, FilterName, Grant, Op, Policy, PolicySet, Predicate, Who,
+};
 use st_lex::{is_word_text, quote};
 use std::alloc::{AllocError, Global};
 
-impl Op {
-    // How a policy writes it.
-    fn word(self) -> &'static [u8]
-        ensures { result.now ≡ word_of_op self }
-    {
-        match self {
-            Op::Match => b"match",
-            Op::Eq => b"eq",
-            Op::Neq => b"neq",
-            Op::Sub => b"sub",
-            Op::Nsub => b"nsub",
-            Op::Inpath => b"inpath",
-        }
-    }
-}
-
-// Appends the index of a label; index 0 isn't written.
-fn append_index(index: u32, out: &mut Text) -> Result<(), AllocError>
-    ensures { OnOk result (out.new ≡ out.old ++ print (index_pieces index)) }
+// How a policy writes an operator.
+fn word_of_op(op: Op) -> &'static [u8]
+    ensures { result.now ≡ word_of_op op }
 {
-    if index == 0 {
-        return Ok(());
+    match op {
+        Op::Match => b"match",
+        Op::Eq => b"eq",
+        Op::Neq => b"neq",
+        Op::Sub => b"sub",
+        Op::Nsub => b"nsub",
+        Op::Inpath => b"inpath",
     }
-    out.push(b'[')?;
-    out.append_number(u64::from(index))?;
-    out.push(b']')
 }
 
+// Appends a test.
+#[tactic(auto, using(crate::proofs::Indices::index_text_printed))]
 fn append_test(
     label: &[u8],
     index: u32,
@@ -55,66 +45,64 @@ fn append_test(
     out.append(label)?;
     append_index(index, out)?;
     out.push(b' ')?;
-    out.append(op.word())?;
+    out.append(word_of_op(op))?;
     out.push(b' ')?;
     quote(text, out)
 }
 
-impl Expr {
-    // Whether it stands as an operand without parentheses.
-    fn is_operand(&self) -> bool
-        ensures { result ≡ fits Operand (formula self.now) }
-    {
-        !matches!(self, Expr::And(_, _) | Expr::Or(_, _))
-    }
+// Whether an expression stands as an operand without parentheses.
+fn is_operand(expr: &Expr) -> bool
+    ensures { result ≡ needs_no_parens Operand (formula expr.now) }
+{
+    !matches!(expr, Expr::And(_, _) | Expr::Or(_, _))
+}
 
-    // Whether it stands beside `and` on its left, or beside `or` on its right, without parentheses.
-    fn is_conjunction(&self) -> bool
-        ensures { result ≡ fits Conjunction (formula self.now) }
-    {
-        !matches!(self, Expr::Or(_, _))
-    }
+// Whether it stands beside `and` on its left, or beside `or` on its right, without parentheses.
+fn is_conjunction(expr: &Expr) -> bool
+    ensures { result ≡ needs_no_parens Conjunction (formula expr.now) }
+{
+    !matches!(expr, Expr::Or(_, _))
+}
 
-    // Appends it with parentheses or without.
-    #[cycle(expression)]
-    fn append_in(&self, bare: bool, out: &mut Text) -> Result<(), AllocError>
-        ensures { OnOk result (out.new ≡ out.old ++ print (in_parens bare (expression_pieces (formula self.now)))) }
-    {
-        if bare {
-            return self.append(out);
+// Appends an expression with parentheses or without.
+#[cycle(expression)]
+fn append_in(expr: &Expr, bare: bool, out: &mut Text) -> Result<(), AllocError>
+    ensures { OnOk result (out.new ≡ out.old ++ print (in_parens bare (expression_pieces (formula expr.now)))) }
+{
+    if bare {
+        return append_expression(expr, out);
+    }
+    out.push(b'(')?;
+    append_expression(expr, out)?;
+    out.push(b')')
+}
+
+// Appends an expression without parentheses around it.
+#[cycle(expression)]
+fn append_expression(expr: &Expr, out: &mut Text) -> Result<(), AllocError>
+    ensures { OnOk result (out.new ≡ out.old ++ print (expression_pieces (formula expr.now))) }
+{
+    match expr {
+        Expr::True => out.append(b"true"),
+        Expr::Test {
+            label,
+            index,
+            op,
+            text,
+        } => append_test(label.bytes(), *index, *op, text.bytes(), out),
+        Expr::Not(operand) => {
+            out.append(b"not ")?;
+            append_in(operand, is_operand(operand), out)
         }
-        out.push(b'(')?;
-        self.append(out)?;
-        out.push(b')')
-    }
-
-    // Appends it without parentheses around it.
-    #[cycle(expression)]
-    fn append(&self, out: &mut Text) -> Result<(), AllocError>
-        ensures { OnOk result (out.new ≡ out.old ++ print (expression_pieces (formula self.now))) }
-    {
-        match self {
-            Expr::True => out.append(b"true"),
-            Expr::Test {
-                label,
-                index,
-                op,
-                text,
-            } => append_test(label.bytes(), *index, *op, text.bytes(), out),
-            Expr::Not(operand) => {
-                out.append(b"not ")?;
-                operand.append_in(operand.is_operand(), out)
-            }
-            Expr::And(left, right) => {
-                left.append_in(left.is_conjunction(), out)?;
-                out.append(b" and ")?;
-                right.append_in(right.is_operand(), out)
-            }
-            Expr::Or(left, right) => {
-                left.append_in(true, out)?;
-                out.append(b" or ")?;
-                right.append_in(right.is_conjunction(), out)
-            }
+        Expr::And(left, right) => {
+            append_in(left, is_conjunction(left), out)?;
+            out.append(b" and ")?;
+            append_in(right, is_operand(right), out)
+        }
+        Expr::Or(left, right) => {
+            append_in(left, true, out)?;
+            out.append(b" or ")?;
+            append_in(right, is_conjunction(right), out)
         }
     }
 }
@@ -126,7 +114,7 @@ fn append_condition(expr: &Expr, out: &mut Text) -> Result<(), AllocError>
     if matches!(expr, Expr::True) {
         return Ok(());
     }
-    expr.append(out)?;
+    append_expression(expr, out)?;
     out.append(b" then ")
 }
 
@@ -222,15 +210,13 @@ fn append_predicate(predicate: Option<Predicate>, out: &mut Text) -> Result<(), 
     out.append_number(u64::from(predicate.id))
 }
 
-impl FilterName {
-    // The name behind `native-`.
-    fn word(&self) -> &[u8]
-        ensures { result.now ≡ call_word self.now }
-    {
-        match self {
-            FilterName::Rule(rule) => rule.word(),
-            FilterName::Other(word) => word.bytes(),
-        }
+// A filter's name behind `native-`.
+fn word_of_name(name: &FilterName) -> &[u8]
+    ensures { result.now ≡ call_word name.now }
+{
+    match name {
+        FilterName::Rule(rule) => rule.word(),
+        FilterName::Other(word) => word.bytes(),
     }
 }
 
@@ -239,7 +225,7 @@ fn append_filter(filter: &Filter, out: &mut Text) -> Result<(), AllocError>
     ensures { OnOk result (out.new ≡ out.old ++ canon_filter filter.now) }
 {
     out.append(b"native-")?;
-    out.append(filter.name().word())?;
+    out.append(word_of_name(filter.name()))?;
     out.append(b": ")?;
     append_condition(filter.expr(), out)?;
     append_action(filter.action(), out)?;

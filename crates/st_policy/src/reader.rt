@@ -1,19 +1,21 @@
 ghost use Rattle.std.specs.Prelude.{◌≡◌, ◌≢◌, ◌^◌, ◌<◌, ◌≤◌, ◌↔◌, ℕ, List, true, false, Some, None, Ok, Err, IfOk, IfErr, OnOk, OnErr, length, take};
 ghost use Rattle.st_policy.specs.declared.env.Env.{Env};
-ghost use Rattle.st_policy.specs.declared.set.BinaryPolicy.{BinaryPolicy};
+ghost use Rattle.st_filter.specs.declared.set.BinaryPolicy.{BinaryPolicy};
 ghost use Rattle.st_policy.specs.Symbol.{seen};
-ghost use Rattle.st_policy.specs.Grammar.{Reads, filters_in, most_filters, if_absolute, binary_of};
+ghost use Rattle.st_policy.specs.Grammar.{Reads, if_absolute, binary_of};
+ghost use Rattle.st_filter.specs.Policies.{filters_in, add_filter};
 ghost use Rattle.st_policy.specs.Diagram.{lexical, fault_in};
 ghost use Rattle.st_policy.specs.Leftmost.{HasNoWayOn};
-ghost use Rattle.st_policy.specs.Draft.{is_binary_place, ends_filter, add_filter, filter_of, first_draft, draft_after, set_after, reading, read_step, read_end, read_from, first_reading, set_of, policies_in};
+ghost use Rattle.st_policy.specs.Draft.{is_binary_place, ends_filter, filter_of, first_draft, draft_after, set_after, as_reading, read_step, read_end, read_from, first_reading, set_of, policies_in};
+ghost use Rattle.st_filter.specs.declared.set.TheConstants.{MOST_FILTERS};
 
 use crate::draft::Draft;
 use crate::env::Env;
 use crate::fault::PolicyFault;
-use crate::set::PolicySet;
 use crate::symbol::Symbol;
-use crate::walk::Walk;
+use crate::walk::GrammarState;
 use st_base::Text;
+use st_filter::PolicySet;
 use st_lex::{LexFault, Token, tokens, unquote};
 use std::alloc::{AllocError, Global};
 use std::mem::replace;
@@ -57,7 +59,7 @@ fn lexical(fault: LexFault, found: PolicyFault) -> PolicyFault
 // What of a text was read.
 #[derive(Drop)]
 struct Reader<'a> {
-    walk: Walk<'a>,
+    walk: GrammarState<'a>,
     draft: Draft,
 }
 
@@ -72,8 +74,8 @@ impl<'a> Reader<'a> {
         symbol: &Symbol<'a>,
     ) -> Result<(), PolicyFault>
         requires { is_binary_place self.old.walk.place ≡ true }
-        ensures ok { OnOk result (read_step env.now (reading self.old.walk self.old.draft set.old) at (seen symbol.now) ≡ Ok (reading self.new.walk self.new.draft set.new)) }
-        ensures fault { IfErr result (λ f. f ≢ PolicyFault.NoMemory → read_step env.now (reading self.old.walk self.old.draft set.old) at (seen symbol.now) ≡ Err f) }
+        ensures ok { OnOk result (read_step env.now (as_reading self.old.walk self.old.draft set.old) at (seen symbol.now) ≡ Ok (as_reading self.new.walk self.new.draft set.new)) }
+        ensures fault { IfErr result (λ f. f ≢ PolicyFault.NoMemory → read_step env.now (as_reading self.old.walk self.old.draft set.old) at (seen symbol.now) ≡ Err f) }
         ensures same { OnErr result (set.new ≡ set.old) }
     {
         let binary = match binary_of(alloc, env, symbol)? {
@@ -88,7 +90,7 @@ impl<'a> Reader<'a> {
 
     // The end of a filter.
     fn end_filter(&mut self, alloc: Global, set: &mut PolicySet) -> Result<(), PolicyFault>
-        requires { filters_in set.old < most_filters }
+        requires { filters_in set.old < MOST_FILTERS }
         ensures set { OnOk result (set.new ≡ add_filter set.old (filter_of self.old.walk.name self.old.draft)) }
         ensures walk { self.new.walk ≡ self.old.walk }
         ensures draft { OnOk result (self.new.draft ≡ first_draft) }
@@ -110,7 +112,7 @@ impl<'a> Reader<'a> {
         symbol: &Symbol<'a>,
     ) -> Result<(), PolicyFault>
         requires other { is_binary_place self.old.walk.place ≡ false }
-        requires room { ends_filter self.old.walk.place ≡ true → filters_in set.old < most_filters }
+        requires room { ends_filter self.old.walk.place ≡ true → filters_in set.old < MOST_FILTERS }
         ensures set { OnOk result (set.new ≡ set_after env.now self.old.walk.name self.old.draft (seen symbol.now) self.old.walk.place set.old) }
         ensures walk { self.new.walk ≡ self.old.walk }
         ensures draft { OnOk result (self.new.draft ≡ draft_after env.now self.old.walk.label self.old.draft (seen symbol.now) self.old.walk.place) }
@@ -137,9 +139,9 @@ impl<'a> Reader<'a> {
         symbol: &Symbol<'a>,
     ) -> Result<(), PolicyFault>
         requires other { is_binary_place self.old.walk.place ≡ false }
-        requires room { ends_filter self.old.walk.place ≡ true → filters_in set.old < most_filters }
-        ensures ok { OnOk result (read_step env.now (reading self.old.walk self.old.draft set.old) at (seen symbol.now) ≡ Ok (reading self.new.walk self.new.draft set.new)) }
-        ensures fault { IfErr result (λ f. f ≢ PolicyFault.NoMemory → read_step env.now (reading self.old.walk self.old.draft set.old) at (seen symbol.now) ≡ Err f) }
+        requires room { ends_filter self.old.walk.place ≡ true → filters_in set.old < MOST_FILTERS }
+        ensures ok { OnOk result (read_step env.now (as_reading self.old.walk self.old.draft set.old) at (seen symbol.now) ≡ Ok (as_reading self.new.walk self.new.draft set.new)) }
+        ensures fault { IfErr result (λ f. f ≢ PolicyFault.NoMemory → read_step env.now (as_reading self.old.walk self.old.draft set.old) at (seen symbol.now) ≡ Err f) }
         ensures same { OnErr result (set.new ≡ set.old) }
     {
         let walk = self.walk.step(env, at, symbol)?;
@@ -157,9 +159,9 @@ impl<'a> Reader<'a> {
         at: u32,
         symbol: &Symbol<'a>,
     ) -> Result<(), PolicyFault>
-        requires { ends_filter self.old.walk.place ≡ true → filters_in set.old < most_filters }
-        ensures ok { OnOk result (read_step env.now (reading self.old.walk self.old.draft set.old) at (seen symbol.now) ≡ Ok (reading self.new.walk self.new.draft set.new)) }
-        ensures fault { IfErr result (λ f. f ≢ PolicyFault.NoMemory → read_step env.now (reading self.old.walk self.old.draft set.old) at (seen symbol.now) ≡ Err f) }
+        requires { ends_filter self.old.walk.place ≡ true → filters_in set.old < MOST_FILTERS }
+        ensures ok { OnOk result (read_step env.now (as_reading self.old.walk self.old.draft set.old) at (seen symbol.now) ≡ Ok (as_reading self.new.walk self.new.draft set.new)) }
+        ensures fault { IfErr result (λ f. f ≢ PolicyFault.NoMemory → read_step env.now (as_reading self.old.walk self.old.draft set.old) at (seen symbol.now) ≡ Err f) }
         ensures same { OnErr result (set.new ≡ set.old) }
     {
         if self.walk.place().is_binary() {
@@ -179,9 +181,9 @@ impl<'a> Reader<'a> {
         broken: Option<LexFault>,
     ) -> Result<(), PolicyFault>
         requires small { length text.now < 2 ^ 32 }
-        requires room { ends_filter self.old.walk.place ≡ true → filters_in set.old < most_filters }
-        ensures ok { OnOk result (read_end env.now text.now broken (reading self.old.walk self.old.draft set.old) ≡ Ok (reading self.new.walk self.new.draft set.new)) }
-        ensures fault { IfErr result (λ f. f ≢ PolicyFault.NoMemory → read_end env.now text.now broken (reading self.old.walk self.old.draft set.old) ≡ Err f) }
+        requires room { ends_filter self.old.walk.place ≡ true → filters_in set.old < MOST_FILTERS }
+        ensures ok { OnOk result (read_end env.now text.now broken (as_reading self.old.walk self.old.draft set.old) ≡ Ok (as_reading self.new.walk self.new.draft set.new)) }
+        ensures fault { IfErr result (λ f. f ≢ PolicyFault.NoMemory → read_end env.now text.now broken (as_reading self.old.walk self.old.draft set.old) ≡ Err f) }
         ensures same { OnErr result (set.new ≡ set.old) }
     {
         let at = text.len() as u32;
@@ -196,7 +198,7 @@ impl<'a> Reader<'a> {
 }
 
 // Reads the tokens of a text and what stands behind them; where that fails, the set has what was read of it.
-#[tactic(auto, using(crate::proofs::Rooms::kept, crate::proofs::Rooms::room, crate::proofs::Rooms::sound_first))]
+#[tactic(auto, using(crate::proofs::Rooms::old_is_kept, crate::proofs::Rooms::has_room, crate::proofs::Rooms::sound_first))]
 fn read_tokens(
     alloc: Global,
     text: &[u8],
@@ -209,10 +211,10 @@ fn read_tokens(
     ensures ok { OnOk result (set_of (read_from env.now text.now broken (first_reading set.old) tokens.now) ≡ Ok set.new) }
     ensures fault { IfErr result (λ f. f ≢ PolicyFault.NoMemory → read_from env.now text.now broken (first_reading set.old) tokens.now ≡ Err f) }
     ensures kept { OnErr result (take (length set.old) set.new ≡ set.old) }
-    ensures few { OnOk result (filters_in set.old ≤ most_filters) }
+    ensures few { OnOk result (filters_in set.old ≤ MOST_FILTERS) }
 {
     let mut reader = Reader {
-        walk: Walk::new(set.filters()),
+        walk: GrammarState::new(set.filters()),
         draft: Draft::new(alloc),
     };
     for token in tokens {
@@ -228,7 +230,7 @@ fn read_text(alloc: Global, text: &[u8], env: &Env, set: &mut PolicySet) -> Resu
     ensures ok { OnOk result (policies_in text.now env.now set.old ≡ Ok set.new) }
     ensures fault { IfErr result (λ f. f ≢ PolicyFault.NoMemory → policies_in text.now env.now set.old ≡ Err f) }
     ensures kept { OnErr result (take (length set.old) set.new ≡ set.old) }
-    ensures few { OnOk result (filters_in set.old ≤ most_filters) }
+    ensures few { OnOk result (filters_in set.old ≤ MOST_FILTERS) }
 {
     let lexed = tokens(alloc, text)?;
     read_tokens(alloc, text, env, set, lexed.tokens.as_slice(), lexed.fault)
@@ -245,7 +247,7 @@ fn read_or_restore(
     ensures ok { OnOk result (policies_in text.now env.now set.old ≡ Ok set.new) }
     ensures fault { IfErr result (λ f. f ≢ PolicyFault.NoMemory → policies_in text.now env.now set.old ≡ Err f) }
     ensures same { OnErr result (set.new ≡ set.old) }
-    ensures few { OnOk result (filters_in set.old ≤ most_filters) }
+    ensures few { OnOk result (filters_in set.old ≤ MOST_FILTERS) }
 {
     let len = set.len();
     match read_text(alloc, text, env, set) {
@@ -279,7 +281,7 @@ pub fn read_policies(
 /// to the token that doesn't fit, whatever follows there.
 pub fn reading_is_one()
     ensures one { (text : List ℕ) (env : Env) (old a b : List BinaryPolicy) → Reads text env old a → Reads text env old b → a ≡ b }
-    ensures faultless { (text : List ℕ) (env : Env) (old : List BinaryPolicy) → filters_in old ≤ most_filters →
+    ensures faultless { (text : List ℕ) (env : Env) (old : List BinaryPolicy) → filters_in old ≤ MOST_FILTERS →
         (fault_in text env old ≡ None) ↔ ((set : List BinaryPolicy) × Reads text env old set) }
     ensures leftmost { (text : List ℕ) (env : Env) (old : List BinaryPolicy) (fault : PolicyFault) → fault_in text env old ≡ Some fault →
         HasNoWayOn text env old }

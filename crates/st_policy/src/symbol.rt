@@ -3,8 +3,8 @@ ghost use Rattle.st_policy.specs.Symbol.{symbol_of, seen};
 ghost use Rattle.st_policy.specs.Grammar.{comparison};
 ghost use Rattle.st_policy.specs.Diagram.{is_action, is_keyword, is_colon, is_comma, is_close_bracket, is_quoted, is_line};
 
-use crate::filter::Cmp;
 use crate::words::is;
+use st_filter::Cmp;
 use st_lex::{Token, TokenKind};
 
 /// A token as the grammar of policies sees it.

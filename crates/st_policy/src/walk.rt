@@ -1,34 +1,31 @@
 ghost use Rattle.std.specs.Prelude.{◌≡◌, ◌+◌, ◌==◌, ℕ, List, [], false, IfOk, OnOk};
 ghost use Rattle.st_calls.specs.Call.{rule_named};
-ghost use Rattle.st_policy.specs.Words.{name_by, filter_name, allows, knows, sets_ids};
+ghost use Rattle.st_policy.specs.Words.{name_by, filter_name, may_test, may_test_label, sets_ids};
 ghost use Rattle.st_policy.specs.Symbol.{seen, Close};
-ghost use Rattle.st_policy.specs.Grammar.{has_policy};
-ghost use Rattle.st_policy.specs.Diagram.{goes, only, step_start, step_name, step_row, step_binary, step_system, joined, step_operand, step_op, step_operator, step_label, step_indexed, step_index, step_joint, step_action, is_action, step_clause, step_as, step_tail, step_denial, step_errno, step_error, step_known, step_id, step_grant, step_user, step_who, word_who, step_comparison, next, binaries};
+ghost use Rattle.st_filter.specs.Policies.{has_policy};
+ghost use Rattle.st_policy.specs.Diagram.{step_to, only, step_start, step_name, step_row, step_binary, step_system, joined, step_operand, step_op, step_operator, step_label, step_indexed, step_index, step_joint, step_action, is_action, step_clause, step_as, step_tail, step_denial, step_errno, step_error, step_known, step_id, step_grant, step_user, step_who, word_who, step_comparison, next, binaries};
 ghost use Rattle.st_policy.specs.Draft.{is_binary_place};
 
 use crate::env::{Env, NamedId};
 use crate::fault::{PolicyFault, Unsupported};
-use crate::filter::{Cmp, FilterName, Op, Who};
 use crate::place::Place;
-use crate::set::PolicySet;
 use crate::symbol::Symbol;
 use crate::words::{
-    allows, id_of, index_of, is, is_label, knows, names_for, native_name, sets_ids,
+    id_of, index_of, is, is_label, may_test, may_test_label, names_for, native_name, op_named,
+    sets_ids, who_named,
 };
 use st_base::{Errno, Text};
 use st_calls::Rule;
+use st_filter::{Cmp, FilterName, MOST_FILTERS, Op, PolicySet, Who};
 use std::alloc::{AllocError, Global};
 use std::marker::Model;
-
-// How many filters there may be over all files.
-const MOST_FILTERS: usize = 4096;
 
 // How many of `not`, `and`, `or` and `(` one filter may have.
 const MOST_JOINS: u32 = 64;
 
 /// How far the grammar has come in a text. Parts of the text are named and not copied.
 #[derive(Drop)]
-pub(crate) struct Walk<'a> {
+pub(crate) struct GrammarState<'a> {
     place: Place,
     // How many filters there are, this one and those of earlier files too.
     filters: usize,
@@ -43,24 +40,24 @@ pub(crate) struct Walk<'a> {
     joins: u32,
 }
 
-impl<'a> Model for Walk<'a> {
+impl<'a> Model for GrammarState<'a> {
     ghost use Rattle.std.specs.Prelude.{◌≤◌};
     ghost use Rattle.st_policy.specs.Words.{name_by};
-    ghost use Rattle.st_policy.specs.Diagram.{Walk};
+    ghost use Rattle.st_policy.specs.Diagram.{GrammarState};
 
-    ghost Value = { Walk };
+    ghost Value = { GrammarState };
 
     ghost view = { λ w. record { place = w.place; filters = w.filters; name = name_by w.name.now w.rule; label = w.label.now; label_at = w.label_at; parens = w.parens; joins = w.joins } };
 
     ghost invariant = { λ w. (w.parens ≤ w.joins) × (w.joins ≤ 64) };
 }
 
-impl<'a> Walk<'a> {
+impl<'a> GrammarState<'a> {
     /// The front of a text, with so many filters read before it.
     pub(crate) fn new(filters: usize) -> Self
         ensures { result ≡ record { place = Place.Start; filters = filters; name = FilterName.Other []; label = []; label_at = 0; parens = 0; joins = 0 } }
     {
-        Walk {
+        GrammarState {
             place: Place::Start,
             filters,
             name: &[],
@@ -96,10 +93,10 @@ impl<'a> Walk<'a> {
         }
     }
 
-    fn goes(&self, next: Place) -> Result<Walk<'a>, PolicyFault>
-        ensures { result ≡ goes self.now next }
+    fn step_to(&self, next: Place) -> Result<GrammarState<'a>, PolicyFault>
+        ensures { result ≡ step_to self.now next }
     {
-        Ok(Walk {
+        Ok(GrammarState {
             place: next,
             filters: self.filters,
             name: self.name,
@@ -112,11 +109,11 @@ impl<'a> Walk<'a> {
     }
 
     // One thing alone may stand here.
-    fn only(&self, at: u32, fits: bool, next: Place) -> Result<Walk<'a>, PolicyFault>
+    fn only(&self, at: u32, fits: bool, next: Place) -> Result<GrammarState<'a>, PolicyFault>
         ensures { result ≡ only self.now at fits next }
     {
         if fits {
-            self.goes(next)
+            self.step_to(next)
         } else {
             Err(PolicyFault::Expected(at))
         }
@@ -124,22 +121,22 @@ impl<'a> Walk<'a> {
 }
 
 // Rows and headers.
-impl<'a> Walk<'a> {
-    fn step_start(&self, at: u32, symbol: &Symbol<'a>) -> Result<Walk<'a>, PolicyFault>
+impl<'a> GrammarState<'a> {
+    fn step_start(&self, at: u32, symbol: &Symbol<'a>) -> Result<GrammarState<'a>, PolicyFault>
         ensures { result ≡ step_start self.now at (seen symbol.now) }
     {
         match *symbol {
-            Symbol::Line => self.goes(Place::Start),
+            Symbol::Line => self.step_to(Place::Start),
             Symbol::Word(word) => self.only(at, is(word, b"Policy"), Place::PolicyColon),
             _ => Err(PolicyFault::Expected(at)),
         }
     }
 
-    fn begins(&self, at: u32, name: &'a [u8]) -> Result<Walk<'a>, PolicyFault>
+    fn begins(&self, at: u32, name: &'a [u8]) -> Result<GrammarState<'a>, PolicyFault>
         ensures { result ≡ step_name self.now at (Some (name_by name.now (rule_named name.now))) }
     {
         if self.filters < MOST_FILTERS {
-            Ok(Walk {
+            Ok(GrammarState {
                 place: Place::NameColon,
                 filters: self.filters + 1,
                 name,
@@ -154,7 +151,7 @@ impl<'a> Walk<'a> {
         }
     }
 
-    fn step_name(&self, at: u32, word: &'a [u8]) -> Result<Walk<'a>, PolicyFault>
+    fn step_name(&self, at: u32, word: &'a [u8]) -> Result<GrammarState<'a>, PolicyFault>
         ensures { result ≡ step_name self.now at (filter_name word.now) }
     {
         match native_name(word) {
@@ -163,14 +160,14 @@ impl<'a> Walk<'a> {
         }
     }
 
-    fn step_row(&self, at: u32, symbol: &Symbol<'a>) -> Result<Walk<'a>, PolicyFault>
+    fn step_row(&self, at: u32, symbol: &Symbol<'a>) -> Result<GrammarState<'a>, PolicyFault>
         ensures { result ≡ step_row self.now at (seen symbol.now) }
     {
         match *symbol {
-            Symbol::Line => self.goes(Place::Row),
+            Symbol::Line => self.step_to(Place::Row),
             Symbol::Word(word) => {
                 if is(word, b"Policy") {
-                    self.goes(Place::PolicyColon)
+                    self.step_to(Place::PolicyColon)
                 } else {
                     self.step_name(at, word)
                 }
@@ -186,24 +183,24 @@ impl<'a> Walk<'a> {
         known: &PolicySet,
         at: u32,
         binary: &[u8],
-    ) -> Result<Walk<'a>, PolicyFault>
+    ) -> Result<GrammarState<'a>, PolicyFault>
         ensures is { result ≡ step_binary (binaries known.now) self.now at (Some binary.now) }
         ensures new { OnOk result (has_policy known.now binary.now ≡ false) }
     {
         if known.has(binary) {
             Err(PolicyFault::DuplicatePolicy(at))
         } else {
-            self.goes(Place::Comma)
+            self.step_to(Place::Comma)
         }
     }
 
-    fn step_system(&self, at: u32, symbol: &Symbol<'a>) -> Result<Walk<'a>, PolicyFault>
+    fn step_system(&self, at: u32, symbol: &Symbol<'a>) -> Result<GrammarState<'a>, PolicyFault>
         ensures { result ≡ step_system self.now at (seen symbol.now) }
     {
         match *symbol {
             Symbol::Word(word) => {
                 if is(word, b"native") {
-                    self.goes(Place::HeaderEnd)
+                    self.step_to(Place::HeaderEnd)
                 } else {
                     Err(PolicyFault::NotSupported(at, Unsupported::Emulation))
                 }
@@ -214,13 +211,13 @@ impl<'a> Walk<'a> {
 }
 
 // Expressions.
-impl<'a> Walk<'a> {
+impl<'a> GrammarState<'a> {
     // One more of `not`, `and`, `or` and `(`, which opens so many parentheses.
-    fn joined(&self, at: u32) -> Result<Walk<'a>, PolicyFault>
+    fn joined(&self, at: u32) -> Result<GrammarState<'a>, PolicyFault>
         ensures { result ≡ joined self.now at }
     {
         if self.joins < MOST_JOINS {
-            Ok(Walk {
+            Ok(GrammarState {
                 place: Place::Operand,
                 filters: self.filters,
                 name: self.name,
@@ -235,11 +232,11 @@ impl<'a> Walk<'a> {
         }
     }
 
-    fn opens(&self, at: u32) -> Result<Walk<'a>, PolicyFault>
+    fn opens(&self, at: u32) -> Result<GrammarState<'a>, PolicyFault>
         ensures { result ≡ joined (record self.now { parens = self.now.parens + 1 }) at }
     {
         if self.joins < MOST_JOINS {
-            Ok(Walk {
+            Ok(GrammarState {
                 place: Place::Operand,
                 filters: self.filters,
                 name: self.name,
@@ -254,11 +251,11 @@ impl<'a> Walk<'a> {
         }
     }
 
-    fn closes(&self, at: u32) -> Result<Walk<'a>, PolicyFault>
+    fn closes(&self, at: u32) -> Result<GrammarState<'a>, PolicyFault>
         ensures { result ≡ step_joint self.now at Close }
     {
         if self.parens > 0 {
-            Ok(Walk {
+            Ok(GrammarState {
                 place: Place::Joint,
                 filters: self.filters,
                 name: self.name,
@@ -273,10 +270,10 @@ impl<'a> Walk<'a> {
         }
     }
 
-    fn with_label(&self, at: u32, label: &'a [u8]) -> Walk<'a>
+    fn with_label(&self, at: u32, label: &'a [u8]) -> GrammarState<'a>
         ensures { result ≡ record self.now { place = Place.Label; label = label.now; label_at = at } }
     {
-        Walk {
+        GrammarState {
             place: Place::Label,
             filters: self.filters,
             name: self.name,
@@ -288,7 +285,7 @@ impl<'a> Walk<'a> {
         }
     }
 
-    fn step_operand(&self, at: u32, symbol: &Symbol<'a>) -> Result<Walk<'a>, PolicyFault>
+    fn step_operand(&self, at: u32, symbol: &Symbol<'a>) -> Result<GrammarState<'a>, PolicyFault>
         ensures { result ≡ step_operand self.now at (seen symbol.now) }
     {
         match *symbol {
@@ -297,7 +294,7 @@ impl<'a> Walk<'a> {
                 if is(word, b"not") {
                     self.joined(at)
                 } else if is(word, b"true") {
-                    self.goes(Place::Joint)
+                    self.step_to(Place::Joint)
                 } else if is_label(word) {
                     Ok(self.with_label(at, word))
                 } else {
@@ -308,12 +305,12 @@ impl<'a> Walk<'a> {
         }
     }
 
-    fn step_operator(&self, at: u32, symbol: &Symbol<'a>) -> Result<Walk<'a>, PolicyFault>
+    fn step_operator(&self, at: u32, symbol: &Symbol<'a>) -> Result<GrammarState<'a>, PolicyFault>
         ensures { result ≡ step_operator self.now at (seen symbol.now) }
     {
         match *symbol {
-            Symbol::Word(word) => match Op::named(word) {
-                Some(_) => self.goes(Place::Text),
+            Symbol::Word(word) => match op_named(word) {
+                Some(_) => self.step_to(Place::Text),
                 None => {
                     if is(word, b"re") {
                         Err(PolicyFault::NotSupported(at, Unsupported::Re))
@@ -327,17 +324,17 @@ impl<'a> Walk<'a> {
     }
 
     // Whether the filter may test the label that was read, with this index.
-    fn allows(&self, index: u32) -> bool
-        ensures { result ≡ allows self.now.name self.now.label index }
+    fn may_test(&self, index: u32) -> bool
+        ensures { result ≡ may_test self.now.name self.now.label index }
     {
-        allows(self.name, self.rule, self.label, index)
+        may_test(self.name, self.rule, self.label, index)
     }
 
     // Whether it may test this label with some index.
-    fn knows(&self) -> bool
-        ensures { result ≡ knows self.now.name self.now.label }
+    fn may_test_label(&self) -> bool
+        ensures { result ≡ may_test_label self.now.name self.now.label }
     {
-        knows(self.name, self.rule, self.label)
+        may_test_label(self.name, self.rule, self.label)
     }
 
     fn label_fault(&self) -> PolicyFault
@@ -346,13 +343,13 @@ impl<'a> Walk<'a> {
         PolicyFault::UnknownArgument(self.label_at)
     }
 
-    fn step_label(&self, at: u32, symbol: &Symbol<'a>) -> Result<Walk<'a>, PolicyFault>
+    fn step_label(&self, at: u32, symbol: &Symbol<'a>) -> Result<GrammarState<'a>, PolicyFault>
         ensures { result ≡ step_label self.now at (seen symbol.now) }
     {
         match *symbol {
-            Symbol::OpenBracket => self.goes(Place::Index),
+            Symbol::OpenBracket => self.step_to(Place::Index),
             _ => {
-                if self.allows(0) {
+                if self.may_test(0) {
                     self.step_operator(at, symbol)
                 } else {
                     Err(self.label_fault())
@@ -361,19 +358,19 @@ impl<'a> Walk<'a> {
         }
     }
 
-    fn step_indexed(&self, at: u32, index: Option<u32>) -> Result<Walk<'a>, PolicyFault>
+    fn step_indexed(&self, at: u32, index: Option<u32>) -> Result<GrammarState<'a>, PolicyFault>
         ensures { result ≡ step_indexed self.now at index }
     {
         match index {
             Some(index) => {
-                if self.allows(index) {
-                    self.goes(Place::IndexEnd)
+                if self.may_test(index) {
+                    self.step_to(Place::IndexEnd)
                 } else {
                     Err(self.label_fault())
                 }
             }
             None => {
-                if self.knows() {
+                if self.may_test_label() {
                     Err(PolicyFault::Expected(at))
                 } else {
                     Err(self.label_fault())
@@ -382,7 +379,7 @@ impl<'a> Walk<'a> {
         }
     }
 
-    fn step_index(&self, at: u32, symbol: &Symbol<'a>) -> Result<Walk<'a>, PolicyFault>
+    fn step_index(&self, at: u32, symbol: &Symbol<'a>) -> Result<GrammarState<'a>, PolicyFault>
         ensures { result ≡ step_index self.now at (seen symbol.now) }
     {
         match *symbol {
@@ -397,7 +394,7 @@ impl<'a> Walk<'a> {
         self.parens == 0
     }
 
-    fn step_joint(&self, at: u32, symbol: &Symbol<'a>) -> Result<Walk<'a>, PolicyFault>
+    fn step_joint(&self, at: u32, symbol: &Symbol<'a>) -> Result<GrammarState<'a>, PolicyFault>
         ensures { result ≡ step_joint self.now at (seen symbol.now) }
     {
         match *symbol {
@@ -415,24 +412,29 @@ impl<'a> Walk<'a> {
 }
 
 // Actions and what follows them.
-impl<'a> Walk<'a> {
-    fn step_action(&self, env: &Env, at: u32, symbol: &Symbol<'a>) -> Result<Walk<'a>, PolicyFault>
+impl<'a> GrammarState<'a> {
+    fn step_action(
+        &self,
+        env: &Env,
+        at: u32,
+        symbol: &Symbol<'a>,
+    ) -> Result<GrammarState<'a>, PolicyFault>
         ensures { result ≡ step_action env.now self.now at (seen symbol.now) }
     {
         match *symbol {
             Symbol::Word(word) => {
                 if is(word, b"permit") {
-                    self.goes(Place::Tail {
+                    self.step_to(Place::Tail {
                         grant: true,
                         log: true,
                     })
                 } else if is(word, b"deny") {
-                    self.goes(Place::Denial)
+                    self.step_to(Place::Denial)
                 } else if is(word, b"ask") {
                     if env.learn {
                         Err(PolicyFault::AskWithLearn(at))
                     } else {
-                        self.goes(Place::Tail {
+                        self.step_to(Place::Tail {
                             grant: false,
                             log: true,
                         })
@@ -445,7 +447,12 @@ impl<'a> Walk<'a> {
         }
     }
 
-    fn step_clause(&self, env: &Env, at: u32, symbol: &Symbol<'a>) -> Result<Walk<'a>, PolicyFault>
+    fn step_clause(
+        &self,
+        env: &Env,
+        at: u32,
+        symbol: &Symbol<'a>,
+    ) -> Result<GrammarState<'a>, PolicyFault>
         ensures { result ≡ step_clause env.now self.now at (seen symbol.now) }
     {
         if symbol.is_action() {
@@ -461,14 +468,14 @@ impl<'a> Walk<'a> {
         sets_ids(self.name, self.rule)
     }
 
-    fn step_as(&self, env: &Env, at: u32, log: bool) -> Result<Walk<'a>, PolicyFault>
+    fn step_as(&self, env: &Env, at: u32, log: bool) -> Result<GrammarState<'a>, PolicyFault>
         ensures { result ≡ step_as env.now self.now at log }
     {
         if env.elevate {
             if self.sets_ids() {
                 Err(PolicyFault::ElevateOnSetId(at))
             } else {
-                self.goes(Place::Grant { log })
+                self.step_to(Place::Grant { log })
             }
         } else {
             Err(PolicyFault::ElevateWithoutIds(at))
@@ -482,12 +489,12 @@ impl<'a> Walk<'a> {
         log: bool,
         at: u32,
         symbol: &Symbol<'a>,
-    ) -> Result<Walk<'a>, PolicyFault>
+    ) -> Result<GrammarState<'a>, PolicyFault>
         ensures { result ≡ step_tail env.now grant log self.now at (seen symbol.now) }
     {
         match *symbol {
-            Symbol::Line => self.goes(Place::Row),
-            Symbol::Comma => self.goes(Place::If),
+            Symbol::Line => self.step_to(Place::Row),
+            Symbol::Comma => self.step_to(Place::If),
             Symbol::Word(word) => {
                 if is(word, b"as") && grant {
                     self.step_as(env, at, log)
@@ -503,21 +510,26 @@ impl<'a> Walk<'a> {
         }
     }
 
-    fn step_denial(&self, env: &Env, at: u32, symbol: &Symbol<'a>) -> Result<Walk<'a>, PolicyFault>
+    fn step_denial(
+        &self,
+        env: &Env,
+        at: u32,
+        symbol: &Symbol<'a>,
+    ) -> Result<GrammarState<'a>, PolicyFault>
         ensures { result ≡ step_denial env.now self.now at (seen symbol.now) }
     {
         match *symbol {
-            Symbol::OpenBracket => self.goes(Place::Error),
+            Symbol::OpenBracket => self.step_to(Place::Error),
             _ => self.step_tail(env, false, true, at, symbol),
         }
     }
 
-    fn step_error(&self, at: u32, symbol: &Symbol<'a>) -> Result<Walk<'a>, PolicyFault>
+    fn step_error(&self, at: u32, symbol: &Symbol<'a>) -> Result<GrammarState<'a>, PolicyFault>
         ensures { result ≡ step_error self.now at (seen symbol.now) }
     {
         match *symbol {
             Symbol::Word(word) => match Errno::of_word(word) {
-                Some(_) => self.goes(Place::ErrorEnd),
+                Some(_) => self.step_to(Place::ErrorEnd),
                 None => Err(PolicyFault::UnknownError(at)),
             },
             _ => Err(PolicyFault::Expected(at)),
@@ -531,12 +543,12 @@ impl<'a> Walk<'a> {
         at: u32,
         next: Place,
         symbol: &Symbol<'a>,
-    ) -> Result<Walk<'a>, PolicyFault>
+    ) -> Result<GrammarState<'a>, PolicyFault>
         ensures { result ≡ step_id names.now self.now at next (seen symbol.now) }
     {
         match *symbol {
             Symbol::Word(word) => match id_of(names, word) {
-                Some(_) => self.goes(next),
+                Some(_) => self.step_to(next),
                 None => Err(PolicyFault::UnknownUser(at)),
             },
             _ => Err(PolicyFault::Expected(at)),
@@ -549,11 +561,11 @@ impl<'a> Walk<'a> {
         log: bool,
         at: u32,
         symbol: &Symbol<'a>,
-    ) -> Result<Walk<'a>, PolicyFault>
+    ) -> Result<GrammarState<'a>, PolicyFault>
         ensures { result ≡ step_grant env.now log self.now at (seen symbol.now) }
     {
         match *symbol {
-            Symbol::Colon => self.goes(Place::Group { log }),
+            Symbol::Colon => self.step_to(Place::Group { log }),
             _ => self.step_id(env.users.as_slice(), at, Place::User { log }, symbol),
         }
     }
@@ -564,46 +576,51 @@ impl<'a> Walk<'a> {
         log: bool,
         at: u32,
         symbol: &Symbol<'a>,
-    ) -> Result<Walk<'a>, PolicyFault>
+    ) -> Result<GrammarState<'a>, PolicyFault>
         ensures { result ≡ step_user env.now log self.now at (seen symbol.now) }
     {
         match *symbol {
-            Symbol::Colon => self.goes(Place::Group { log }),
+            Symbol::Colon => self.step_to(Place::Group { log }),
             _ => self.step_tail(env, false, log, at, symbol),
         }
     }
 
-    fn step_who(&self, at: u32, symbol: &Symbol<'a>) -> Result<Walk<'a>, PolicyFault>
+    fn step_who(&self, at: u32, symbol: &Symbol<'a>) -> Result<GrammarState<'a>, PolicyFault>
         ensures { result ≡ step_who self.now at (word_who (seen symbol.now)) }
     {
         match *symbol {
-            Symbol::Word(word) => match Who::named(word) {
-                Some(who) => self.goes(Place::Comparison(who)),
+            Symbol::Word(word) => match who_named(word) {
+                Some(who) => self.step_to(Place::Comparison(who)),
                 None => Err(PolicyFault::Expected(at)),
             },
             _ => Err(PolicyFault::Expected(at)),
         }
     }
 
-    fn step_comparison(&self, who: Who, at: u32, cmp: Option<Cmp>) -> Result<Walk<'a>, PolicyFault>
+    fn step_comparison(
+        &self,
+        who: Who,
+        at: u32,
+        cmp: Option<Cmp>,
+    ) -> Result<GrammarState<'a>, PolicyFault>
         ensures { result ≡ step_comparison who self.now at cmp }
     {
         match cmp {
-            Some(_) => self.goes(Place::Id(who)),
+            Some(_) => self.step_to(Place::Id(who)),
             None => Err(PolicyFault::Expected(at)),
         }
     }
 }
 
 // All places.
-impl<'a> Walk<'a> {
+impl<'a> GrammarState<'a> {
     /// Where a symbol leads, or its fault; where a binary stands, `step_binary` says it.
     pub(crate) fn step(
         &self,
         env: &Env,
         at: u32,
         symbol: &Symbol<'a>,
-    ) -> Result<Walk<'a>, PolicyFault>
+    ) -> Result<GrammarState<'a>, PolicyFault>
         requires { is_binary_place self.now.place ≡ false }
         ensures { (known : List (List ℕ)) → result ≡ next env.now known self.now at (seen symbol.now) }
     {

@@ -2,12 +2,12 @@ ghost use Rattle.std.specs.Prelude.{◌≡◌, ◌&&◌, nat_lt, length, find, o
 ghost use Rattle.std.specs.List.{list_all};
 ghost use Rattle.std.specs.Str.{bytes_eq};
 ghost use Rattle.st_policy.specs.Grammar.{who_named};
-ghost use Rattle.st_policy.specs.Words.{is_label, is_name_byte, native_name, name_by, filter_name, allows, knows, sets_ids, op_named, index_in, has_name, id_in, names_for};
+ghost use Rattle.st_policy.specs.Words.{is_label, is_name_byte, native_name, name_by, filter_name, may_test, may_test_label, sets_ids, op_named, index_in, has_name, id_in, names_for};
 
 use crate::env::{Env, NamedId};
-use crate::filter::{Op, Who};
 use st_base::number::{number_of, numeral_up_to};
 use st_calls::{Rule, SysCall};
+use st_filter::{Op, Who};
 
 /// Whether a word is this one.
 pub(crate) fn is(word: &[u8], keyword: &[u8]) -> bool
@@ -60,8 +60,8 @@ pub(crate) fn native_name(word: &[u8]) -> Option<&[u8]>
 }
 
 /// Whether a filter for this rule, or for a call outside the model, may test the argument of this label and index.
-pub(crate) fn allows(name: &[u8], rule: Option<Rule>, label: &[u8], index: u32) -> bool
-    ensures { result ≡ allows (name_by name.now rule) label.now index }
+pub(crate) fn may_test(name: &[u8], rule: Option<Rule>, label: &[u8], index: u32) -> bool
+    ensures { result ≡ may_test (name_by name.now rule) label.now index }
 {
     match rule {
         Some(rule) => rule.has_argument(label, index),
@@ -70,8 +70,8 @@ pub(crate) fn allows(name: &[u8], rule: Option<Rule>, label: &[u8], index: u32) 
 }
 
 /// Whether it may test an argument of this label with some index.
-pub(crate) fn knows(name: &[u8], rule: Option<Rule>, label: &[u8]) -> bool
-    ensures { result ≡ knows (name_by name.now rule) label.now }
+pub(crate) fn may_test_label(name: &[u8], rule: Option<Rule>, label: &[u8]) -> bool
+    ensures { result ≡ may_test_label (name_by name.now rule) label.now }
 {
     match rule {
         Some(rule) => rule.has_label(label),
@@ -92,41 +92,37 @@ pub(crate) fn sets_ids(name: &[u8], rule: Option<Rule>) -> bool
     }
 }
 
-impl Op {
-    /// The operator that a word names.
-    pub(crate) fn named(word: &[u8]) -> Option<Op>
-        ensures { result ≡ op_named word.now }
-    {
-        if is(word, b"match") {
-            Some(Op::Match)
-        } else if is(word, b"eq") {
-            Some(Op::Eq)
-        } else if is(word, b"neq") {
-            Some(Op::Neq)
-        } else if is(word, b"sub") {
-            Some(Op::Sub)
-        } else if is(word, b"nsub") {
-            Some(Op::Nsub)
-        } else if is(word, b"inpath") {
-            Some(Op::Inpath)
-        } else {
-            None
-        }
+/// The operator that a word names.
+pub(crate) fn op_named(word: &[u8]) -> Option<Op>
+    ensures { result ≡ op_named word.now }
+{
+    if is(word, b"match") {
+        Some(Op::Match)
+    } else if is(word, b"eq") {
+        Some(Op::Eq)
+    } else if is(word, b"neq") {
+        Some(Op::Neq)
+    } else if is(word, b"sub") {
+        Some(Op::Sub)
+    } else if is(word, b"nsub") {
+        Some(Op::Nsub)
+    } else if is(word, b"inpath") {
+        Some(Op::Inpath)
+    } else {
+        None
     }
 }
 
-impl Who {
-    /// Whose id a word names.
-    pub(crate) fn named(word: &[u8]) -> Option<Who>
-        ensures { result ≡ who_named word.now }
-    {
-        if is(word, b"user") {
-            Some(Who::User)
-        } else if is(word, b"group") {
-            Some(Who::Group)
-        } else {
-            None
-        }
+/// Whose id a word names.
+pub(crate) fn who_named(word: &[u8]) -> Option<Who>
+    ensures { result ≡ who_named word.now }
+{
+    if is(word, b"user") {
+        Some(Who::User)
+    } else if is(word, b"group") {
+        Some(Who::Group)
+    } else {
+        None
     }
 }
 

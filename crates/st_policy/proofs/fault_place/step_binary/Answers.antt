@@ -1,7 +1,8 @@
 use Rattle.std.proofs.Common.{◌≡◌, ◌∙◌, sym, ap, false, Some, Ok}
 use Rattle.st_policy.specs.Symbol.{seen}
 use Rattle.st_policy.specs.Diagram.{step_binary, binaries}
-use Rattle.st_policy.specs.Grammar.{binary_of, has_policy}
+use Rattle.st_policy.specs.Grammar.{binary_of}
+use Rattle.st_filter.specs.Policies.{has_policy}
 use Rattle.st_policy.proofs.FaultPlaces.{known_once}
 use Rattle.st_policy.proofs.fault_place.step_binary.Goals as goal
 

@@ -1,11 +1,11 @@
 use Rattle.std.proofs.Common.{◌≡◌, drop}
-use Rattle.st_policy.specs.Draft.{reading, read_from, first_reading}
+use Rattle.st_policy.specs.Draft.{as_reading, read_from, first_reading}
 use Rattle.st_policy.specs.Between.{IsSound}
 use Rattle.st_policy.proofs.reader.read_tokens.Given as goal
 
 -- the rest of the tokens, read behind what was read
 abbrev pub invariant-loop-token : goal.invariant-loop-token
 invariant-loop-token l = record {
-  rest : read_from l.env l.text l.broken (first_reading l.initial.set) l.tokens ≡ read_from l.env l.text l.broken (reading l.reader.walk l.reader.draft l.set) (drop l.token-index l.tokens);
-  sound : IsSound l.initial.set (reading l.reader.walk l.reader.draft l.set);
+  rest : read_from l.env l.text l.broken (first_reading l.initial.set) l.tokens ≡ read_from l.env l.text l.broken (as_reading l.reader.walk l.reader.draft l.set) (drop l.token-index l.tokens);
+  sound : IsSound l.initial.set (as_reading l.reader.walk l.reader.draft l.set);
 }

@@ -1,5 +1,5 @@
 use Rattle.std.proofs.Common.{◌≡◌, length}
-use Rattle.st_policy.specs.Formula.{formula}
+use Rattle.st_filter.specs.Formula.{formula}
 use Rattle.st_policy.specs.Draft.{settle}
 use Rattle.st_policy.proofs.draft.Stack.settle.Given as goal
 
