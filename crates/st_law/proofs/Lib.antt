@@ -1,6 +1,6 @@
-pub mod Ties
 pub mod Held
-pub mod Steps
-pub mod Works
 pub mod Laws
 pub mod Rows
+pub mod Steps
+pub mod Ties
+pub mod Works

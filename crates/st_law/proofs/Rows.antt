@@ -8,10 +8,10 @@ use Rattle.st_calls.specs.declared.judged.Snapshot.{Snapshot}
 use Rattle.st_calls.specs.declared.judged.Verdict.TheVariants.{Permit, Unmatched}
 use Rattle.st_calls.specs.declared.rule.Rule.TheVariants.{FsRead}
 use Rattle.st_names.specs.declared.seen.SeenText.TheVariants.{Dir, File, Missing}
-use Rattle.st_policy.specs.Formula.{Test, FilterValue}
-use Rattle.st_policy.specs.declared.filter.Action.TheVariants as action
-use Rattle.st_policy.specs.declared.filter.FilterName.TheVariants as name
-use Rattle.st_policy.specs.declared.filter.Op.TheVariants.{Eq}
+use Rattle.st_filter.specs.Formula.{Test, FilterValue}
+use Rattle.st_filter.specs.declared.filter.Action.TheVariants as action
+use Rattle.st_filter.specs.declared.filter.FilterName.TheVariants as name
+use Rattle.st_filter.specs.declared.filter.Op.TheVariants.{Eq}
 use Rattle.st_trace.specs.declared.entry.Choice.TheVariants.{Thread, Worker}
 use Rattle.st_trace.specs.declared.entry.Entry.{Entry}
 use Rattle.st_trace.specs.declared.entry.Entry.TheVariants.{Stored, Entered, Claimed, Copied, Looked, Answered, Used, Denied, Ended}
@@ -20,12 +20,12 @@ use Rattle.st_trace.specs.declared.entry.Cause.TheVariants.{NoFilter}
 use Rattle.st_trace.specs.declared.entry.CallResult.TheVariants.{Value}
 use Rattle.st_trace.specs.declared.start.Instr.{Instr}
 use Rattle.st_trace.specs.declared.start.Instr.TheVariants.{Store, Call}
-use Rattle.st_trace.specs.declared.start.RowKind.TheVariants as row_kind
+use Rattle.st_model.specs.declared.object.NewKind.TheVariants as row_kind
 use Rattle.st_trace.specs.declared.start.ThreadRow.{ThreadRow}
 use Rattle.st_trace.specs.declared.start.TreeRow.{TreeRow}
 use Rattle.st_law.specs.declared.input.Input.{Input}
 use Rattle.st_law.specs.declared.input.Mode.TheVariants.{Enforce}
-use Rattle.st_law.specs.Machine.{run, rest_of}
+use Rattle.st_law.specs.Machine.{run, rest_choices}
 
 -- the words of /etc/passwd and of /etc/spwd
 abbrev passwd_words : List Instr
@@ -85,7 +85,7 @@ abbrev permitted : Entry
 permitted = Used 1 (Some 1) Open (replicate 6 0) (record { label = Filename; index = 0; text = codes "/etc/passwd" } ∷ []) (identity 1000 1000) (Value 3) []
 
 -- an open that is held, judged at its copies, and made
-held_open : run (input_of (opens passwd_words ∷ [])) (rest_of (input_of (opens passwd_words ∷ []))) ≡
+held_open : run (input_of (opens passwd_words ∷ [])) (rest_choices (input_of (opens passwd_words ∷ []))) ≡
     Stored 1 0 8314049735936992559 ∷
     Stored 1 1 6584179 ∷
     Entered 1 Open (replicate 6 0) (Held 1) ∷

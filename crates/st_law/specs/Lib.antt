@@ -1,3 +1,4 @@
 pub mod History
-pub mod Machine
 pub mod Lawful
+pub mod Machine
+pub mod Served

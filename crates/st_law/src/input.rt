@@ -1,4 +1,4 @@
-use st_policy::PolicySet;
+use st_filter::PolicySet;
 use st_trace::Start;
 
 /// What a run is of: the policies, where it starts, and the options.
