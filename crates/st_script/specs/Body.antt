@@ -1,7 +1,7 @@
 -- The bodies of threads: calls, stores and texts that are put into memory.
 use Rattle.std.specs.Prelude.{ℕ, ◌+◌, ◌/◌, ◌%◌, ◌<◌, Bool, true, false, ◌==◌, ◌&&◌, if◌then◌else◌, nat_le, nat_lt, List, [], ◌∷◌, ◌++◌, length, map, codes, Option, Some, None, option_map, option_and_then, slice_get, slice_index}
 use Rattle.std.specs.List.{range_with_len}
-use Rattle.st_memory.specs.Memory.{word_of}
+use Rattle.st_model.specs.Memory.{word_of}
 use Rattle.st_calls.specs.declared.call.SysCall.{SysCall}
 use Rattle.st_calls.specs.declared.call.SysCall.TheVariants.{GetPid, GetUid, GetEuid, Exit, Open}
 use Rattle.st_calls.specs.Call.{call_named}
@@ -11,13 +11,15 @@ use Rattle.st_trace.specs.declared.start.Instr.{Instr}
 use Rattle.st_trace.specs.declared.start.Instr.TheVariants.{Store, Call}
 use Rattle.st_script.specs.declared.body.BodyRow.{BodyRow}
 use Rattle.st_script.specs.declared.body.BodyRow.TheVariants.{One, Put}
-use Rattle.st_script.specs.Values.{number_at, below}
+use Rattle.st_script.specs.Values.{number_at, number_below}
+use Rattle.st_model.specs.declared.limits.TheConstants.{SPACE_BYTES, SPACE_WORDS}
 
 -- a register: the number at that place, 0 where there is none
 abbrev pub register_by : List ℕ → Option Token → Option ℕ
 register_by text None = Some 0
 register_by text (Some token) = number_at text token
 
+-- a register, by its place among the numbers of a row, 0 behind the last
 abbrev pub register_at : List ℕ → List Token → ℕ → Option ℕ
 register_at text numbers place = register_by text (slice_get numbers place)
 
@@ -40,6 +42,7 @@ is_made GetEuid regs = true
 is_made Exit regs = true
 is_made _ regs = false
 
+-- the instruction of a call with these registers, where the machine makes it
 abbrev pub call_with : SysCall → List ℕ → Option Instr
 call_with call regs = if is_made call regs then Some (Call call regs) else None
 
@@ -52,21 +55,22 @@ call_row text (keyword ∷ name ∷ numbers) =
 call_row text _ = None
 
 -- the place of a word of memory
-abbrev pub place_at : List ℕ → Token → Option ℕ
-place_at text token = option_and_then (below 8192) (number_at text token)
+abbrev pub word_index_at : List ℕ → Token → Option ℕ
+word_index_at text token = option_and_then (number_below SPACE_WORDS) (number_at text token)
 
 -- store PLACE WORD
 abbrev pub store_row : List ℕ → List Token → Option Instr
 store_row text (keyword ∷ place ∷ word ∷ []) =
     if is_keyword text (codes "store") keyword then
-    option_and_then (λ p. option_map (Store p) (number_at text word)) (place_at text place)
+    option_and_then (λ p. option_map (Store p) (number_at text word)) (word_index_at text place)
     else None
 store_row text _ = None
 
 -- the place where a text of that many bytes and a zero byte are put, if they lie in memory and begin with a word
-abbrev pub put_place : ℕ → ℕ → Option ℕ
-put_place count at = if at % 8 == 0 && nat_lt (at + count) 65536 then Some (at / 8) else None
+abbrev pub word_index_of_put : ℕ → ℕ → Option ℕ
+word_index_of_put count at = if at % 8 == 0 && nat_lt (at + count) SPACE_BYTES then Some (at / 8) else None
 
+-- a row that puts these bytes from a word index on, if there is one
 abbrev pub put_at : List ℕ → Option ℕ → Option BodyRow
 put_at bytes place = option_map (λ p. Put p bytes) place
 
@@ -74,25 +78,27 @@ put_at bytes place = option_map (λ p. Put p bytes) place
 abbrev pub put_row : List ℕ → List Token → Option BodyRow
 put_row text (keyword ∷ at ∷ quoted ∷ []) =
     if is_keyword text (codes "put") keyword then
-    option_and_then (λ bytes. put_at bytes (option_and_then (put_place (length bytes)) (number_at text at))) (plain_quoted text quoted)
+    option_and_then (λ bytes. put_at bytes (option_and_then (word_index_of_put (length bytes)) (number_at text at))) (plain_quoted text quoted)
     else None
 put_row text _ = None
 
-abbrev pub or_else : Option Instr → Option Instr → Option Instr
-or_else (Some instr) other = Some instr
-or_else None other = other
+-- the first of two instructions that is there
+abbrev pub one_or : Option Instr → Option Instr → Option Instr
+one_or (Some instr) other = Some instr
+one_or None other = other
 
 -- a row that stands for one instruction
 abbrev pub one_row : List ℕ → List Token → Option Instr
-one_row text row = or_else (call_row text row) (store_row text row)
+one_row text row = one_or (call_row text row) (store_row text row)
 
-abbrev pub or_put : Option Instr → Option BodyRow → Option BodyRow
-or_put (Some instr) other = Some (One instr)
-or_put None other = other
+-- a row of one instruction, if there is one, else one that puts a text
+abbrev pub put_or : Option Instr → Option BodyRow → Option BodyRow
+put_or (Some instr) other = Some (One instr)
+put_or None other = other
 
 -- a row of a body, but for the last
 abbrev pub body_row : List ℕ → List Token → Option BodyRow
-body_row text row = or_put (one_row text row) (put_row text row)
+body_row text row = put_or (one_row text row) (put_row text row)
 
 -- the store of word i of a text that zeros follow, where the text begins at this place
 abbrev pub store_of : ℕ → List ℕ → ℕ → Instr
@@ -110,22 +116,25 @@ instrs_of (Put first bytes) = stores first bytes
 -- what a row puts lies in memory
 abbrev pub IsWithin : BodyRow → Type 0
 IsWithin (One instr) = 0 < 1
-IsWithin (Put first bytes) = first + length bytes / 8 < 8192
+IsWithin (Put first bytes) = first + length bytes / 8 < SPACE_WORDS
 
+-- whether a row is `end`
 abbrev pub is_end : List ℕ → List Token → Bool
 is_end text (keyword ∷ []) = is_keyword text (codes "end") keyword
 is_end text _ = false
 
+-- nothing more of a body, where no row is left
 abbrev pub if_last : List (List Token) → Option (List Instr)
 if_last [] = Some []
 if_last (row ∷ rows) = None
 
-abbrev pub onto : List Instr → Option (List Instr) → Option (List Instr)
-onto instrs body = option_map (λ more. instrs ++ more) body
+-- instructions with the rest of a body behind them, if there is one
+abbrev pub with_instructions : List Instr → Option (List Instr) → Option (List Instr)
+with_instructions instrs body = option_map (λ more. instrs ++ more) body
 
 -- instructions, then `end`, which is the last row
 abbrev pub body_rows : List ℕ → List (List Token) → Option (List Instr)
 body_rows text [] = None
 body_rows text (row ∷ rows) =
     if is_end text row then if_last rows
-    else option_and_then (λ r. onto (instrs_of r) (body_rows text rows)) (body_row text row)
+    else option_and_then (λ r. with_instructions (instrs_of r) (body_rows text rows)) (body_row text row)

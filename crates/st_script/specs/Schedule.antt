@@ -7,10 +7,12 @@ use Rattle.st_lex.specs.Plain.{plain_tokens}
 use Rattle.st_law.specs.declared.input.Schedule.{Schedule}
 use Rattle.st_law.specs.declared.input.Schedule.TheVariants.{Rest}
 
+-- the schedule that a row spells
 abbrev pub schedule_row : List ℕ → List Token → Option Schedule
 schedule_row text (keyword ∷ []) = if is_keyword text (codes "rest") keyword then Some Rest else None
 schedule_row text _ = None
 
+-- the schedule that rows spell, where there is only one
 abbrev pub schedule_rows : List ℕ → List (List Token) → Option Schedule
 schedule_rows text (row ∷ []) = schedule_row text row
 schedule_rows text _ = None

@@ -11,23 +11,25 @@ use Rattle.st_trace.specs.declared.start.ProcessRow.{ProcessRow}
 use Rattle.st_trace.specs.declared.start.Instr.{Instr}
 use Rattle.st_script.specs.Values.{id_at, name_at}
 use Rattle.st_script.specs.Body.{body_rows}
-use Rattle.st_script.specs.Tree.{is_tree_row, grown, root_alone}
+use Rattle.st_script.specs.Tree.{is_tree_row, tree_with_row, root_tree}
 use Rattle.st_script.specs.declared.script.NamedProcess.{NamedProcess}
-use Rattle.st_script.specs.declared.tree.TreeSoFar.{TreeSoFar}
+use Rattle.st_script.specs.declared.tree.TreeBuilder.{TreeBuilder}
+use Rattle.st_script.specs.declared.script.TheConstants.{INSTRUCTION_LIMIT}
 
 -- "/"
-abbrev pub is_root : List ℕ → Token → Bool
-is_root text token = is_quoted token.kind && bytes_eq (text_of_token text token) (34 ∷ 47 ∷ 34 ∷ [])
+abbrev pub is_root_token : List ℕ → Token → Bool
+is_root_token text token = is_quoted token.kind && bytes_eq (text_of_token text token) (34 ∷ 47 ∷ 34 ∷ [])
 
 -- "BINARY" UID GID "/"
 abbrev pub traced_process : List ℕ → List Token → Option ProcessRow
 traced_process text (binary ∷ uid ∷ gid ∷ directory ∷ []) =
-    if is_root text directory then
+    if is_root_token text directory then
     option_and_then (λ b. option_and_then (λ u. option_map (λ g. record { traced = true; binary = b; uid = u; gid = g; cwd = [] })
     (id_at text gid)) (id_at text uid)) (name_at text binary)
     else None
 traced_process text _ = None
 
+-- a process with the name by which the script speaks of it
 abbrev pub named_by : List ℕ → ProcessRow → NamedProcess
 named_by name row = record { name = name; row = row }
 
@@ -63,13 +65,11 @@ pub record StartsOneThread (start : Start) : Type 0 where
   pub traced : process.traced ≡ true
   pub start_is : start ≡ one_thread tree process body
 
--- how many instructions a script may have
-abbrev pub instruction_limit : ℕ
-instruction_limit = 4096
-
+-- the start of one process and one thread of it, whose body has no more instructions than a script may
 abbrev pub start_within : List TreeRow → ProcessRow → List Instr → Option Start
-start_within tree process body = if nat_le (length body) instruction_limit then Some (one_thread tree process body) else None
+start_within tree process body = if nat_le (length body) INSTRUCTION_LIMIT then Some (one_thread tree process body) else None
 
+-- a thread of this process in the first row, and its body behind it
 abbrev pub thread_rows : List ℕ → List TreeRow → NamedProcess → List (List Token) → Option Start
 thread_rows text tree process [] = None
 thread_rows text tree process (thread ∷ rows) =
@@ -80,12 +80,12 @@ abbrev pub process_rows : List ℕ → List TreeRow → List Token → List (Lis
 process_rows text tree process rows = option_and_then (λ p. thread_rows text tree p rows) (process_row text process)
 
 -- what comes behind the rows that made this tree
-abbrev pub script_rows : List ℕ → TreeSoFar → List (List Token) → Option Start
+abbrev pub script_rows : List ℕ → TreeBuilder → List (List Token) → Option Start
 script_rows text tree [] = None
 script_rows text tree (row ∷ rows) =
-    if is_tree_row text row then option_and_then (λ t. script_rows text t rows) (grown text tree row)
+    if is_tree_row text row then option_and_then (λ t. script_rows text t rows) (tree_with_row text tree row)
     else process_rows text tree.rows row rows
 
 -- where a script starts
 abbrev pub script_in : List ℕ → Option Start
-script_in text = option_and_then (λ tokens. script_rows text root_alone (rows tokens)) (plain_tokens text)
+script_in text = option_and_then (λ tokens. script_rows text root_tree (rows tokens)) (plain_tokens text)

@@ -9,13 +9,15 @@ use Rattle.st_script.specs.Path.{is_absolute}
 abbrev pub number_at : List ℕ → Token → Option ℕ
 number_at text token = if is_word token.kind then number_in (text_of_token text token) else None
 
-abbrev pub below : ℕ → ℕ → Option ℕ
-below bound n = if nat_lt n bound then Some n else None
+-- a number that is below this one
+abbrev pub number_below : ℕ → ℕ → Option ℕ
+number_below bound n = if nat_lt n bound then Some n else None
 
 -- a user's or a group's id
 abbrev pub id_at : List ℕ → Token → Option ℕ
-id_at text token = option_and_then (below (2 ^ 32)) (number_at text token)
+id_at text token = option_and_then (number_below (2 ^ 32)) (number_at text token)
 
+-- a text that is an absolute name
 abbrev pub absolute_of : List ℕ → Option (List ℕ)
 absolute_of name = if is_absolute name then Some name else None
 

@@ -1,12 +1,13 @@
 ghost use Rattle.std.specs.Prelude.{◌≡◌, ◌+◌, ◌/◌, ◌^◌, ◌<◌, ◌++◌, length, slice_index, IfOk, IfSome, OnOk};
 ghost use Rattle.st_lex.specs.Rows.{rows};
-ghost use Rattle.st_memory.specs.Memory.{word_of};
-ghost use Rattle.st_script.specs.Body.{register_at, registers, is_made, call_row, place_at, store_row, put_place, put_row, one_row, body_row, stores, instrs_of, IsWithin, is_end, body_rows};
+ghost use Rattle.st_model.specs.Memory.{word_of};
+ghost use Rattle.st_script.specs.Body.{register_at, registers, is_made, call_row, word_index_at, store_row, word_index_of_put, put_row, one_row, body_row, stores, instrs_of, IsWithin, is_end, body_rows};
 
 use crate::values::number_at;
 use st_base::{Sequence, Text};
 use st_calls::SysCall;
 use st_lex::{Token, next_row};
+use st_model::{SPACE_BYTES, SPACE_WORDS};
 use st_trace::Instr;
 use std::alloc::{AllocError, Global};
 
@@ -73,11 +74,11 @@ pub fn call_row(text: &[u8], row: &[Token]) -> Option<Instr>
 }
 
 // The place of a word of memory.
-fn place_at(text: &[u8], token: &Token) -> Option<u32>
-    ensures { result ≡ place_at text.now token.now }
+fn word_index_at(text: &[u8], token: &Token) -> Option<u32>
+    ensures { result ≡ word_index_at text.now token.now }
 {
     let number = number_at(text, token)?;
-    if number < 8192 {
+    if number < u64::from(SPACE_WORDS) {
         Some(number as u32)
     } else {
         None
@@ -94,17 +95,17 @@ pub fn store_row(text: &[u8], row: &[Token]) -> Option<Instr>
     if !keyword.is_keyword(text, b"store") {
         return None;
     }
-    let place = place_at(text, place)?;
+    let place = word_index_at(text, place)?;
     let word = number_at(text, word)?;
     Some(Instr::Store(place, word))
 }
 
 // The place where a text of that many bytes and a zero byte are put, if they lie in memory and begin with a word.
-fn put_place(count: usize, at: u64) -> Option<u32>
-    ensures is { result ≡ put_place count at }
-    ensures within { IfSome result (λ place. place + count / 8 < 8192) }
+fn word_index_of_put(count: usize, at: u64) -> Option<u32>
+    ensures is { result ≡ word_index_of_put count at }
+    ensures within { IfSome result (λ place. place + count / 8 < SPACE_WORDS) }
 {
-    if at < 65_536 && at % 8 == 0 && count < 65_536 - at as usize {
+    if at < SPACE_BYTES && at % 8 == 0 && count < (SPACE_BYTES - at) as usize {
         Some((at / 8) as u32)
     } else {
         None
@@ -128,7 +129,7 @@ pub fn put_row(alloc: Global, text: &[u8], row: &[Token]) -> Result<Option<BodyR
     let Some(at) = number_at(text, at) else {
         return Ok(None);
     };
-    let Some(place) = put_place(bytes.len(), at) else {
+    let Some(place) = word_index_of_put(bytes.len(), at) else {
         return Ok(None);
     };
     Ok(Some(BodyRow::Put(place, Text::of(alloc, bytes)?)))
@@ -181,7 +182,7 @@ fn word_at(bytes: &[u8], place: usize) -> u64
 
 // Adds the stores of a text and a zero byte, filled with zeros to whole words.
 fn push_stores(body: &mut Sequence<Instr>, first: u32, bytes: &[u8]) -> Result<(), AllocError>
-    requires { first + length bytes.now / 8 < 8192 }
+    requires { first + length bytes.now / 8 < SPACE_WORDS }
     ensures { OnOk result (body.new ≡ body.old ++ stores first bytes.now) }
 {
     for i in 0..bytes.len() / 8 + 1 {

@@ -13,7 +13,7 @@ pub use schedule::{read_schedule, schedule_row};
 pub use script::{
     INSTRUCTION_LIMIT, NamedProcess, ScriptFault, is_thread_row, process_row, read_script,
 };
-pub use tree::{Owner, Place, TREE_LIMIT, TreeSoFar, grown, is_tree_row, root_alone};
+pub use tree::{Owner, TREE_LIMIT, TreeBuilder, TreePlace, is_tree_row, root_tree, tree_with_row};
 
 #[cfg(test)]
 mod tests;

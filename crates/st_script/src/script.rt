@@ -1,26 +1,29 @@
 ghost use Rattle.std.specs.Prelude.{◌≡◌, ◌≢◌, ◌^◌, ◌<◌, length, true, IfOk, IfSome};
 ghost use Rattle.st_lex.specs.Rows.{rows};
-ghost use Rattle.st_script.specs.Tree.{root_alone};
-ghost use Rattle.st_trace.specs.Served.{HaveNoLinks};
-ghost use Rattle.st_script.specs.Script.{is_root, traced_process, process_row, is_thread_row, one_thread, thread_rows, process_rows, script_rows, script_in, StartsOneThread};
+ghost use Rattle.st_script.specs.Tree.{root_tree};
+ghost use Rattle.st_law.specs.Served.{HaveNoLinks};
+ghost use Rattle.st_script.specs.Script.{is_root_token, traced_process, process_row, is_thread_row, one_thread, thread_rows, process_rows, script_rows, script_in, StartsOneThread};
 
 use crate::body::body_rows;
-use crate::tree::{grown, is_tree_row, root_alone};
+use crate::tree::{is_tree_row, root_tree, tree_with_row};
 use crate::values::{id_at, name_at};
 use st_base::{Sequence, Text};
 use st_lex::{Token, next_row, plain_tokens};
 use st_names::AbsName;
 use st_trace::{Instr, ProcessRow, Start, ThreadRow, TreeRow};
 use std::alloc::{AllocError, Global};
+use thiserror::Error;
 
 /// How many instructions a script may have.
 pub const INSTRUCTION_LIMIT: usize = 4096;
 
 /// Why a script was not read.
-#[derive(Clone, Copy, Debug, PartialEq, Eq)]
+#[derive(Clone, Copy, Debug, PartialEq, Eq, Drop, Error)]
 pub enum ScriptFault {
     /// It isn't in the form that is built.
+    #[error("not in the form that is built")]
     NotBuilt,
+    #[error("out of memory")]
     NoMemory,
 }
 
@@ -41,8 +44,8 @@ pub struct NamedProcess {
     pub row: ProcessRow,
 }
 
-fn is_root(text: &[u8], token: &Token) -> bool
-    ensures { result ≡ is_root text.now token.now }
+fn is_root_token(text: &[u8], token: &Token) -> bool
+    ensures { result ≡ is_root_token text.now token.now }
 {
     token.kind.is_quoted() && token.text(text) == b"\"/\"".as_slice()
 }
@@ -58,7 +61,7 @@ fn traced_process(
     let [binary, uid, gid, directory] = tokens else {
         return Ok(None);
     };
-    if !is_root(text, directory) {
+    if !is_root_token(text, directory) {
         return Ok(None);
     }
     match (name_at(text, binary), id_at(text, uid), id_at(text, gid)) {
@@ -186,17 +189,17 @@ fn process_rows(
 }
 
 fn script_rows(alloc: Global, text: &[u8], tokens: &[Token]) -> Result<Start, ScriptFault>
-    ensures ok { IfOk result (λ start. script_rows text.now root_alone (rows tokens.now) ≡ Some start) }
-    ensures not_built { result ≡ Err ScriptFault.NotBuilt → script_rows text.now root_alone (rows tokens.now) ≡ None }
+    ensures ok { IfOk result (λ start. script_rows text.now root_tree (rows tokens.now) ≡ Some start) }
+    ensures not_built { result ≡ Err ScriptFault.NotBuilt → script_rows text.now root_tree (rows tokens.now) ≡ None }
     ensures shape { IfOk result StartsOneThread }
 {
-    let mut tree = root_alone(alloc);
+    let mut tree = root_tree(alloc);
     let mut rest = tokens;
     while let Some((row, behind)) = next_row(rest) {
         if !is_tree_row(text, row) {
             return process_rows(alloc, text, tree.into_rows(), row, behind);
         }
-        let Some(more) = grown(alloc, text, tree, row)? else {
+        let Some(more) = tree_with_row(alloc, text, tree, row)? else {
             return Err(ScriptFault::NotBuilt);
         };
         tree = more;

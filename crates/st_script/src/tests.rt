@@ -2,15 +2,13 @@ use crate::path::is_absolute;
 use crate::{ScriptFault, read_schedule, read_script};
 use st_calls::SysCall;
 use st_law::Schedule;
-use st_trace::{Instr, RowKind, Start};
+use st_trace::{Instr, NewKind, Start};
+use std::process::Abort;
 use std::test::Fail;
 
-fn script(rt: &HostRuntime, text: &[u8]) -> Result<Start, ScriptFault> {
-    if text.len() < 1000 {
-        read_script(rt.alloc(), text)
-    } else {
-        Err(ScriptFault::NoMemory)
-    }
+fn script<R: Abort + AllocGlobal>(rt: &R, text: &[u8]) -> Result<Start, ScriptFault> {
+    assert!(rt; text.len() < 1000);
+    read_script(rt.alloc(), text)
 }
 
 #[test]
@@ -45,7 +43,7 @@ fn a_tree_and_texts_in_memory(rt: HostRuntime) -> Result<(), Fail> {
     )?;
     let tree = start.tree.as_slice();
     assert_eq!(rt; tree.len(), 2);
-    assert!(rt; matches!(tree[0].new.kind, RowKind::Dir));
+    assert!(rt; matches!(tree[0].new.kind, NewKind::Dir));
     assert_eq!(rt;
         (tree[1].new.uid, tree[1].new.gid, tree[1].new.mode),
         (1, 2, 420)
@@ -94,11 +92,20 @@ fn what_is_not_in_the_form_is_not_built(rt: HostRuntime) {
 
 #[test]
 fn names_are_absolute_and_normal(rt: HostRuntime) {
-    for name in [b"/".as_slice(), b"/bin/a", b"/...", b"/a b"] {
-        assert!(rt; is_absolute(name));
-    }
-    for name in [b"".as_slice(), b"a", b"//", b"/a/", b"/./a", b"/a/.."] {
-        assert!(rt; !is_absolute(name));
+    let cases: [(&[u8], bool); 10] = [
+        (b"/", true),
+        (b"/bin/a", true),
+        (b"/...", true),
+        (b"/a b", true),
+        (b"", false),
+        (b"a", false),
+        (b"//", false),
+        (b"/a/", false),
+        (b"/./a", false),
+        (b"/a/..", false),
+    ];
+    for (name, absolute) in cases {
+        assert_eq!(rt; is_absolute(name), absolute);
     }
 }
 
@@ -113,9 +120,8 @@ fn the_one_row_rest(rt: HostRuntime) -> Result<(), Fail> {
         (b"", None),
     ];
     for (text, schedule) in cases {
-        if text.len() < 1000 {
-            assert_eq!(rt; read_schedule(rt.alloc(), text)?, schedule);
-        }
+        assert!(rt; text.len() < 1000);
+        assert_eq!(rt; read_schedule(rt.alloc(), text)?, schedule);
     }
     Ok(())
 }

@@ -1,48 +1,49 @@
 ghost use Rattle.std.specs.Prelude.{◌≡◌, drop, false, length, IfOk, option_copied};
-ghost use Rattle.st_script.specs.Path.{parts};
-ghost use Rattle.st_script.specs.Places.{is_taken, is_directory};
-ghost use Rattle.st_script.specs.Tree.{path_at, last_slash, directory_of, is_placed, owner_at, owned_by, dir_row, content_at, file_of, file_row, new_row, is_tree_row, is_dir, with_row, grown, root_alone};
+ghost use Rattle.st_names.specs.Name.{split_at_slashes};
+ghost use Rattle.st_script.specs.Places.{is_path_taken, is_directory};
+ghost use Rattle.st_script.specs.Tree.{path_at, last_slash, directory_of, is_free_place, owner_at, owned_row, dir_row, content_at, file_of, file_row, new_row, is_tree_row, is_dir, with_row, tree_with_row, root_tree};
 
 use crate::values::{id_at, mode_at, name_at};
 use st_base::{Sequence, Text};
 use st_lex::Token;
+use st_model::{LONGEST_FILE, MOST_OBJECTS};
 use st_names::AbsName;
-use st_trace::{NewRow, RowKind, TreeRow};
+use st_trace::{NewKind, NewNode, TreeRow};
 use std::alloc::{AllocError, Global};
 use std::collections::BTreeMap;
 use std::marker::Model;
 
-/// How many rows a tree may have.
-pub const TREE_LIMIT: usize = 4095;
+/// How many rows a tree may have: with the root, as many as there may be objects.
+pub const TREE_LIMIT: usize = MOST_OBJECTS - 1;
 
 /// A path that a row gave, and whether a directory is there.
 #[derive(Debug, Drop)]
-pub struct Place {
+pub struct TreePlace {
     pub path: Text,
     pub is_dir: bool,
 }
 
 /// The tree so far, with a map of its paths, so that no row searches all earlier ones.
 #[derive(Debug, Drop)]
-pub struct TreeSoFar<'a> {
+pub struct TreeBuilder<'a> {
     // The paths in order, as contracts speak of them.
-    places: Sequence<Place>,
+    places: Sequence<TreePlace>,
     // The same as a map: whether a directory is there.
     kinds: BTreeMap<&'a [u8], bool>,
     rows: Sequence<TreeRow>,
 }
 
-impl<'a> Model for TreeSoFar<'a> {
-    ghost use Rattle.st_script.specs.Places.{Tree, HasKinds};
+impl<'a> Model for TreeBuilder<'a> {
+    ghost use Rattle.st_script.specs.Places.{ScriptTree, HasKinds};
 
-    ghost Value = { Tree };
+    ghost Value = { ScriptTree };
 
     ghost view = { λ t. record { places = t.places; rows = t.rows } };
 
     ghost invariant = { λ t. HasKinds t.kinds t.places };
 }
 
-impl<'a> TreeSoFar<'a> {
+impl<'a> TreeBuilder<'a> {
     /// The rows, in order.
     pub fn into_rows(self) -> Sequence<TreeRow>
         ensures { result ≡ self.entry.rows }
@@ -50,8 +51,8 @@ impl<'a> TreeSoFar<'a> {
         self.rows
     }
 
-    fn is_taken(&self, path: &[u8]) -> bool
-        ensures { result ≡ is_taken self.now.places path.now }
+    fn is_path_taken(&self, path: &[u8]) -> bool
+        ensures { result ≡ is_path_taken self.now.places path.now }
     {
         self.kinds.contains_key(path)
     }
@@ -64,11 +65,11 @@ impl<'a> TreeSoFar<'a> {
     }
 
     // Whether a path is new, and stands in the root or in a directory that is there.
-    fn is_placed(&self, path: &[u8]) -> bool
-        ensures { result ≡ is_placed self.now.places path.now }
+    fn is_free_place(&self, path: &[u8]) -> bool
+        ensures { result ≡ is_free_place self.now.places path.now }
     {
         let directory = directory_of(path);
-        !self.is_taken(path) && (directory.is_empty() || self.is_directory(directory))
+        !self.is_path_taken(path) && (directory.is_empty() || self.is_directory(directory))
     }
 }
 
@@ -117,10 +118,10 @@ fn owner_at(text: &[u8], uid: &Token, gid: &Token, mode: &Token) -> Option<Owner
     Some(Owner { uid, gid, mode })
 }
 
-fn owned_by(kind: RowKind, owner: Owner) -> NewRow
-    ensures { result ≡ owned_by kind owner }
+fn owned_row(kind: NewKind, owner: Owner) -> NewNode
+    ensures { result ≡ owned_row kind owner }
 {
-    NewRow {
+    NewNode {
         kind,
         uid: owner.uid,
         gid: owner.gid,
@@ -129,14 +130,14 @@ fn owned_by(kind: RowKind, owner: Owner) -> NewRow
 }
 
 // UID GID MODE of a directory.
-fn dir_row(text: &[u8], new: &[Token]) -> Option<NewRow>
+fn dir_row(text: &[u8], new: &[Token]) -> Option<NewNode>
     ensures { result ≡ dir_row text.now new.now }
 {
     let [uid, gid, mode] = new else {
         return None;
     };
     let owner = owner_at(text, uid, gid, mode)?;
-    Some(owned_by(RowKind::Dir, owner))
+    Some(owned_row(NewKind::Dir, owner))
 }
 
 // A file's content, at most 65,536 bytes.
@@ -144,7 +145,7 @@ fn content_at<'a>(text: &'a [u8], token: &Token) -> Option<&'a [u8]>
     ensures { option_copied result ≡ content_at text.now token.now }
 {
     let content = token.plain_quoted(text)?;
-    if content.len() <= 65_536 {
+    if content.len() as u64 <= LONGEST_FILE {
         Some(content)
     } else {
         None
@@ -157,7 +158,7 @@ fn file_of(
     text: &[u8],
     content: &[Token],
     owner: Owner,
-) -> Result<Option<NewRow>, AllocError>
+) -> Result<Option<NewNode>, AllocError>
     ensures { IfOk result (λ found. found ≡ file_of text.now content.now owner) }
 {
     let [content] = content else {
@@ -167,11 +168,11 @@ fn file_of(
         return Ok(None);
     };
     let content = Text::of(alloc, content)?;
-    Ok(Some(owned_by(RowKind::File(content), owner)))
+    Ok(Some(owned_row(NewKind::File(content), owner)))
 }
 
 // UID GID MODE "CONTENT" of a file.
-fn file_row(alloc: Global, text: &[u8], new: &[Token]) -> Result<Option<NewRow>, AllocError>
+fn file_row(alloc: Global, text: &[u8], new: &[Token]) -> Result<Option<NewNode>, AllocError>
     ensures { IfOk result (λ found. found ≡ file_row text.now new.now) }
 {
     let [uid, gid, mode, content @ ..] = new else {
@@ -188,7 +189,7 @@ fn new_row(
     text: &[u8],
     keyword: &Token,
     new: &[Token],
-) -> Result<Option<NewRow>, AllocError>
+) -> Result<Option<NewNode>, AllocError>
     ensures { IfOk result (λ found. found ≡ new_row text.now keyword.now new.now) }
 {
     if keyword.is_keyword(text, b"dir") {
@@ -208,40 +209,29 @@ pub fn is_tree_row(text: &[u8], row: &[Token]) -> bool
     }
 }
 
-fn is_dir(kind: &RowKind) -> bool
+fn is_dir(kind: &NewKind) -> bool
     ensures { result ≡ is_dir kind.now }
 {
-    matches!(kind, RowKind::Dir)
-}
-
-// The name whose components stand between these slashes.
-fn name_of(alloc: Global, names: &[u8]) -> Result<AbsName, AllocError>
-    ensures { IfOk result (λ name. name ≡ parts names.now) }
-{
-    let mut name = AbsName::root(alloc);
-    for part in names.split(|byte| *byte == b'/') {
-        name.push(Text::of(alloc, part)?)?;
-    }
-    Ok(name)
+    matches!(kind, NewKind::Dir)
 }
 
 // The components of an absolute name's text.
 fn components_of(alloc: Global, path: &[u8]) -> Result<AbsName, AllocError>
-    ensures { IfOk result (λ name. name ≡ parts (drop 1 path.now)) }
+    ensures { IfOk result (λ name. name ≡ split_at_slashes (drop 1 path.now)) }
 {
-    name_of(alloc, &path[path.len().min(1)..])
+    AbsName::of_parts(alloc, &path[path.len().min(1)..])
 }
 
 fn with_row<'a>(
     alloc: Global,
-    tree: TreeSoFar<'a>,
+    tree: TreeBuilder<'a>,
     path: &'a [u8],
-    new: NewRow,
-) -> Result<TreeSoFar<'a>, AllocError>
-    requires { is_taken tree.places path.now ≡ false }
+    new: NewNode,
+) -> Result<TreeBuilder<'a>, AllocError>
+    requires { is_path_taken tree.places path.now ≡ false }
     ensures { IfOk result (λ more. more ≡ with_row tree.entry path.now new) }
 {
-    let TreeSoFar {
+    let TreeBuilder {
         mut places,
         mut kinds,
         mut rows,
@@ -250,9 +240,9 @@ fn with_row<'a>(
     let name = components_of(alloc, path)?;
     kinds.insert(path, is_dir)?;
     let path = Text::of(alloc, path)?;
-    places.push(Place { path, is_dir })?;
+    places.push(TreePlace { path, is_dir })?;
     rows.push(TreeRow { name, new })?;
-    Ok(TreeSoFar {
+    Ok(TreeBuilder {
         places,
         kinds,
         rows,
@@ -260,13 +250,13 @@ fn with_row<'a>(
 }
 
 /// The tree with the directory or file of a row: `dir "PATH" UID GID MODE`, or `file "PATH" UID GID MODE "CONTENT"`.
-pub fn grown<'a>(
+pub fn tree_with_row<'a>(
     alloc: Global,
     text: &'a [u8],
-    tree: TreeSoFar<'a>,
+    tree: TreeBuilder<'a>,
     row: &[Token],
-) -> Result<Option<TreeSoFar<'a>>, AllocError>
-    ensures { IfOk result (λ found. found ≡ grown text.now tree.entry row.now) }
+) -> Result<Option<TreeBuilder<'a>>, AllocError>
+    ensures { IfOk result (λ found. found ≡ tree_with_row text.now tree.entry row.now) }
 {
     let [keyword, path, new @ ..] = row else {
         return Ok(None);
@@ -274,7 +264,7 @@ pub fn grown<'a>(
     let Some(path) = path_at(text, path) else {
         return Ok(None);
     };
-    if !(tree.is_placed(path) && tree.rows.len() < TREE_LIMIT) {
+    if !(tree.is_free_place(path) && tree.rows.len() < TREE_LIMIT) {
         return Ok(None);
     }
     let Some(new) = new_row(alloc, text, keyword, new)? else {
@@ -284,10 +274,10 @@ pub fn grown<'a>(
 }
 
 /// The tree of the root alone, which takes no memory.
-pub fn root_alone<'a>(alloc: Global) -> TreeSoFar<'a>
-    ensures { result ≡ root_alone }
+pub fn root_tree<'a>(alloc: Global) -> TreeBuilder<'a>
+    ensures { result ≡ root_tree }
 {
-    TreeSoFar {
+    TreeBuilder {
         places: Sequence::new(alloc),
         kinds: BTreeMap::new(alloc),
         rows: Sequence::new(alloc),

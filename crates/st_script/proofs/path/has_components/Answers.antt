@@ -2,7 +2,8 @@ use Rattle.std.proofs.Common.{rules, ◌==◌}
 use borrow.Author.Tests.{tests}
 use Rattle.std.proofs.lemmas.Iterator.Search.{all_from_yields_List}
 use Rattle.std.proofs.lemmas.Iterator.Splits.{YieldsList-from_slice_split}
-use Rattle.st_script.specs.Path.{is_component, slash}
+use Rattle.st_script.specs.Path.{is_component}
+use Rattle.st_names.specs.Name.{slash}
 use Rattle.st_script.proofs.path.has_components.Goals as goal
 
 pub returns : goal.returns
