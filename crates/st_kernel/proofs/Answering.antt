@@ -5,9 +5,9 @@ use Rattle.st_calls.specs.declared.rule.FastAnswer.{FastAnswer}
 use Rattle.st_calls.specs.declared.rule.Rule.{Rule}
 use Rattle.st_calls.specs.declared.rule.Rule.TheVariants.{Call, FsRead, FsWrite}
 use Rattle.st_calls.specs.Call.{index_of_rule}
-use Rattle.st_policy.specs.Fast.{fast}
-use Rattle.st_policy.specs.Formula.{FilterValue}
-use Rattle.st_policy.specs.Policies.{filters_of}
+use Rattle.st_filter.specs.Fast.{fast}
+use Rattle.st_filter.specs.Formula.{FilterValue}
+use Rattle.st_filter.specs.Policies.{filters_of}
 use Rattle.st_kernel.specs.Answers.{fast_answers}
 
 -- the table has each rule's answer at the rule's place

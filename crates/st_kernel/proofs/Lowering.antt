@@ -1,7 +1,7 @@
 -- Each step of a run of one thread leaves less to do.
 use native.Mathlib.Omega.{arith}
 use Rattle.std.proofs.Common.{◌≡◌, ◌<◌, ◌≤◌, ℕ, ◌+◌, ◌-◌, Bool, true, false, cond, not, ◌||◌, ◌&&◌, ◌==◌, List, [], ◌∷◌, ◌++◌, length, length-append, drop, Option, Some, None, refl, ap, subst, ◌∙◌}
-use Rattle.std.proofs.lemmas.Bool.{eq-eqb}
+use Rattle.std.proofs.lemmas.Bool.{eq-eqb, false_from_ne_true}
 use Rattle.st_base.specs.declared.errno.Errno.{Errno}
 use Rattle.st_base.specs.declared.ids.Ids.{Ids}
 use Rattle.st_calls.specs.declared.argument.ArgText.{ArgText}
@@ -19,35 +19,35 @@ use Rattle.st_trace.specs.declared.entry.Way.{Way}
 use Rattle.st_trace.specs.declared.start.Instr.{Instr}
 use Rattle.st_trace.specs.declared.start.Instr.TheVariants.{Store}
 use Rattle.st_law.specs.declared.input.Input.{Input}
-use Rattle.st_law.specs.History.{History, Pending, owner, left, pending, has_ended, is_dying, is_live, lives, is_claimed, is_answered, fault_of, words, seens, turn}
+use Rattle.st_law.specs.History.{History, PendingCall, owner_of, instructions_left, pending_call, has_ended, is_dying, is_live, is_live_by, is_claimed, is_answered, fault_of, copied_words, lookups, turn_of}
 use Rattle.st_law.specs.Lawful.{IsRunning, IsStored, IsEntered, IsClaimed, IsCopied, IsLooked, IsFaulted, IsAnswered, IsUsed, IsDenied, IsEnded, IsLawful, IsLawfulBack}
-use Rattle.st_law.proofs.Held.{IsOpen, IfPending, Fine, invariant}
+use Rattle.st_law.proofs.Held.{IsOpen, IfPending, Fine, invariant-holds}
 use Rattle.st_kernel.specs.Runs.{IsOneThread}
-use Rattle.st_kernel.specs.Kept.{is_held, HasHeld}
+use Rattle.st_kernel.specs.Kept.{has_held_call, HasHeld}
 use Rattle.st_kernel.proofs.One.{first_thread, at_turn, one_run}
 use Rattle.st_kernel.proofs.Quiet.{quiet}
-use Rattle.st_kernel.proofs.Ending.{Bounded, cost, cost_of, makes_cost, left_cost, message_cost, way_cost, pending_cost, way_small, way_some, due}
+use Rattle.st_kernel.proofs.Ending.{Bounded, cost, cost_of, makes_cost, left_cost, message_cost, way_cost, pending_cost, way_small, way_some, progress-is_bounded}
 
-cost_is : (i : Input) (h : History) (xs : List Instr) (o : Option Pending) → has_ended h 1 ≡ false → left i h 1 ≡ xs → pending h 1 ≡ o → cost i h ≡ 1 + left_cost xs + pending_cost h o
+-- ---- what is left to do
+
+cost_is : (i : Input) (h : History) (xs : List Instr) (o : Option PendingCall) → has_ended h 1 ≡ false → instructions_left i h 1 ≡ xs → pending_call h 1 ≡ o → cost i h ≡ 1 + left_cost xs + pending_cost h o
 cost_is i h xs o a b c = λ k. cond (a k) 0 (1 + left_cost (b k) + pending_cost h (c k))
 
-left_rest : (i : Input) (h : History) (t : ℕ) (x : Instr) (later : List Instr) → t ≡ 1 → left i h 1 ≡ x ∷ later → cond (t == 1) (drop 1 (left i h 1)) (left i h 1) ≡ later
+left_rest : (i : Input) (h : History) (t : ℕ) (x : Instr) (later : List Instr) → t ≡ 1 → instructions_left i h 1 ≡ x ∷ later → cond (t == 1) (drop 1 (instructions_left i h 1)) (instructions_left i h 1) ≡ later
 left_rest i h t x later first next = λ k. cond (eq-eqb t 1 first k) (drop 1 (next k)) (next k)
 
-none_left : (t : ℕ) (o : Option Pending) → t ≡ 1 → cond (t == 1) None o ≡ None
+none_left : (t : ℕ) (o : Option PendingCall) → t ≡ 1 → cond (t == 1) None o ≡ None
 none_left t o first = λ k. cond (eq-eqb t 1 first k) None o
 
 abbrev message : History → ℕ → ℕ
-message h q = message_cost (is_claimed h q) (fault_of h q) (is_answered h q) (length (words h q 0)) (length (seens h q 0))
+message h q = message_cost (is_claimed h q) (fault_of h q) (is_answered h q) (length (copied_words h q 0)) (length (lookups h q 0))
 
-falsely : (b : Bool) → (b ≡ true → ⊥) → b ≡ false
-falsely true f = absurd (f refl)
-falsely false f = refl
-
-held_is : (q : ℕ) (o : Option Pending) → HasHeld q o → is_held o ≡ true
-held_is q o x = ap is_held x.2
+held_is : (q : ℕ) (o : Option PendingCall) → HasHeld q o → has_held_call o ≡ true
+held_is q o x = ap has_held_call x.2
 
 module _ (i : Input) (one : IsOneThread i) (h : History) (lawful : IsLawfulBack i h) where
+  -- ---- entries of the thread
+
   first_of : (t : ℕ) → IsRunning i h t → t ≡ 1
   first_of t running = first_thread i one t running.started
 
@@ -57,8 +57,8 @@ module _ (i : Input) (one : IsOneThread i) (h : History) (lawful : IsLawfulBack 
   stored : (t place word : ℕ) → IsStored i h t place word → cost i (Stored t place word ∷ h) < cost i h
   stored t place word l =
       let first = first_of t l.running in
-      let next : left i h 1 ≡ Store place word ∷ l.later = subst (λ n. left i h n ≡ Store place word ∷ l.later) first l.next in
-      let idle : pending h 1 ≡ None = subst (λ n. pending h n ≡ None) first l.idle in
+      let next : instructions_left i h 1 ≡ Store place word ∷ l.later = subst (λ n. instructions_left i h n ≡ Store place word ∷ l.later) first l.next in
+      let idle : pending_call h 1 ≡ None = subst (λ n. pending_call h n ≡ None) first l.idle in
       let before : cost i h ≡ 1 + (1 + left_cost l.later) + 0 = cost_is i h _ None (unended t l.running) next idle in
       let behind : cost i (Stored t place word ∷ h) ≡ 1 + left_cost l.later + 0 = cost_is i (Stored t place word ∷ h) l.later None (unended t l.running) (left_rest i h t _ l.later first next) idle in
       omega (arith, before, behind)
@@ -66,9 +66,9 @@ module _ (i : Input) (one : IsOneThread i) (h : History) (lawful : IsLawfulBack 
   entered : (t : ℕ) (call : SysCall) (regs : List ℕ) (way : Way) → IsEntered i h t call regs way → cost i (Entered t call regs way ∷ h) < cost i h
   entered t call regs way l =
       let first = first_of t l.running in
-      let next : left i h 1 ≡ l.instruction ∷ l.later = subst (λ n. left i h n ≡ l.instruction ∷ l.later) first l.next in
-      let idle : pending h 1 ≡ None = subst (λ n. pending h n ≡ None) first l.idle in
-      let own : pending (Entered t call regs way ∷ h) 1 ≡ Some (record { call = call; regs = regs; way = way }) = (λ k. cond (eq-eqb t 1 first k) (Some (record { call = call; regs = regs; way = way })) (pending h 1)) in
+      let next : instructions_left i h 1 ≡ l.instruction ∷ l.later = subst (λ n. instructions_left i h n ≡ l.instruction ∷ l.later) first l.next in
+      let idle : pending_call h 1 ≡ None = subst (λ n. pending_call h n ≡ None) first l.idle in
+      let own : pending_call (Entered t call regs way ∷ h) 1 ≡ Some (record { call = call; regs = regs; way = way }) = (λ k. cond (eq-eqb t 1 first k) (Some (record { call = call; regs = regs; way = way })) (pending_call h 1)) in
       let before : cost i h ≡ 1 + (cost_of l.instruction + left_cost l.later) + 0 = cost_is i h _ None (unended t l.running) next idle in
       let price = makes_cost l.instruction call regs l.makes in
       let behind : cost i (Entered t call regs way ∷ h) ≡ 1 + left_cost l.later + way_cost (Entered t call regs way ∷ h) way = cost_is i (Entered t call regs way ∷ h) l.later _ (unended t l.running) (left_rest i h t _ l.later first next) own in
@@ -76,12 +76,12 @@ module _ (i : Input) (one : IsOneThread i) (h : History) (lawful : IsLawfulBack 
       omega (arith, before, behind, small, price)
 
   -- an entry that closes the pending call
-  closing : (e : Entry) (t : ℕ) (p : Pending) → IsRunning i h t → has_ended (e ∷ h) 1 ≡ has_ended h 1 → left i (e ∷ h) 1 ≡ left i h 1 → pending (e ∷ h) 1 ≡ cond (t == 1) None (pending h 1) → pending h t ≡ Some p → cost i (e ∷ h) < cost i h
+  closing : (e : Entry) (t : ℕ) (p : PendingCall) → IsRunning i h t → has_ended (e ∷ h) 1 ≡ has_ended h 1 → instructions_left i (e ∷ h) 1 ≡ instructions_left i h 1 → pending_call (e ∷ h) 1 ≡ cond (t == 1) None (pending_call h 1) → pending_call h t ≡ Some p → cost i (e ∷ h) < cost i h
   closing e t p running ended same closed its =
       let first = first_of t running in
-      let own : pending h 1 ≡ Some p = subst (λ n. pending h n ≡ Some p) first its in
-      let before : cost i h ≡ 1 + left_cost (left i h 1) + way_cost h p.way = cost_is i h (left i h 1) (Some p) (unended t running) refl own in
-      let behind : cost i (e ∷ h) ≡ 1 + left_cost (left i h 1) + 0 = cost_is i (e ∷ h) (left i h 1) None (ended ∙ unended t running) same (closed ∙ none_left t (pending h 1) first) in
+      let own : pending_call h 1 ≡ Some p = subst (λ n. pending_call h n ≡ Some p) first its in
+      let before : cost i h ≡ 1 + left_cost (instructions_left i h 1) + way_cost h p.way = cost_is i h (instructions_left i h 1) (Some p) (unended t running) refl own in
+      let behind : cost i (e ∷ h) ≡ 1 + left_cost (instructions_left i h 1) + 0 = cost_is i (e ∷ h) (instructions_left i h 1) None (ended ∙ unended t running) same (closed ∙ none_left t (pending_call h 1) first) in
       let some = way_some h p.way in
       omega (arith, before, behind, some)
 
@@ -97,77 +97,81 @@ module _ (i : Input) (one : IsOneThread i) (h : History) (lawful : IsLawfulBack 
   ended t l =
       let first = first_thread i one t l.started in
       let alive : has_ended h 1 ≡ false = subst (λ n. has_ended h n ≡ false) first l.unended in
-      let before : cost i h ≡ 1 + left_cost (left i h 1) + pending_cost h (pending h 1) = cost_is i h (left i h 1) (pending h 1) alive refl refl in
-      let behind : cost i (Ended t ∷ h) ≡ 0 = (λ k. cond (eq-eqb t 1 first k || has_ended h 1) 0 (1 + left_cost (left i h 1) + pending_cost (Ended t ∷ h) (pending h 1))) in
+      let before : cost i h ≡ 1 + left_cost (instructions_left i h 1) + pending_cost h (pending_call h 1) = cost_is i h (instructions_left i h 1) (pending_call h 1) alive refl refl in
+      let behind : cost i (Ended t ∷ h) ≡ 0 = (λ k. cond (eq-eqb t 1 first k || has_ended h 1) 0 (1 + left_cost (instructions_left i h 1) + pending_cost (Ended t ∷ h) (pending_call h 1))) in
       omega (arith, before, behind)
 
-  alive : (q : ℕ) → HasHeld q (pending h 1) → has_ended h 1 ≡ false
-  alive q x = falsely (has_ended h 1) (λ e. let idle = (quiet i one h lawful).ended_idle e in let yes = held_is q (pending h 1) x in cc)
+  -- ---- entries of the worker
+
+  alive : (q : ℕ) → HasHeld q (pending_call h 1) → has_ended h 1 ≡ false
+  alive q x = false_from_ne_true (has_ended h 1) (λ e. let idle = (quiet i one h lawful).ended_idle e in let yes = held_is q (pending_call h 1) x in cc)
 
   -- an entry that leaves a message less to do
-  working : (e : Entry) (q : ℕ) → HasHeld q (pending h 1) → has_ended (e ∷ h) 1 ≡ has_ended h 1 → left i (e ∷ h) 1 ≡ left i h 1 → pending (e ∷ h) 1 ≡ pending h 1 → message (e ∷ h) q < message h q → cost i (e ∷ h) < cost i h
+  working : (e : Entry) (q : ℕ) → HasHeld q (pending_call h 1) → has_ended (e ∷ h) 1 ≡ has_ended h 1 → instructions_left i (e ∷ h) 1 ≡ instructions_left i h 1 → pending_call (e ∷ h) 1 ≡ pending_call h 1 → message (e ∷ h) q < message h q → cost i (e ∷ h) < cost i h
   working e q x ended same still less =
-      let before : cost i h ≡ 1 + left_cost (left i h 1) + (1 + message h q) = cost_is i h (left i h 1) _ (alive q x) refl x.2 in
-      let behind : cost i (e ∷ h) ≡ 1 + left_cost (left i h 1) + (1 + message (e ∷ h) q) = cost_is i (e ∷ h) (left i h 1) _ (ended ∙ alive q x) same (still ∙ x.2) in
+      let before : cost i h ≡ 1 + left_cost (instructions_left i h 1) + (1 + message h q) = cost_is i h (instructions_left i h 1) _ (alive q x) refl x.2 in
+      let behind : cost i (e ∷ h) ≡ 1 + left_cost (instructions_left i h 1) + (1 + message (e ∷ h) q) = cost_is i (e ∷ h) (instructions_left i h 1) _ (ended ∙ alive q x) same (still ∙ x.2) in
       omega (arith, before, behind, less)
 
   claimed : (w q : ℕ) → IsClaimed i h w q → cost i (Claimed w q ∷ h) < cost i h
   claimed w q l =
       let run = one_run i one h lawful in
       let kept = run.unclaimed_open q l.unclaimed in
-      let before : message h q ≡ 1 + 1 + (129 - length (words h q 0)) + (1024 - length (seens h q 0)) = (λ k. message_cost (l.unclaimed k) (kept.0 k) (kept.1 k) (length (words h q 0)) (length (seens h q 0))) in
-      let behind : message (Claimed w q ∷ h) q ≡ 1 + 0 + (129 - length (words h q 0)) + (1024 - length (seens h q 0)) = (λ k. message_cost (eq-eqb q q refl k || is_claimed h q) (kept.0 k) (kept.1 k) (length (words h q 0)) (length (seens h q 0))) in
+      let before : message h q ≡ 1 + 1 + (129 - length (copied_words h q 0)) + (1024 - length (lookups h q 0)) = (λ k. message_cost (l.unclaimed k) (kept.0 k) (kept.1 k) (length (copied_words h q 0)) (length (lookups h q 0))) in
+      let behind : message (Claimed w q ∷ h) q ≡ 1 + 0 + (129 - length (copied_words h q 0)) + (1024 - length (lookups h q 0)) = (λ k. message_cost (eq-eqb q q refl k || is_claimed h q) (kept.0 k) (kept.1 k) (length (copied_words h q 0)) (length (lookups h q 0))) in
       working (Claimed w q) q (run.live_held q l.live) refl refl refl (omega (arith, before, behind))
 
   copied : (q part place word : ℕ) → IsCopied i h q part place word → cost i (Copied q part place word ∷ h) < cost i h
   copied q part place word l =
-      let at : turn h l.served.number ≡ Some q = at_turn i h l.served.number q l.served.at in
+      let at : turn_of h l.served.number ≡ Some q = at_turn i h l.served.number q l.served.at in
       let run = one_run i one h lawful in
       let kept = run.turn_open l.served.number q at in
-      let bound : (part ≡ 0) × (length (words h q 0) ≤ 128) = subst (Bounded 0 (words h q 0) (seens h q 0)) l.due (due i one.plain h q lawful) in
-      let grown : cond (q == q && part == 0) (words h q 0 ++ word ∷ []) (words h q 0) ≡ words h q 0 ++ word ∷ [] = (λ k. cond (eq-eqb q q refl k && eq-eqb part 0 bound.0 k) (words h q 0 ++ word ∷ []) (words h q 0)) in
-      let longer : length (words h q 0 ++ word ∷ []) ≡ length (words h q 0) + 1 = length-append (words h q 0) (word ∷ []) in
-      let before : message h q ≡ 1 + 0 + (129 - length (words h q 0)) + (1024 - length (seens h q 0)) = (λ k. message_cost (kept.0 k) (kept.1 k) (kept.2 k) (length (words h q 0)) (length (seens h q 0))) in
-      let behind : message (Copied q part place word ∷ h) q ≡ 1 + 0 + (129 - length (words h q 0 ++ word ∷ [])) + (1024 - length (seens h q 0)) = (λ k. message_cost (kept.0 k) (kept.1 k) (kept.2 k) (length (grown k)) (length (seens h q 0))) in
+      let bound : (part ≡ 0) × (length (copied_words h q 0) ≤ 128) = subst (Bounded 0 (copied_words h q 0) (lookups h q 0)) l.due (progress-is_bounded i one.plain h q lawful) in
+      let grown : cond (q == q && part == 0) (copied_words h q 0 ++ word ∷ []) (copied_words h q 0) ≡ copied_words h q 0 ++ word ∷ [] = (λ k. cond (eq-eqb q q refl k && eq-eqb part 0 bound.0 k) (copied_words h q 0 ++ word ∷ []) (copied_words h q 0)) in
+      let longer : length (copied_words h q 0 ++ word ∷ []) ≡ length (copied_words h q 0) + 1 = length-append (copied_words h q 0) (word ∷ []) in
+      let before : message h q ≡ 1 + 0 + (129 - length (copied_words h q 0)) + (1024 - length (lookups h q 0)) = (λ k. message_cost (kept.0 k) (kept.1 k) (kept.2 k) (length (copied_words h q 0)) (length (lookups h q 0))) in
+      let behind : message (Copied q part place word ∷ h) q ≡ 1 + 0 + (129 - length (copied_words h q 0 ++ word ∷ [])) + (1024 - length (lookups h q 0)) = (λ k. message_cost (kept.0 k) (kept.1 k) (kept.2 k) (length (grown k)) (length (lookups h q 0))) in
       working (Copied q part place word) q (run.turn_held l.served.number q at) refl refl refl (omega (arith, before, behind, longer, bound.1))
 
   looked : (q part : ℕ) (name : Components) (seen : SeenText) → IsLooked i h q part name seen → cost i (Looked q part name seen ∷ h) < cost i h
   looked q part name seen l =
-      let at : turn h l.served.number ≡ Some q = at_turn i h l.served.number q l.served.at in
+      let at : turn_of h l.served.number ≡ Some q = at_turn i h l.served.number q l.served.at in
       let run = one_run i one h lawful in
       let kept = run.turn_open l.served.number q at in
-      let bound : (part ≡ 0) × (length (seens h q 0) < 1024) = subst (Bounded 0 (words h q 0) (seens h q 0)) l.due (due i one.plain h q lawful) in
-      let grown : cond (q == q && part == 0) (seens h q 0 ++ seen ∷ []) (seens h q 0) ≡ seens h q 0 ++ seen ∷ [] = (λ k. cond (eq-eqb q q refl k && eq-eqb part 0 bound.0 k) (seens h q 0 ++ seen ∷ []) (seens h q 0)) in
-      let longer : length (seens h q 0 ++ seen ∷ []) ≡ length (seens h q 0) + 1 = length-append (seens h q 0) (seen ∷ []) in
-      let before : message h q ≡ 1 + 0 + (129 - length (words h q 0)) + (1024 - length (seens h q 0)) = (λ k. message_cost (kept.0 k) (kept.1 k) (kept.2 k) (length (words h q 0)) (length (seens h q 0))) in
-      let behind : message (Looked q part name seen ∷ h) q ≡ 1 + 0 + (129 - length (words h q 0)) + (1024 - length (seens h q 0 ++ seen ∷ [])) = (λ k. message_cost (kept.0 k) (kept.1 k) (kept.2 k) (length (words h q 0)) (length (grown k))) in
+      let bound : (part ≡ 0) × (length (lookups h q 0) < 1024) = subst (Bounded 0 (copied_words h q 0) (lookups h q 0)) l.due (progress-is_bounded i one.plain h q lawful) in
+      let grown : cond (q == q && part == 0) (lookups h q 0 ++ seen ∷ []) (lookups h q 0) ≡ lookups h q 0 ++ seen ∷ [] = (λ k. cond (eq-eqb q q refl k && eq-eqb part 0 bound.0 k) (lookups h q 0 ++ seen ∷ []) (lookups h q 0)) in
+      let longer : length (lookups h q 0 ++ seen ∷ []) ≡ length (lookups h q 0) + 1 = length-append (lookups h q 0) (seen ∷ []) in
+      let before : message h q ≡ 1 + 0 + (129 - length (copied_words h q 0)) + (1024 - length (lookups h q 0)) = (λ k. message_cost (kept.0 k) (kept.1 k) (kept.2 k) (length (copied_words h q 0)) (length (lookups h q 0))) in
+      let behind : message (Looked q part name seen ∷ h) q ≡ 1 + 0 + (129 - length (copied_words h q 0)) + (1024 - length (lookups h q 0 ++ seen ∷ [])) = (λ k. message_cost (kept.0 k) (kept.1 k) (kept.2 k) (length (copied_words h q 0)) (length (grown k))) in
       working (Looked q part name seen) q (run.turn_held l.served.number q at) refl refl refl (omega (arith, before, behind, longer, bound.1))
 
   faulted : (q : ℕ) (errno : Errno) → IsFaulted i h q errno → cost i (Faulted q errno ∷ h) < cost i h
   faulted q errno l =
-      let at : turn h l.served.number ≡ Some q = at_turn i h l.served.number q l.served.at in
+      let at : turn_of h l.served.number ≡ Some q = at_turn i h l.served.number q l.served.at in
       let run = one_run i one h lawful in
       let kept = run.turn_open l.served.number q at in
-      let before : message h q ≡ 1 + 0 + (129 - length (words h q 0)) + (1024 - length (seens h q 0)) = (λ k. message_cost (kept.0 k) (kept.1 k) (kept.2 k) (length (words h q 0)) (length (seens h q 0))) in
-      let behind : message (Faulted q errno ∷ h) q ≡ 0 = (λ k. message_cost (is_claimed h q) (cond (eq-eqb q q refl k) (Some errno) (fault_of h q)) (is_answered h q) (length (words h q 0)) (length (seens h q 0))) in
+      let before : message h q ≡ 1 + 0 + (129 - length (copied_words h q 0)) + (1024 - length (lookups h q 0)) = (λ k. message_cost (kept.0 k) (kept.1 k) (kept.2 k) (length (copied_words h q 0)) (length (lookups h q 0))) in
+      let behind : message (Faulted q errno ∷ h) q ≡ 0 = (λ k. message_cost (is_claimed h q) (cond (eq-eqb q q refl k) (Some errno) (fault_of h q)) (is_answered h q) (length (copied_words h q 0)) (length (lookups h q 0))) in
       working (Faulted q errno) q (run.turn_held l.served.number q at) refl refl refl (omega (arith, before, behind))
 
-  pub live_held : (q : ℕ) → HasHeld q (pending h 1) → is_live i h q ≡ true
+  pub live_held : (q : ℕ) → HasHeld q (pending_call h 1) → is_live i h q ≡ true
   live_held q x =
-      let open_is : IsOpen i h 1 x.0 x.1 q = subst (IfPending (Fine i h 1)) x.2 ((invariant i h lawful).fine 1) in
-      let undying : is_dying h (owner i 1) ≡ false = falsely (is_dying h (owner i 1)) (λ e. let idle = (quiet i one h lawful).dying_idle e in let yes = held_is q (pending h 1) x in cc) in
-      (λ k. lives (open_is.0 k) (open_is.1 k) (is_dying h)) ∙ (λ k. not (undying k))
+      let open_is : IsOpen i h 1 x.0 x.1 q = subst (IfPending (Fine i h 1)) x.2 ((invariant-holds i h lawful).fine 1) in
+      let undying : is_dying h (owner_of i 1) ≡ false = false_from_ne_true (is_dying h (owner_of i 1)) (λ e. let idle = (quiet i one h lawful).dying_idle e in let yes = held_is q (pending_call h 1) x in cc) in
+      (λ k. is_live_by (open_is.0 k) (open_is.1 k) (is_dying h)) ∙ (λ k. not (undying k))
 
   answered : (w : ℕ) (s : Snapshot) (v : Verdict) (applied : Bool) → IsAnswered i h w s v applied → cost i (Answered w s v applied ∷ h) < cost i h
   answered w s v applied l =
-      let at : turn h w ≡ Some s.seq = at_turn i h w s.seq l.at in
+      let at : turn_of h w ≡ Some s.seq = at_turn i h w s.seq l.at in
       let run = one_run i one h lawful in
       let kept = run.turn_open w s.seq at in
-      let x : HasHeld s.seq (pending h 1) = run.turn_held w s.seq at in
+      let x : HasHeld s.seq (pending_call h 1) = run.turn_held w s.seq at in
       let counts : applied ≡ true = l.applied_is ∙ live_held s.seq x in
-      let before : message h s.seq ≡ 1 + 0 + (129 - length (words h s.seq 0)) + (1024 - length (seens h s.seq 0)) = (λ k. message_cost (kept.0 k) (kept.1 k) (kept.2 k) (length (words h s.seq 0)) (length (seens h s.seq 0))) in
-      let behind : message (Answered w s v applied ∷ h) s.seq ≡ 0 = (λ k. message_cost (is_claimed h s.seq) (kept.1 k) ((eq-eqb s.seq s.seq refl k && counts k) || is_answered h s.seq) (length (words h s.seq 0)) (length (seens h s.seq 0))) in
+      let before : message h s.seq ≡ 1 + 0 + (129 - length (copied_words h s.seq 0)) + (1024 - length (lookups h s.seq 0)) = (λ k. message_cost (kept.0 k) (kept.1 k) (kept.2 k) (length (copied_words h s.seq 0)) (length (lookups h s.seq 0))) in
+      let behind : message (Answered w s v applied ∷ h) s.seq ≡ 0 = (λ k. message_cost (is_claimed h s.seq) (kept.1 k) ((eq-eqb s.seq s.seq refl k && counts k) || is_answered h s.seq) (length (copied_words h s.seq 0)) (length (lookups h s.seq 0))) in
       working (Answered w s v applied) s.seq x refl refl refl (omega (arith, before, behind))
+
+  -- ---- every entry
 
   -- each entry leaves less to do
   pub lowers : (e : Entry) → IsLawful i h e → cost i (e ∷ h) < cost i h

@@ -11,15 +11,15 @@ use Rattle.st_trace.specs.declared.entry.Change.{Change}
 use Rattle.st_trace.specs.declared.entry.Entry.{Entry}
 use Rattle.st_trace.specs.declared.entry.Entry.TheVariants.{Stored, Entered, Claimed, Copied, Looked, Faulted, Answered, Used, Denied, Ended, Replied, Learned}
 use Rattle.st_law.specs.declared.input.Input.{Input}
-use Rattle.st_law.specs.History.{History, Pending, owner, left, pending, has_ended, is_dying}
+use Rattle.st_law.specs.History.{History, PendingCall, owner_of, instructions_left, pending_call, has_ended, is_dying}
 use Rattle.st_law.specs.Lawful.{IsRunning, IsUsed, IsDenied, IsEnded, IsLawful, IsLawfulBack}
 use Rattle.st_kernel.specs.Runs.{IsOneThread}
-use Rattle.st_kernel.specs.Kept.{is_held}
+use Rattle.st_kernel.specs.Kept.{has_held_call}
 use Rattle.st_kernel.proofs.One.{first_thread}
 
 pub record IsQuiet (i : Input) (h : History) : Type 0 where
-  pub dying_idle : is_dying h (owner i 1) ≡ true → is_held (pending h 1) ≡ false
-  pub ended_idle : has_ended h 1 ≡ true → is_held (pending h 1) ≡ false
+  pub dying_idle : is_dying h (owner_of i 1) ≡ true → has_held_call (pending_call h 1) ≡ false
+  pub ended_idle : has_ended h 1 ≡ true → has_held_call (pending_call h 1) ≡ false
 
 or_true : (a b : Bool) (P : Type 0) → (a ≡ true → P) → (b ≡ true → P) → (a || b) ≡ true → P
 or_true true b P f g e = f refl
@@ -28,22 +28,22 @@ or_true false b P f g e = g e
 clash : (b : Bool) (P : Type 0) → b ≡ true → b ≡ false → P
 clash b P e f = cc
 
-closed_idle : (t : ℕ) (o : Option Pending) → t ≡ 1 → is_held (cond (t == 1) None o) ≡ false
-closed_idle t o first = λ k. is_held (cond (eq-eqb t 1 first k) None o)
+closed_idle : (t : ℕ) (o : Option PendingCall) → t ≡ 1 → has_held_call (cond (t == 1) None o) ≡ false
+closed_idle t o first = λ k. has_held_call (cond (eq-eqb t 1 first k) None o)
 
 module _ (i : Input) (one : IsOneThread i) (h : History) (q : IsQuiet i h) where
   first_of : (t : ℕ) → IsRunning i h t → t ≡ 1
   first_of t running = first_thread i one t running.started
 
-  undying : (t : ℕ) → IsRunning i h t → is_dying h (owner i 1) ≡ false
-  undying t running = subst (λ n. is_dying h (owner i n) ≡ false) (first_of t running) running.undying
+  undying : (t : ℕ) → IsRunning i h t → is_dying h (owner_of i 1) ≡ false
+  undying t running = subst (λ n. is_dying h (owner_of i n) ≡ false) (first_of t running) running.undying
 
   unended : (t : ℕ) → IsRunning i h t → has_ended h 1 ≡ false
   unended t running = subst (λ n. has_ended h n ≡ false) (first_of t running) running.unended
 
-  behind_closing : (e : Entry) (t : ℕ) → t ≡ 1 → pending (e ∷ h) 1 ≡ cond (t == 1) None (pending h 1) → IsQuiet i (e ∷ h)
+  behind_closing : (e : Entry) (t : ℕ) → t ≡ 1 → pending_call (e ∷ h) 1 ≡ cond (t == 1) None (pending_call h 1) → IsQuiet i (e ∷ h)
   behind_closing e t first is =
-      let idle : is_held (pending (e ∷ h) 1) ≡ false = ap is_held is ∙ closed_idle t (pending h 1) first in
+      let idle : has_held_call (pending_call (e ∷ h) 1) ≡ false = ap has_held_call is ∙ closed_idle t (pending_call h 1) first in
       record { dying_idle = λ d. idle; ended_idle = λ d. idle }
 
   used_first : (t : ℕ) (seq : Option ℕ) (call : SysCall) (regs : List ℕ) (args : List ArgText) (ids : Ids) (result : CallResult) (changes : List Change) → IsUsed i h t seq call regs args ids result changes → t ≡ 1
@@ -57,7 +57,7 @@ module _ (i : Input) (one : IsOneThread i) (h : History) (q : IsQuiet i h) where
   behind : (e : Entry) → IsLawful i h e → IsQuiet i (e ∷ h)
   behind (Stored t place word) l = record { dying_idle = q.dying_idle; ended_idle = q.ended_idle }
   behind (Entered t call regs way) l = record {
-    dying_idle = λ d. clash (is_dying h (owner i 1)) _ d (undying t l.running);
+    dying_idle = λ d. clash (is_dying h (owner_of i 1)) _ d (undying t l.running);
     ended_idle = λ d. clash (has_ended h 1) _ d (unended t l.running);
   }
   behind (Replied q reply n) l = absurd l
@@ -71,13 +71,13 @@ module _ (i : Input) (one : IsOneThread i) (h : History) (q : IsQuiet i h) where
   behind (Denied t seq errno cause) l = behind_closing (Denied t seq errno cause) t (denied_first t seq errno cause l) refl
   behind (Ended t) l = record {
     dying_idle = q.dying_idle;
-    ended_idle = or_true (t == 1) (has_ended h 1) (is_held (pending h 1) ≡ false) (λ e. ended_by t l (first_thread i one t l.started)) q.ended_idle;
+    ended_idle = or_true (t == 1) (has_ended h 1) (has_held_call (pending_call h 1) ≡ false) (λ e. ended_by t l (first_thread i one t l.started)) q.ended_idle;
   } where
-    ended_by : (t : ℕ) → IsEnded i h t → t ≡ 1 → is_held (pending h 1) ≡ false
-    ended_by t l first = by_over (subst (λ n. (is_dying h (owner i n) ≡ true) ⊎ ((left i h n ≡ []) × (pending h n ≡ None))) first l.over) where
-      by_over : (is_dying h (owner i 1) ≡ true) ⊎ ((left i h 1 ≡ []) × (pending h 1 ≡ None)) → is_held (pending h 1) ≡ false
+    ended_by : (t : ℕ) → IsEnded i h t → t ≡ 1 → has_held_call (pending_call h 1) ≡ false
+    ended_by t l first = by_over (subst (λ n. (is_dying h (owner_of i n) ≡ true) ⊎ ((instructions_left i h n ≡ []) × (pending_call h n ≡ None))) first l.over) where
+      by_over : (is_dying h (owner_of i 1) ≡ true) ⊎ ((instructions_left i h 1 ≡ []) × (pending_call h 1 ≡ None)) → has_held_call (pending_call h 1) ≡ false
       by_over (inl d) = q.dying_idle d
-      by_over (inr x) = ap is_held x.1
+      by_over (inr x) = ap has_held_call x.1
 
 pub quiet : (i : Input) → IsOneThread i → (h : History) → IsLawfulBack i h → IsQuiet i h
 quiet i one [] lawful = record { dying_idle = λ d. refl; ended_idle = λ d. refl }

@@ -18,34 +18,34 @@ use Rattle.st_trace.specs.declared.entry.Entry.TheVariants.{Stored, Entered, Cla
 use Rattle.st_trace.specs.declared.entry.Way.{Way}
 use Rattle.st_trace.specs.declared.entry.Way.TheVariants.{Fast, Barred, Held, Untraced}
 use Rattle.st_law.specs.declared.input.Input.{Input}
-use Rattle.st_law.specs.History.{History, Pending, pending, posted, is_claimed, is_answered, fault_of, words, seens, turn, snapshot}
+use Rattle.st_law.specs.History.{History, PendingCall, pending_call, posted_count, is_claimed, is_answered, fault_of, copied_words, lookups, turn_of, snapshot_of}
 use Rattle.st_law.specs.Lawful.{IsRunning, IsEntered, IsUsed, IsDenied, IsLawful, IsLawfulBack}
-use Rattle.st_kernel.specs.Copies.{Copies, with_word, with_seen}
+use Rattle.st_kernel.specs.Copies.{Copies, with_word, with_lookup}
 use Rattle.st_kernel.specs.Held.{stage_after, copies_after}
-use Rattle.st_kernel.specs.Kept.{HasHeld, is_held, IsStage, WayCopies, AreCopies}
+use Rattle.st_kernel.specs.Kept.{HasHeld, has_held_call, IsStage, WayCopies, AreCopies}
 use Rattle.st_kernel.specs.Runs.{IsOneThread}
 use Rattle.st_kernel.specs.declared.held.Stage.{Stage}
 use Rattle.st_kernel.specs.declared.held.Stage.TheVariants as stage
-use Rattle.st_kernel.proofs.One.{first_thread, held_same, unheld, at_turn, one_run, one_worker}
+use Rattle.st_kernel.proofs.One.{first_thread, held_same, not_held, at_turn, one_run, one_worker}
 use Rattle.st_kernel.proofs.Lowering.{live_held}
-use Rattle.st_kernel.proofs.Ending.{Bounded, due}
+use Rattle.st_kernel.proofs.Ending.{Bounded, progress-is_bounded}
 use Rattle.st_kernel.proofs.Fresh.{fresh}
 
 -- a held call's message is the newest
-at_posted : (i : Input) (h : History) (s : Stage) → IsStage i h s → (q : ℕ) → HasHeld q (pending h 1) → q ≡ posted h
-at_posted i h stage.Closed k q x = absurd (unheld q (pending h 1) k x)
-at_posted i h stage.Waiting k q x = held_same q (posted h) (pending h 1) x k.0
-at_posted i h stage.Claimed k q x = held_same q (posted h) (pending h 1) x k.0
-at_posted i h (stage.Faulted errno) k q x = held_same q (posted h) (pending h 1) x k.0
-at_posted i h (stage.Answered verdict) k q x = held_same q (posted h) (pending h 1) x k.0
+at_posted : (i : Input) (h : History) (s : Stage) → IsStage i h s → (q : ℕ) → HasHeld q (pending_call h 1) → q ≡ posted_count h
+at_posted i h stage.Closed k q x = absurd (not_held q (pending_call h 1) k x)
+at_posted i h stage.Waiting k q x = held_same q (posted_count h) (pending_call h 1) x k.0
+at_posted i h stage.Claimed k q x = held_same q (posted_count h) (pending_call h 1) x k.0
+at_posted i h (stage.Faulted errno) k q x = held_same q (posted_count h) (pending_call h 1) x k.0
+at_posted i h (stage.Answered verdict) k q x = held_same q (posted_count h) (pending_call h 1) x k.0
 
 -- where none is held, the stage says so
-closed_stays : (i : Input) (h h' : History) (s : Stage) → IsStage i h s → is_held (pending h 1) ≡ false → is_held (pending h' 1) ≡ false → IsStage i h' s
+closed_stays : (i : Input) (h h' : History) (s : Stage) → IsStage i h s → has_held_call (pending_call h 1) ≡ false → has_held_call (pending_call h' 1) ≡ false → IsStage i h' s
 closed_stays i h h' stage.Closed k idle idle' = idle'
-closed_stays i h h' stage.Waiting k idle idle' = absurd (unheld (posted h) (pending h 1) idle k.0)
-closed_stays i h h' stage.Claimed k idle idle' = absurd (unheld (posted h) (pending h 1) idle k.0)
-closed_stays i h h' (stage.Faulted errno) k idle idle' = absurd (unheld (posted h) (pending h 1) idle k.0)
-closed_stays i h h' (stage.Answered verdict) k idle idle' = absurd (unheld (posted h) (pending h 1) idle k.0)
+closed_stays i h h' stage.Waiting k idle idle' = absurd (not_held (posted_count h) (pending_call h 1) idle k.0)
+closed_stays i h h' stage.Claimed k idle idle' = absurd (not_held (posted_count h) (pending_call h 1) idle k.0)
+closed_stays i h h' (stage.Faulted errno) k idle idle' = absurd (not_held (posted_count h) (pending_call h 1) idle k.0)
+closed_stays i h h' (stage.Answered verdict) k idle idle' = absurd (not_held (posted_count h) (pending_call h 1) idle k.0)
 
 module _ (i : Input) (one : IsOneThread i) (h : History) (lawful : IsLawfulBack i h) where
   first_of : (t : ℕ) → IsRunning i h t → t ≡ 1
@@ -66,32 +66,32 @@ module _ (i : Input) (one : IsOneThread i) (h : History) (lawful : IsLawfulBack 
   ended t (stage.Faulted errno) k = k
   ended t (stage.Answered verdict) k = k
 
-  idle_at : (t : ℕ) → t ≡ 1 → pending h t ≡ None → is_held (pending h 1) ≡ false
-  idle_at t first e = subst (λ n. is_held (pending h n) ≡ false) first (ap is_held e)
+  idle_at : (t : ℕ) → t ≡ 1 → pending_call h t ≡ None → has_held_call (pending_call h 1) ≡ false
+  idle_at t first e = subst (λ n. has_held_call (pending_call h n) ≡ false) first (ap has_held_call e)
 
-  now_pending : (t : ℕ) (call : SysCall) (regs : List ℕ) (way : Way) → t ≡ 1 → pending (Entered t call regs way ∷ h) 1 ≡ Some (record { call = call; regs = regs; way = way })
-  now_pending t call regs way first = λ k. cond (eq-eqb t 1 first k) (Some (record { call = call; regs = regs; way = way })) (pending h 1)
+  now_pending : (t : ℕ) (call : SysCall) (regs : List ℕ) (way : Way) → t ≡ 1 → pending_call (Entered t call regs way ∷ h) 1 ≡ Some (record { call = call; regs = regs; way = way })
+  now_pending t call regs way first = λ k. cond (eq-eqb t 1 first k) (Some (record { call = call; regs = regs; way = way })) (pending_call h 1)
 
   entered : (t : ℕ) (call : SysCall) (regs : List ℕ) (way : Way) (s : Stage) → IsEntered i h t call regs way → IsStage i h s → IsStage i (Entered t call regs way ∷ h) (stage_after (Entered t call regs way) s)
   entered t call regs Fast s l k =
-      closed_stays i h (Entered t call regs Fast ∷ h) s k (idle_at t (first_of t l.running) l.idle) (ap is_held (now_pending t call regs Fast (first_of t l.running)))
+      closed_stays i h (Entered t call regs Fast ∷ h) s k (idle_at t (first_of t l.running) l.idle) (ap has_held_call (now_pending t call regs Fast (first_of t l.running)))
   entered t call regs (Barred n) s l k =
-      closed_stays i h (Entered t call regs (Barred n) ∷ h) s k (idle_at t (first_of t l.running) l.idle) (ap is_held (now_pending t call regs (Barred n) (first_of t l.running)))
+      closed_stays i h (Entered t call regs (Barred n) ∷ h) s k (idle_at t (first_of t l.running) l.idle) (ap has_held_call (now_pending t call regs (Barred n) (first_of t l.running)))
   entered t call regs Untraced s l k = absurd l.way_is
   entered t call regs (Held q) s l k = (
     (call, regs, (now_pending t call regs (Held q) (first_of t l.running) ∙ (λ j. Some (record { call = call; regs = regs; way = Held (l.way_is.0 j) })))),
-    (fresh i one h lawful).unclaimed (suc (posted h)) (omega arith),
+    (fresh i one h lawful).unclaimed (suc (posted_count h)) (omega arith),
   )
 
   -- what the message has that a worker is at
-  pub turn_posted : (s : Stage) → IsStage i h s → (w q : ℕ) → turn h w ≡ Some q → q ≡ posted h
+  pub turn_posted : (s : Stage) → IsStage i h s → (w q : ℕ) → turn_of h w ≡ Some q → q ≡ posted_count h
   turn_posted s k w q at = at_posted i h s k q ((one_run i one h lawful).turn_held w q at)
 
   claimed : (w q : ℕ) (s : Stage) → IsLawful i h (Claimed w q) → IsStage i h s → IsStage i (Claimed w q ∷ h) stage.Claimed
   claimed w q s l k =
-      let x : HasHeld q (pending h 1) = (one_run i one h lawful).live_held q l.live in
-      let same : q ≡ posted h = at_posted i h s k q x in
-      (subst (λ n. HasHeld n (pending h 1)) same x, (λ j. cond (eq-eqb w 1 (one_worker w l.worker) j) (Some (same j)) (turn h 1)))
+      let x : HasHeld q (pending_call h 1) = (one_run i one h lawful).live_held q l.live in
+      let same : q ≡ posted_count h = at_posted i h s k q x in
+      (subst (λ n. HasHeld n (pending_call h 1)) same x, (λ j. cond (eq-eqb w 1 (one_worker w l.worker) j) (Some (same j)) (turn_of h 1)))
 
   -- what is copied or seen for the message changes nothing else of it
   copied : (q part place word : ℕ) (s : Stage) → IsLawful i h (Copied q part place word) → IsStage i h s → IsStage i (Copied q part place word ∷ h) s
@@ -100,14 +100,14 @@ module _ (i : Input) (one : IsOneThread i) (h : History) (lawful : IsLawfulBack 
   copied q part place word stage.Claimed l k = k
   copied q part place word (stage.Faulted errno) l k = k
   copied q part place word (stage.Answered verdict) l k = absurd (unanswered (one_run i one h lawful).turn_open) where
-    at : turn h l.served.number ≡ Some q
+    at : turn_of h l.served.number ≡ Some q
     at = at_turn i h l.served.number q l.served.at
 
-    same : q ≡ posted h
+    same : q ≡ posted_count h
     same = turn_posted (stage.Answered verdict) k l.served.number q at
 
-    unanswered : ((w p : ℕ) → turn h w ≡ Some p → (is_claimed h p ≡ true) × (fault_of h p ≡ None) × (is_answered h p ≡ false)) → ⊥
-    unanswered f = let now : is_answered h (posted h) ≡ false = subst (λ n. is_answered h n ≡ false) same (f l.served.number q at).2 in let before : is_answered h (posted h) ≡ true = k.1 in cc
+    unanswered : ((w p : ℕ) → turn_of h w ≡ Some p → (is_claimed h p ≡ true) × (fault_of h p ≡ None) × (is_answered h p ≡ false)) → ⊥
+    unanswered f = let now : is_answered h (posted_count h) ≡ false = subst (λ n. is_answered h n ≡ false) same (f l.served.number q at).2 in let before : is_answered h (posted_count h) ≡ true = k.1 in cc
 
   looked : (q part : ℕ) (name : Components) (seen : SeenText) (s : Stage) → IsLawful i h (Looked q part name seen) → IsStage i h s → IsStage i (Looked q part name seen ∷ h) s
   looked q part name seen stage.Closed l k = k
@@ -115,39 +115,39 @@ module _ (i : Input) (one : IsOneThread i) (h : History) (lawful : IsLawfulBack 
   looked q part name seen stage.Claimed l k = k
   looked q part name seen (stage.Faulted errno) l k = k
   looked q part name seen (stage.Answered verdict) l k = absurd (unanswered (one_run i one h lawful).turn_open) where
-    at : turn h l.served.number ≡ Some q
+    at : turn_of h l.served.number ≡ Some q
     at = at_turn i h l.served.number q l.served.at
 
-    same : q ≡ posted h
+    same : q ≡ posted_count h
     same = turn_posted (stage.Answered verdict) k l.served.number q at
 
-    unanswered : ((w p : ℕ) → turn h w ≡ Some p → (is_claimed h p ≡ true) × (fault_of h p ≡ None) × (is_answered h p ≡ false)) → ⊥
-    unanswered f = let now : is_answered h (posted h) ≡ false = subst (λ n. is_answered h n ≡ false) same (f l.served.number q at).2 in let before : is_answered h (posted h) ≡ true = k.1 in cc
+    unanswered : ((w p : ℕ) → turn_of h w ≡ Some p → (is_claimed h p ≡ true) × (fault_of h p ≡ None) × (is_answered h p ≡ false)) → ⊥
+    unanswered f = let now : is_answered h (posted_count h) ≡ false = subst (λ n. is_answered h n ≡ false) same (f l.served.number q at).2 in let before : is_answered h (posted_count h) ≡ true = k.1 in cc
 
   faulted : (q : ℕ) (errno : Errno) (s : Stage) → IsLawful i h (Faulted q errno) → IsStage i h s → IsStage i (Faulted q errno ∷ h) (stage.Faulted errno)
   faulted q errno s l k =
-      let at : turn h l.served.number ≡ Some q = at_turn i h l.served.number q l.served.at in
-      let x : HasHeld q (pending h 1) = (one_run i one h lawful).turn_held l.served.number q at in
-      let same : q ≡ posted h = at_posted i h s k q x in
-      (subst (λ n. HasHeld n (pending h 1)) same x, (λ j. cond (eq-eqb q (posted h) same j) (Some errno) (fault_of h (posted h))))
+      let at : turn_of h l.served.number ≡ Some q = at_turn i h l.served.number q l.served.at in
+      let x : HasHeld q (pending_call h 1) = (one_run i one h lawful).turn_held l.served.number q at in
+      let same : q ≡ posted_count h = at_posted i h s k q x in
+      (subst (λ n. HasHeld n (pending_call h 1)) same x, (λ j. cond (eq-eqb q (posted_count h) same j) (Some errno) (fault_of h (posted_count h))))
 
   answered : (w : ℕ) (c : Snapshot) (v : Verdict) (applied : Bool) (s : Stage) → IsLawful i h (Answered w c v applied) → IsStage i h s → IsStage i (Answered w c v applied ∷ h) (stage.Answered v)
   answered w c v applied s l k =
-      let at : turn h w ≡ Some c.seq = at_turn i h w c.seq l.at in
-      let x : HasHeld c.seq (pending h 1) = (one_run i one h lawful).turn_held w c.seq at in
-      let same : c.seq ≡ posted h = at_posted i h s k c.seq x in
+      let at : turn_of h w ≡ Some c.seq = at_turn i h w c.seq l.at in
+      let x : HasHeld c.seq (pending_call h 1) = (one_run i one h lawful).turn_held w c.seq at in
+      let same : c.seq ≡ posted_count h = at_posted i h s k c.seq x in
       let counts : applied ≡ true = l.applied_is ∙ live_held i one h lawful c.seq x in
       let kept = (one_run i one h lawful).turn_open w c.seq at in (
-        subst (λ n. HasHeld n (pending h 1)) same x,
-        (λ j. (eq-eqb c.seq (posted h) same j && counts j) || is_answered h (posted h)),
+        subst (λ n. HasHeld n (pending_call h 1)) same x,
+        (λ j. (eq-eqb c.seq (posted_count h) same j && counts j) || is_answered h (posted_count h)),
         subst (λ n. fault_of h n ≡ None) same kept.1,
         c,
-        subst (λ n. snapshot i h n ≡ Some c) same l.snapshot_is,
+        subst (λ n. snapshot_of i h n ≡ Some c) same l.snapshot_is,
         l.verdict_is,
       )
 
-  closed_idle : (t : ℕ) → t ≡ 1 → is_held (cond (t == 1) None (pending h 1)) ≡ false
-  closed_idle t first = λ k. is_held (cond (eq-eqb t 1 first k) None (pending h 1))
+  closed_idle : (t : ℕ) → t ≡ 1 → has_held_call (cond (t == 1) None (pending_call h 1)) ≡ false
+  closed_idle t first = λ k. has_held_call (cond (eq-eqb t 1 first k) None (pending_call h 1))
 
   pub used_first : (t : ℕ) (seq : Option ℕ) (call : SysCall) (regs : List ℕ) (args : List ArgText) (ids : Ids) (result : CallResult) (changes : List Change) → IsUsed i h t seq call regs args ids result changes → t ≡ 1
   used_first t None call regs args ids result changes l = first_of t l.running
@@ -173,29 +173,29 @@ module _ (i : Input) (one : IsOneThread i) (h : History) (lawful : IsLawfulBack 
 
   -- ---- the copies
 
-  none_pending : (e : Entry) (t : ℕ) (c : Copies) → t ≡ 1 → AreCopies (e ∷ h) (cond (t == 1) None (pending h 1)) c
-  none_pending e t c first = subst (λ b. AreCopies (e ∷ h) (cond b None (pending h 1)) c) (sym (eq-eqb t 1 first)) tt
+  none_pending : (e : Entry) (t : ℕ) (c : Copies) → t ≡ 1 → AreCopies (e ∷ h) (cond (t == 1) None (pending_call h 1)) c
+  none_pending e t c first = subst (λ b. AreCopies (e ∷ h) (cond b None (pending_call h 1)) c) (sym (eq-eqb t 1 first)) tt
 
   entered_way : (t : ℕ) (call : SysCall) (regs : List ℕ) (way : Way) (c : Copies) → IsEntered i h t call regs way → WayCopies (Entered t call regs way ∷ h) call regs way (copies_after (Entered t call regs way) c)
   entered_way t call regs Fast c l = tt
   entered_way t call regs (Barred n) c l = tt
   entered_way t call regs Untraced c l = tt
   entered_way t call regs (Held q) c l =
-      let new : posted h < q = omega (arith, l.way_is.0) in
+      let new : posted_count h < q = omega (arith, l.way_is.0) in
       let f = fresh i one h lawful in
-      λ k. record { call = call; regs = regs; words = sym (f.unread q 0 new) k; seens = sym (f.unseen q 0 new) k }
+      λ k. record { call = call; regs = regs; words = sym (f.unread q 0 new) k; lookups = sym (f.unseen q 0 new) k }
 
   -- behind an entry that leaves the pending call, and the copies of every message
-  same_copies : (e : Entry) (o : Option Pending) (c : Copies) → ((q : ℕ) → words (e ∷ h) q 0 ≡ words h q 0) → ((q : ℕ) → seens (e ∷ h) q 0 ≡ seens h q 0) → AreCopies h o c → AreCopies (e ∷ h) o c
+  same_copies : (e : Entry) (o : Option PendingCall) (c : Copies) → ((q : ℕ) → copied_words (e ∷ h) q 0 ≡ copied_words h q 0) → ((q : ℕ) → lookups (e ∷ h) q 0 ≡ lookups h q 0) → AreCopies h o c → AreCopies (e ∷ h) o c
   same_copies e None c sw ss k = tt
   same_copies e (Some p) c sw ss k = by_way p.way k where
     by_way : (way : Way) → WayCopies h p.call p.regs way c → WayCopies (e ∷ h) p.call p.regs way c
     by_way Fast k = tt
     by_way (Barred n) k = tt
     by_way Untraced k = tt
-    by_way (Held q) k = k ∙ (λ j. record { call = p.call; regs = p.regs; words = sym (sw q) j; seens = sym (ss q) j })
+    by_way (Held q) k = k ∙ (λ j. record { call = p.call; regs = p.regs; words = sym (sw q) j; lookups = sym (ss q) j })
 
-  copied_more : (q part place word : ℕ) (o : Option Pending) (c : Copies) → ((r : ℕ) → HasHeld r o → q ≡ r) → part ≡ 0 → AreCopies h o c → AreCopies (Copied q part place word ∷ h) o (with_word c word)
+  copied_more : (q part place word : ℕ) (o : Option PendingCall) (c : Copies) → ((r : ℕ) → HasHeld r o → q ≡ r) → part ≡ 0 → AreCopies h o c → AreCopies (Copied q part place word ∷ h) o (with_word c word)
   copied_more q part place word None c same first k = tt
   copied_more q part place word (Some p) c same first k = by_way p.way (λ r e. same r (p.call, p.regs, (λ j. Some (record { call = p.call; regs = p.regs; way = e j })))) k where
     by_way : (way : Way) → ((r : ℕ) → way ≡ Held r → q ≡ r) → WayCopies h p.call p.regs way c → WayCopies (Copied q part place word ∷ h) p.call p.regs way (with_word c word)
@@ -204,37 +204,37 @@ module _ (i : Input) (one : IsOneThread i) (h : History) (lawful : IsLawfulBack 
     by_way Untraced same k = tt
     by_way (Held r) same k =
         (λ j. with_word (k j) word) ∙
-        (λ j. record { call = p.call; regs = p.regs; words = cond (sym (eq-eqb q r (same r refl)) j && sym (eq-eqb part 0 first) j) (words h r 0 ++ word ∷ []) (words h r 0); seens = seens h r 0 })
+        (λ j. record { call = p.call; regs = p.regs; words = cond (sym (eq-eqb q r (same r refl)) j && sym (eq-eqb part 0 first) j) (copied_words h r 0 ++ word ∷ []) (copied_words h r 0); lookups = lookups h r 0 })
 
-  looked_more : (q part : ℕ) (name : Components) (seen : SeenText) (o : Option Pending) (c : Copies) → ((r : ℕ) → HasHeld r o → q ≡ r) → part ≡ 0 → AreCopies h o c → AreCopies (Looked q part name seen ∷ h) o (with_seen c seen)
+  looked_more : (q part : ℕ) (name : Components) (seen : SeenText) (o : Option PendingCall) (c : Copies) → ((r : ℕ) → HasHeld r o → q ≡ r) → part ≡ 0 → AreCopies h o c → AreCopies (Looked q part name seen ∷ h) o (with_lookup c seen)
   looked_more q part name seen None c same first k = tt
   looked_more q part name seen (Some p) c same first k = by_way p.way (λ r e. same r (p.call, p.regs, (λ j. Some (record { call = p.call; regs = p.regs; way = e j })))) k where
-    by_way : (way : Way) → ((r : ℕ) → way ≡ Held r → q ≡ r) → WayCopies h p.call p.regs way c → WayCopies (Looked q part name seen ∷ h) p.call p.regs way (with_seen c seen)
+    by_way : (way : Way) → ((r : ℕ) → way ≡ Held r → q ≡ r) → WayCopies h p.call p.regs way c → WayCopies (Looked q part name seen ∷ h) p.call p.regs way (with_lookup c seen)
     by_way Fast same k = tt
     by_way (Barred n) same k = tt
     by_way Untraced same k = tt
     by_way (Held r) same k =
-        (λ j. with_seen (k j) seen) ∙
-        (λ j. record { call = p.call; regs = p.regs; words = words h r 0; seens = cond (sym (eq-eqb q r (same r refl)) j && sym (eq-eqb part 0 first) j) (seens h r 0 ++ seen ∷ []) (seens h r 0) })
+        (λ j. with_lookup (k j) seen) ∙
+        (λ j. record { call = p.call; regs = p.regs; words = copied_words h r 0; lookups = cond (sym (eq-eqb q r (same r refl)) j && sym (eq-eqb part 0 first) j) (lookups h r 0 ++ seen ∷ []) (lookups h r 0) })
 
-  turn_is : (w q : ℕ) → turn h w ≡ Some q → (r : ℕ) → HasHeld r (pending h 1) → q ≡ r
-  turn_is w q at r x = held_same q r (pending h 1) ((one_run i one h lawful).turn_held w q at) x
+  turn_is : (w q : ℕ) → turn_of h w ≡ Some q → (r : ℕ) → HasHeld r (pending_call h 1) → q ≡ r
+  turn_is w q at r x = held_same q r (pending_call h 1) ((one_run i one h lawful).turn_held w q at) x
 
-  pub copies_stay : (e : Entry) → IsLawful i h e → (c : Copies) → AreCopies h (pending h 1) c → AreCopies (e ∷ h) (pending (e ∷ h) 1) (copies_after e c)
-  copies_stay (Stored t place word) l c k = same_copies (Stored t place word) (pending h 1) c (λ q. refl) (λ q. refl) k
+  pub copies_stay : (e : Entry) → IsLawful i h e → (c : Copies) → AreCopies h (pending_call h 1) c → AreCopies (e ∷ h) (pending_call (e ∷ h) 1) (copies_after e c)
+  copies_stay (Stored t place word) l c k = same_copies (Stored t place word) (pending_call h 1) c (λ q. refl) (λ q. refl) k
   copies_stay (Entered t call regs way) l c k =
       subst (λ o. AreCopies (Entered t call regs way ∷ h) o (copies_after (Entered t call regs way) c)) (sym (now_pending t call regs way (first_of t l.running))) (entered_way t call regs way c l)
   copies_stay (Replied q reply n) l c k = absurd l
   copies_stay (Learned q n) l c k = absurd l
-  copies_stay (Claimed w q) l c k = same_copies (Claimed w q) (pending h 1) c (λ r. refl) (λ r. refl) k
+  copies_stay (Claimed w q) l c k = same_copies (Claimed w q) (pending_call h 1) c (λ r. refl) (λ r. refl) k
   copies_stay (Copied q part place word) l c k =
-      let bound : (part ≡ 0) × (length (words h q 0) ≤ 128) = subst (Bounded 0 (words h q 0) (seens h q 0)) l.due (due i one.plain h q lawful) in
-      copied_more q part place word (pending h 1) c (turn_is l.served.number q (at_turn i h l.served.number q l.served.at)) bound.0 k
+      let bound : (part ≡ 0) × (length (copied_words h q 0) ≤ 128) = subst (Bounded 0 (copied_words h q 0) (lookups h q 0)) l.due (progress-is_bounded i one.plain h q lawful) in
+      copied_more q part place word (pending_call h 1) c (turn_is l.served.number q (at_turn i h l.served.number q l.served.at)) bound.0 k
   copies_stay (Looked q part name seen) l c k =
-      let bound : (part ≡ 0) × (length (seens h q 0) < 1024) = subst (Bounded 0 (words h q 0) (seens h q 0)) l.due (due i one.plain h q lawful) in
-      looked_more q part name seen (pending h 1) c (turn_is l.served.number q (at_turn i h l.served.number q l.served.at)) bound.0 k
-  copies_stay (Faulted q errno) l c k = same_copies (Faulted q errno) (pending h 1) c (λ r. refl) (λ r. refl) k
-  copies_stay (Answered w s v applied) l c k = same_copies (Answered w s v applied) (pending h 1) c (λ r. refl) (λ r. refl) k
+      let bound : (part ≡ 0) × (length (lookups h q 0) < 1024) = subst (Bounded 0 (copied_words h q 0) (lookups h q 0)) l.due (progress-is_bounded i one.plain h q lawful) in
+      looked_more q part name seen (pending_call h 1) c (turn_is l.served.number q (at_turn i h l.served.number q l.served.at)) bound.0 k
+  copies_stay (Faulted q errno) l c k = same_copies (Faulted q errno) (pending_call h 1) c (λ r. refl) (λ r. refl) k
+  copies_stay (Answered w s v applied) l c k = same_copies (Answered w s v applied) (pending_call h 1) c (λ r. refl) (λ r. refl) k
   copies_stay (Used t seq call regs args ids result changes) l c k = none_pending (Used t seq call regs args ids result changes) t c (used_first t seq call regs args ids result changes l)
   copies_stay (Denied t seq errno cause) l c k = none_pending (Denied t seq errno cause) t c (denied_first t seq errno cause l)
-  copies_stay (Ended t) l c k = same_copies (Ended t) (pending h 1) c (λ q. refl) (λ q. refl) k
+  copies_stay (Ended t) l c k = same_copies (Ended t) (pending_call h 1) c (λ q. refl) (λ q. refl) k

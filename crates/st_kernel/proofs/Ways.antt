@@ -5,25 +5,25 @@ use Rattle.st_trace.specs.declared.entry.Choice.{Choice}
 use Rattle.st_trace.specs.declared.entry.Choice.TheVariants.{Thread, Worker}
 use Rattle.st_trace.specs.declared.entry.Entry.{Entry}
 use Rattle.st_law.specs.Lawful.{Lawful, IsLawful}
-use Rattle.st_law.specs.Machine.{Move, state, first_enabled, move_or, rest, most_steps}
+use Rattle.st_law.specs.Machine.{EnabledChoice, state_at, first_enabled, choice_or, rest_from, most_steps}
 use Rattle.st_law.proofs.Laws.{lawful_choice}
 use Rattle.st_law.proofs.Steps.{Says}
-use Rattle.st_kernel.specs.Runs.{Run, IsOneThread, IsAdvanced, choice_in, first_choice, state_of, entry_at, left_of}
+use Rattle.st_kernel.specs.Runs.{Run, IsOneThread, IsAdvanced, choice_in, first_choice, state_after_run, entry_at, choices_left}
 use Rattle.st_kernel.proofs.Ending.{cost}
 use Rattle.st_kernel.proofs.Lowering.{lowers}
 use Rattle.st_kernel.proofs.Finishing.{first_is, rest_step, rest_none}
 
 -- the first enabled choice, and the entry that it adds
 pub record IsFirst (r : Run) (c : Choice) : Type 0 where
-  pub move : Move
-  pub first : first_enabled r.input (state_of r) ≡ Some move
+  pub move : EnabledChoice
+  pub first : first_enabled r.input (state_after_run r) ≡ Some move
   pub chosen : move.choice ≡ c
   pub adds : entry_at r c ≡ Some move.entry
 
 in_some : (x y : Choice) → Some x ≡ Some y → x ≡ y
 in_some x y e = cc
 
-by_moves : (r : Run) (c : Choice) (o p : Option Entry) → entry_at r (Thread 1) ≡ o → entry_at r (Worker 1) ≡ p → first_enabled r.input (state_of r) ≡ move_or (Thread 1) o (move_or (Worker 1) p None) → Some c ≡ choice_in (move_or (Thread 1) o (move_or (Worker 1) p None)) → IsFirst r c
+by_moves : (r : Run) (c : Choice) (o p : Option Entry) → entry_at r (Thread 1) ≡ o → entry_at r (Worker 1) ≡ p → first_enabled r.input (state_after_run r) ≡ choice_or (Thread 1) o (choice_or (Worker 1) p None) → Some c ≡ choice_in (choice_or (Thread 1) o (choice_or (Worker 1) p None)) → IsFirst r c
 by_moves r c (Some e) p here there first is =
     let same : c ≡ Thread 1 = in_some c (Thread 1) is in
     record { move = record { choice = Thread 1; entry = e }; first = first; chosen = sym same; adds = (λ k. entry_at r (same k)) ∙ here }
@@ -34,7 +34,7 @@ by_moves r c None None here there first is = cc
 
 pub first_move : (r : Run) (c : Choice) → IsOneThread r.input → Some c ≡ first_choice r → IsFirst r c
 first_move r c one is =
-    by_moves r c (entry_at r (Thread 1)) (entry_at r (Worker 1)) refl refl (first_is r.input (state_of r) one) (is ∙ ap choice_in (first_is r.input (state_of r) one))
+    by_moves r c (entry_at r (Thread 1)) (entry_at r (Worker 1)) refl refl (first_is r.input (state_after_run r) one) (is ∙ ap choice_in (first_is r.input (state_after_run r) one))
 
 pub first_some : (r : Run) (c : Choice) → IsFirst r c → IsSome (entry_at r c)
 first_some r c f = subst IsSome (sym f.adds) refl
@@ -48,13 +48,13 @@ trace_next old new c e step adds =
     ap reverse (sym (some_is (old.trace ++ e ∷ []) new.trace grown)) ∙ reverse-append old.trace (e ∷ [])
 
 -- a step of the first enabled choice stays on the way
-pub same_way : (old new : Run) (c : Choice) → IsOneThread old.input → Lawful old.input old.trace → IsFirst old c → IsAdvanced old c new → new.schedule ++ left_of new ≡ old.schedule ++ left_of old
+pub same_way : (old new : Run) (c : Choice) → IsOneThread old.input → Lawful old.input old.trace → IsFirst old c → IsAdvanced old c new → new.schedule ++ choices_left new ≡ old.schedule ++ choices_left old
 same_way old new c one lawful f step =
-    let next : left_of new ≡ rest (most_steps old.input) old.input (state old.input (f.move.entry ∷ reverse old.trace)) = (λ k. rest (most_steps (step.input k)) (step.input k) (state (step.input k) (trace_next old new c f.move.entry step f.adds k))) in
-    let more : left_of old ≡ f.move.choice ∷ rest (most_steps old.input) old.input (state old.input (f.move.entry ∷ reverse old.trace)) = rest_step old.input one (reverse old.trace) lawful f.move f.first in
+    let next : choices_left new ≡ rest_from (most_steps old.input) old.input (state_at old.input (f.move.entry ∷ reverse old.trace)) = (λ k. rest_from (most_steps (step.input k)) (step.input k) (state_at (step.input k) (trace_next old new c f.move.entry step f.adds k))) in
+    let more : choices_left old ≡ f.move.choice ∷ rest_from (most_steps old.input) old.input (state_at old.input (f.move.entry ∷ reverse old.trace)) = rest_step old.input one (reverse old.trace) lawful f.move f.first in
     (λ k. step.schedule k ++ next k) ∙
-    append_assoc old.schedule (c ∷ []) (rest (most_steps old.input) old.input (state old.input (f.move.entry ∷ reverse old.trace))) ∙
-    (λ k. old.schedule ++ (sym f.chosen k ∷ rest (most_steps old.input) old.input (state old.input (f.move.entry ∷ reverse old.trace)))) ∙
+    append_assoc old.schedule (c ∷ []) (rest_from (most_steps old.input) old.input (state_at old.input (f.move.entry ∷ reverse old.trace))) ∙
+    (λ k. old.schedule ++ (sym f.chosen k ∷ rest_from (most_steps old.input) old.input (state_at old.input (f.move.entry ∷ reverse old.trace)))) ∙
     (λ k. old.schedule ++ sym more k)
 
 -- each step leaves less to do
@@ -64,14 +64,14 @@ costs_less old new c one lawful f step =
     let same : cost new.input (reverse new.trace) ≡ cost old.input (f.move.entry ∷ reverse old.trace) = (λ k. cost (step.input k) (trace_next old new c f.move.entry step f.adds k)) in
     subst (λ n. n < cost old.input (reverse old.trace)) (sym same) (lowers old.input one (reverse old.trace) lawful f.move.entry law)
 
-no_move : (o : Option Move) → None ≡ choice_in o → o ≡ None
+no_move : (o : Option EnabledChoice) → None ≡ choice_in o → o ≡ None
 no_move None is = refl
 no_move (Some m) is = cc
 
 -- nothing is left where no choice is enabled
-pub all_done : (r : Run) (whole : List Choice) → None ≡ first_choice r → r.schedule ++ left_of r ≡ whole → r.schedule ≡ whole
+pub all_done : (r : Run) (whole : List Choice) → None ≡ first_choice r → r.schedule ++ choices_left r ≡ whole → r.schedule ≡ whole
 all_done r whole none way =
-    let left : left_of r ≡ [] = rest_none (most_steps r.input) r.input (state_of r) (no_move (first_enabled r.input (state_of r)) none) in
+    let left : choices_left r ≡ [] = rest_none (most_steps r.input) r.input (state_after_run r) (no_move (first_enabled r.input (state_after_run r)) none) in
     sym (append-nil r.schedule) ∙ (λ k. r.schedule ++ sym left k) ∙ way
 
 heads : (x y : Choice) (xs ys : List Choice) → x ∷ xs ≡ y ∷ ys → x ≡ y

@@ -1,14 +1,16 @@
 -- Where the first zero byte of a list stands, and what a name spells by it.
 use Rattle.std.proofs.Common.{◌≡◌, ◌<◌, ◌≤◌, ◌+◌, ◌-◌, ◌*◌, ◌%◌, ◌==◌, ℕ, Bool, true, false, cond, not, nat_lt, List, [], ◌∷◌, ◌++◌, length, take, drop, Option, Some, None, refl, ap, sym, ◌∙◌, arith, eqb, ltb, length-append, length-drop, length-take, append-nil}
-use borrow.Author.Tests.{ltb-true, ltb-false, eqb-true, eqb-false}
+use Rattle.std.proofs.lemmas.Bool.{ltb-true, ltb-false, eqb-true, eqb-false}
 use Rattle.std.specs.Int.{w64, to_le_bytes}
 use Rattle.std.specs.List.{position, prefix_len, flat_map}
 use Rattle.std.proofs.lemmas.Grind.{flat_map-append}
 use Rattle.std.proofs.lemmas.List.{drop-append-le, take-append-drop, take-append-le, take_all}
 use Rattle.std.proofs.lemmas.List.Sums.{prefix_len-le-length}
 use Rattle.std.proofs.lemmas.List.Folds.{prefix_len-append}
-use Rattle.st_calls.specs.Spelling.{longest_name, bytes_of_words}
+use Rattle.st_base.proofs.Words.{length-bytes_of_words}
+use Rattle.st_model.specs.Spelling.{bytes_of_words}
 use Rattle.st_kernel.specs.Copying.{Copied}
+use Rattle.st_names.specs.declared.limits.TheConstants.{LONGEST_NAME}
 
 abbrev pub is_zero : ℕ → Bool
 is_zero byte = byte == 0
@@ -123,17 +125,13 @@ zero_below xs i h = (some_front xs i h).1
 
 -- ---- words
 
-pub length-words : (words : List ℕ) → length (flat_map (to_le_bytes w64) words) ≡ 8 * length words
-length-words [] = refl
-length-words (w ∷ words) = omega (arith, length-append (to_le_bytes w64 w) (flat_map (to_le_bytes w64) words), length-words words)
-
 pub length-bytes : (at : ℕ) (words : List ℕ) → length (bytes_of_words at words) ≡ 8 * length words - at % 8
-length-bytes at words = length-drop (at % 8) (flat_map (to_le_bytes w64) words) ∙ ap (λ (n : ℕ). n - at % 8) (length-words words)
+length-bytes at words = length-drop (at % 8) (flat_map (to_le_bytes w64) words) ∙ ap (λ (n : ℕ). n - at % 8) (length-bytes_of_words words)
 
 pub bytes_more : (at : ℕ) (words : List ℕ) (word : ℕ) → 0 < length words → bytes_of_words at (words ++ word ∷ []) ≡ bytes_of_words at words ++ to_le_bytes w64 word
 bytes_more at words word some =
     let low : at % 8 < 8 = omega arith in
-    ap (drop (at % 8)) (flat_map-append (to_le_bytes w64) words (word ∷ [])) ∙ drop-append-le (at % 8) (flat_map (to_le_bytes w64) words) (to_le_bytes w64 word) (omega (arith, length-words words, low))
+    ap (drop (at % 8)) (flat_map-append (to_le_bytes w64) words (word ∷ [])) ∙ drop-append-le (at % 8) (flat_map (to_le_bytes w64) words) (to_le_bytes w64 word) (omega (arith, length-bytes_of_words words, low))
 
 -- ---- the first 1,025 bytes
 
@@ -216,11 +214,11 @@ same_test a b x y false false h k f g = refl
 same_test a b x y true false h k f g = let n = ltb-false x y k in let l = f (ltb-true a b h) in absurd (omega (arith, n, l))
 same_test a b x y false true h k f g = let n = ltb-false a b h in let l = g (ltb-true x y k) in absurd (omega (arith, n, l))
 
-pub long_by_words : (at : ℕ) (words : List ℕ) (n : ℕ) → n ≡ length words → 200 < n → nat_lt 200 n ≡ nat_lt longest_name (length (bytes_of_words at words))
+pub long_by_words : (at : ℕ) (words : List ℕ) (n : ℕ) → n ≡ length words → 200 < n → nat_lt 200 n ≡ nat_lt LONGEST_NAME (length (bytes_of_words at words))
 long_by_words at words n e l =
     let b = length-bytes at words in
     let low : at % 8 < 8 = omega arith in
-    same_test 200 n longest_name (length (bytes_of_words at words)) (ltb 200 n) (ltb longest_name (length (bytes_of_words at words))) refl refl (λ h. omega (arith, b, e, l, low)) (λ h. l)
+    same_test 200 n LONGEST_NAME (length (bytes_of_words at words)) (ltb 200 n) (ltb LONGEST_NAME (length (bytes_of_words at words))) refl refl (λ h. omega (arith, b, e, l, low)) (λ h. l)
 
-pub long_by_bytes : (at : ℕ) (words : List ℕ) (n r : ℕ) → n ≡ length words → r ≡ 8 * n - at % 8 → nat_lt 1024 r ≡ nat_lt longest_name (length (bytes_of_words at words))
+pub long_by_bytes : (at : ℕ) (words : List ℕ) (n r : ℕ) → n ≡ length words → r ≡ 8 * n - at % 8 → nat_lt 1024 r ≡ nat_lt LONGEST_NAME (length (bytes_of_words at words))
 long_by_bytes at words n r e f = ap (nat_lt 1024) (f ∙ ap (λ (m : ℕ). 8 * m - at % 8) e ∙ sym (length-bytes at words))

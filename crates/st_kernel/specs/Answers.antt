@@ -2,9 +2,9 @@
 use Rattle.std.specs.Prelude.{◌≡◌, List, map, length}
 use Rattle.st_calls.specs.declared.rule.FastAnswer.{FastAnswer}
 use Rattle.st_calls.specs.Call.{every_rule}
-use Rattle.st_policy.specs.Fast.{fast}
-use Rattle.st_policy.specs.Formula.{FilterValue}
-use Rattle.st_policy.specs.Policies.{filters_of}
+use Rattle.st_filter.specs.Fast.{fast}
+use Rattle.st_filter.specs.Formula.{FilterValue}
+use Rattle.st_filter.specs.Policies.{filters_of}
 
 -- the kernel's own answers for each rule under a policy, in the order of the rules
 abbrev pub fast_answers : List FilterValue → List FastAnswer

@@ -1,6 +1,6 @@
 -- A name of memory, as far as it is copied.
 use Rattle.std.specs.Prelude.{ℕ, List}
-use Rattle.st_calls.specs.Spelling.{Spelled, Text, Fault, More, spell_name}
+use Rattle.st_model.specs.Spelling.{Spelled, Text, Fault, More, spell_name}
 use Rattle.st_kernel.specs.declared.copying.Spelling.{Spelling}
 use Rattle.st_kernel.specs.declared.copying.Spelling.TheVariants as state
 
@@ -10,11 +10,11 @@ pub record Copied : Type 0 where
   pub words : List ℕ
 
 -- what the words spell
-abbrev pub spelled : Copied → Spelled
-spelled copied = spell_name copied.at copied.words
+abbrev pub spelled_name : Copied → Spelled
+spelled_name copied = spell_name copied.at copied.words
 
 -- the same, without the text
-abbrev pub state_of : Spelled → Spelling
-state_of (Text text) = state.Done
-state_of (Fault errno) = state.Fault errno
-state_of (More place) = state.More place
+abbrev pub spelling_state : Spelled → Spelling
+spelling_state (Text text) = state.Done
+spelling_state (Fault errno) = state.Fault errno
+spelling_state (More place) = state.More place

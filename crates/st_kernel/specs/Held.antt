@@ -1,11 +1,11 @@
 -- The newest held call, as the kernel keeps it.
 use Rattle.std.specs.Prelude.{◌≡◌, ℕ, Bool, true, false}
-use Rattle.st_trace.specs.Progress.{Word, Look}
+use Rattle.st_effects.specs.Progress.{Word, Look}
 use Rattle.st_trace.specs.declared.entry.Entry.{Entry}
 use Rattle.st_trace.specs.declared.entry.Entry.TheVariants.{Entered, Claimed, Copied, Looked, Faulted, Answered, Used, Denied}
 use Rattle.st_trace.specs.declared.entry.Way.TheVariants as way
 use Rattle.st_law.specs.History.{posted_after}
-use Rattle.st_kernel.specs.Copies.{Copies, no_copies, with_word, with_seen, progress_of}
+use Rattle.st_kernel.specs.Copies.{Copies, no_copies, with_word, with_lookup, progress_of}
 use Rattle.st_kernel.specs.declared.held.Stage.{Stage}
 use Rattle.st_kernel.specs.declared.held.Stage.TheVariants as stage
 
@@ -16,10 +16,10 @@ pub record Held : Type 0 where
   pub copies : Copies
 
 -- whether a worker has something to do for the newest message
-abbrev pub asks_worker : Stage → Bool
-asks_worker stage.Waiting = true
-asks_worker stage.Claimed = true
-asks_worker _ = false
+abbrev pub needs_worker : Stage → Bool
+needs_worker stage.Waiting = true
+needs_worker stage.Claimed = true
+needs_worker _ = false
 
 -- what an entry makes of what became of the newest message
 abbrev pub stage_after : Entry → Stage → Stage
@@ -35,9 +35,10 @@ stage_after _ before = before
 abbrev pub copies_after : Entry → Copies → Copies
 copies_after (Entered t call regs (way.Held q)) before = no_copies call regs
 copies_after (Copied q part place word) before = with_word before word
-copies_after (Looked q part name seen) before = with_seen before seen
+copies_after (Looked q part name seen) before = with_lookup before seen
 copies_after _ before = before
 
+-- what an entry makes of all that is kept of the newest held call
 abbrev pub held_after : Entry → Held → Held
 held_after e before = record {
   posted = posted_after e before.posted;

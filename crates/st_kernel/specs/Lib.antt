@@ -8,5 +8,5 @@ pub mod Kept
 pub mod Opening
 pub mod Runs
 pub mod Setup
-pub mod Standing
+pub mod ProcessState
 pub mod Walking

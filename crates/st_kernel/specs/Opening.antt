@@ -3,20 +3,12 @@ use Rattle.std.specs.Prelude.{nat_le, if◌then◌else◌}
 use Rattle.st_base.specs.declared.errno.Errno.TheVariants.{EMFILE}
 use Rattle.st_base.specs.declared.ids.Ids.{Ids}
 use Rattle.st_names.specs.Name.{Components}
-use Rattle.st_trace.specs.Served.{ServedOutcome, Setting, fails, most_descriptors, opens_walked}
-use Rattle.st_names.specs.declared.permission.Want as names
-use Rattle.st_names.specs.declared.permission.Want.TheVariants as want
-use Rattle.st_trace.specs.Permission.{walk_error}
-use Rattle.st_kernel.specs.declared.opening.Want.{Want}
-use Rattle.st_kernel.specs.declared.opening.Want.TheVariants.{Read, Search}
-
--- the same want, as the definitions have it
-abbrev pub wanted : Want → names.Want
-wanted Read = want.Read
-wanted Search = want.Search
+use Rattle.st_law.specs.Served.{MachineOutcome, MachineSetting, error_outcome, machine_open_walk_outcome}
+use Rattle.st_effects.specs.NameTests.{walk_error}
+use Rattle.st_model.specs.declared.open_file.TheConstants.{DESCRIPTORS}
 
 -- open for reading, by the name that its argument spells
-abbrev pub opens_named : Setting → Ids → Components → ServedOutcome
-opens_named setting ids name =
-    if nat_le most_descriptors setting.descriptors then fails EMFILE
-    else opens_walked setting.tree setting.descriptors ids name (walk_error setting.tree ids name)
+abbrev pub open_named_outcome : MachineSetting → Ids → Components → MachineOutcome
+open_named_outcome setting ids name =
+    if nat_le DESCRIPTORS setting.descriptors then error_outcome EMFILE
+    else machine_open_walk_outcome setting.tree setting.descriptors ids name (walk_error setting.tree ids name)

@@ -1,13 +1,13 @@
 -- A run of one traced thread: what it is of, its trace, and the schedule that gave it.
 use Rattle.std.specs.Prelude.{◌≡◌, true, List, [], ◌∷◌, ◌++◌, reverse, Option, Some, option_map}
-use Rattle.st_trace.specs.Served.{HaveNoLinks}
+use Rattle.st_law.specs.Served.{HaveNoLinks}
 use Rattle.st_trace.specs.declared.entry.Choice.{Choice}
 use Rattle.st_trace.specs.declared.entry.Entry.{Entry}
 use Rattle.st_trace.specs.declared.start.ProcessRow.{ProcessRow}
 use Rattle.st_trace.specs.declared.start.ThreadRow.{ThreadRow}
 use Rattle.st_law.specs.declared.input.Input.{Input}
-use Rattle.st_law.specs.History.{Process, process}
-use Rattle.st_law.specs.Machine.{State, Move, state, entry_of, first_enabled, rest, most_steps}
+use Rattle.st_law.specs.History.{Process, process_of}
+use Rattle.st_law.specs.Machine.{State, EnabledChoice, state_at, entry_of, first_enabled, rest_from, most_steps}
 
 -- what a run is of, what it did, and by which choices
 pub record Run : Type 0 where
@@ -26,23 +26,24 @@ pub record IsOneThread (i : Input) : Type 0 where
   pub plain : HaveNoLinks i.start.tree
 
 -- the machine's state behind a run
-abbrev pub state_of : Run → State
-state_of r = state r.input (reverse r.trace)
+abbrev pub state_after_run : Run → State
+state_after_run r = state_at r.input (reverse r.trace)
 
 -- the process of a run's thread
-abbrev pub process_of : Run → Process
-process_of r = process r.input 1
+abbrev pub process_of_run : Run → Process
+process_of_run r = process_of r.input 1
 
 -- the entry that a choice would add to a run: none where it isn't enabled
 abbrev pub entry_at : Run → Choice → Option Entry
-entry_at r choice = entry_of r.input (state_of r) choice
+entry_at r choice = entry_of r.input (state_after_run r) choice
 
-abbrev pub choice_in : Option Move → Option Choice
+-- the choice of a move, if there is one
+abbrev pub choice_in : Option EnabledChoice → Option Choice
 choice_in move = option_map (λ m. m.choice) move
 
 -- the first choice that is enabled
 abbrev pub first_choice : Run → Option Choice
-first_choice r = choice_in (first_enabled r.input (state_of r))
+first_choice r = choice_in (first_enabled r.input (state_after_run r))
 
 -- a run, one choice and its entry on
 pub record IsAdvanced (old : Run) (choice : Choice) (new : Run) : Type 0 where
@@ -51,5 +52,5 @@ pub record IsAdvanced (old : Run) (choice : Choice) (new : Run) : Type 0 where
   pub trace : option_map (λ entry. old.trace ++ entry ∷ []) (entry_at old choice) ≡ Some new.trace
 
 -- the choices that a run has left, where the first enabled one is made again and again
-abbrev pub left_of : Run → List Choice
-left_of r = rest (most_steps r.input) r.input (state_of r)
+abbrev pub choices_left : Run → List Choice
+choices_left r = rest_from (most_steps r.input) r.input (state_after_run r)

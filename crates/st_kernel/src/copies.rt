@@ -1,11 +1,11 @@
 ghost use Rattle.std.specs.Prelude.{◌≡◌, true, [], ◌∷◌, IfOk, OnOk, OnErr};
-ghost use Rattle.st_calls.specs.Spelling as spelled;
-ghost use Rattle.st_trace.specs.Progress.{Ready, named};
-ghost use Rattle.st_trace.specs.Served.{by_walk};
-ghost use Rattle.st_trace.specs.Served.{is_open};
-ghost use Rattle.st_kernel.specs.Copies.{AsksLook, AsksWord, IsInside, due, filename, name_of, name_progress, no_copies, parts_in, progress_of, with_seen, with_word};
-ghost use Rattle.st_kernel.specs.Copying.{state_of};
-ghost use Rattle.st_kernel.specs.Walking.{walked};
+ghost use Rattle.st_model.specs.Spelling as spelled;
+ghost use Rattle.st_effects.specs.Progress.{Ready, name_arg};
+ghost use Rattle.st_law.specs.Served.{machine_walk_progress};
+ghost use Rattle.st_law.specs.Served.{is_open};
+ghost use Rattle.st_kernel.specs.Copies.{NeedsLookup, NeedsWord, IsInside, progress_of_need, filename, name_of, name_progress, no_copies, parts_in, progress_of, with_lookup, with_word};
+ghost use Rattle.st_kernel.specs.Copying.{spelling_state};
+ghost use Rattle.st_kernel.specs.Walking.{walk_state};
 
 use crate::copying::{Copying, Spelling};
 use crate::walking::{Step, Walking};
@@ -40,11 +40,11 @@ pub struct Copies {
 
 impl Model for Copies {
     ghost use Rattle.st_kernel.specs.Copies as copies;
-    ghost use Rattle.st_kernel.specs.Copies.{copies_by, IsCopying};
+    ghost use Rattle.st_kernel.specs.Copies.{copies_of_walking, IsCopying};
 
     ghost Value = { copies.Copies };
 
-    ghost view = { λ c. copies_by c.call c.regs c.copying c.walking };
+    ghost view = { λ c. copies_of_walking c.call c.regs c.copying c.walking };
 
     ghost invariant = { λ c. IsCopying c.call c.regs c.copying c.walking };
 }
@@ -57,7 +57,7 @@ fn is_open(call: SysCall) -> bool
 
 // The one argument that is a name, in the text that policies judge.
 fn one_part(alloc: Global, name: &AbsName) -> Result<Sequence<ArgText>, AllocError>
-    ensures { IfOk result (λ parts. parts ≡ named filename name.now ∷ []) }
+    ensures { IfOk result (λ parts. parts ≡ name_arg filename name.now ∷ []) }
 {
     let mut parts = Sequence::new(alloc);
     parts.push(ArgText {
@@ -70,7 +70,7 @@ fn one_part(alloc: Global, name: &AbsName) -> Result<Sequence<ArgText>, AllocErr
 
 // What a walk needs next.
 fn need_of(alloc: Global, walking: &Walking) -> Result<Need, AllocError>
-    ensures value { IfOk result (λ need. due need ≡ by_walk 0 filename (walked walking.now) (Ready [])) }
+    ensures value { IfOk result (λ need. progress_of_need need ≡ machine_walk_progress 0 filename (walk_state walking.now) (Ready [])) }
     ensures inside { IfOk result IsInside }
 {
     match walking.next() {
@@ -112,8 +112,8 @@ impl Copies {
 
     // The walk of the name before its first look.
     fn begin(&self, alloc: Global) -> Result<Walking, AllocError>
-        requires { state_of (name_of self.now) ≡ Spelling.Done }
-        ensures { IfOk result (λ walking. (name_of self.now ≡ spelled.Text walking.text) × (walking ≡ record { text = walking.text; cwd = []; follow = true; seens = [] })) }
+        requires { spelling_state (name_of self.now) ≡ Spelling.Done }
+        ensures { IfOk result (λ walking. (name_of self.now ≡ spelled.Text walking.text) × (walking ≡ record { text = walking.text; cwd = []; follow = true; lookups = [] })) }
     {
         let text = self.copying.text(alloc)?;
         Walking::start(alloc, text, &AbsName::root(alloc), true)
@@ -121,8 +121,8 @@ impl Copies {
 
     // What the walk of the copied name needs next.
     fn walk_need(&mut self, alloc: Global) -> Result<Need, AllocError>
-        requires { state_of (name_of self.old) ≡ Spelling.Done }
-        ensures value { IfOk result (λ need. due need ≡ name_progress self.old) }
+        requires { spelling_state (name_of self.old) ≡ Spelling.Done }
+        ensures value { IfOk result (λ need. progress_of_need need ≡ name_progress self.old) }
         ensures inside { IfOk result IsInside }
         ensures kept { self.new ≡ self.old }
     {
@@ -137,7 +137,7 @@ impl Copies {
 
     // What a name needs next.
     fn name_need(&mut self, alloc: Global) -> Result<Need, AllocError>
-        ensures value { IfOk result (λ need. due need ≡ name_progress self.old) }
+        ensures value { IfOk result (λ need. progress_of_need need ≡ name_progress self.old) }
         ensures inside { IfOk result IsInside }
         ensures kept { self.new ≡ self.old }
     {
@@ -150,7 +150,7 @@ impl Copies {
 
     /// What the copies need next.
     pub fn need(&mut self, alloc: Global) -> Result<Need, AllocError>
-        ensures value { IfOk result (λ need. due need ≡ progress_of self.old) }
+        ensures value { IfOk result (λ need. progress_of_need need ≡ progress_of self.old) }
         ensures inside { IfOk result IsInside }
         ensures kept { self.new ≡ self.old }
     {
@@ -175,7 +175,7 @@ impl Copies {
 
     /// Adds the word that was copied.
     pub fn push_word(&mut self, word: u64) -> Result<(), AllocError>
-        requires { AsksWord (progress_of self.old) }
+        requires { NeedsWord (progress_of self.old) }
         ensures ok { OnOk result (self.new ≡ with_word self.old word) }
         ensures err { OnErr result (self.new ≡ self.old) }
     {
@@ -183,9 +183,9 @@ impl Copies {
     }
 
     /// Adds what was seen of the name that was looked at.
-    pub fn push_seen(&mut self, alloc: Global, seen: SeenText) -> Result<(), AllocError>
-        requires { AsksLook (progress_of self.old) }
-        ensures ok { OnOk result (self.new ≡ with_seen self.old seen) }
+    pub fn push_lookup(&mut self, alloc: Global, seen: SeenText) -> Result<(), AllocError>
+        requires { NeedsLookup (progress_of self.old) }
+        ensures ok { OnOk result (self.new ≡ with_lookup self.old seen) }
         ensures err { OnErr result (self.new ≡ self.old) }
     {
         if let Some(walking) = &mut self.walking {

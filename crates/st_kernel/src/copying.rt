@@ -1,8 +1,10 @@
 ghost use Rattle.std.specs.Prelude.{◌≡◌, ℕ, ◌+◌, ◌%◌, ◌<◌, ◌≤◌, ◌==◌, nat_lt, [], ◌∷◌, ◌++◌, length, take, drop, flat_map, position, IfOk, OnOk, OnErr};
 ghost use Rattle.std.specs.Int.{w64, to_le_bytes};
-ghost use Rattle.st_calls.specs.Spelling as spelling;
-ghost use Rattle.st_calls.specs.Spelling.{bytes_of_words, longest_name, space_words, unfinished};
-ghost use Rattle.st_kernel.specs.Copying.{spelled, state_of};
+ghost use Rattle.st_model.specs.Spelling as spelling;
+ghost use Rattle.st_model.specs.Spelling.{bytes_of_words, next_word_of_name};
+ghost use Rattle.st_kernel.specs.Copying.{spelled_name, spelling_state};
+ghost use Rattle.st_names.specs.declared.limits.TheConstants.{LONGEST_NAME};
+ghost use Rattle.st_model.specs.declared.limits.TheConstants.{SPACE_WORDS};
 
 use st_base::{Errno, Text};
 use std::alloc::{AllocError, Global};
@@ -29,7 +31,7 @@ pub struct Copying {
 
 impl Model for Copying {
     ghost use Rattle.std.specs.Prelude.{◌≡◌, ◌==◌, position, take};
-    ghost use Rattle.st_calls.specs.Spelling.{bytes_of_words};
+    ghost use Rattle.st_model.specs.Spelling.{bytes_of_words};
     ghost use Rattle.st_kernel.specs.Copying.{Copied};
 
     ghost Value = { Copied };
@@ -48,8 +50,8 @@ fn first_zero(bytes: &[u8]) -> Option<usize>
 
 // How a name goes on that no zero byte ended.
 fn unfinished_at(place: u64, is_long: bool) -> Spelling
-    ensures value { (count : ℕ) → is_long ≡ nat_lt longest_name count → result ≡ state_of (unfinished place count) }
-    ensures inside { (next : ℕ) → result ≡ Spelling.More next → next < space_words }
+    ensures value { (count : ℕ) → is_long ≡ nat_lt LONGEST_NAME count → result ≡ spelling_state (next_word_of_name place count) }
+    ensures inside { (next : ℕ) → result ≡ Spelling.More next → next < SPACE_WORDS }
 {
     if is_long {
         Spelling::Fault(Errno::ENAMETOOLONG)
@@ -93,7 +95,7 @@ impl Copying {
 
     // Whether more bytes are copied than a name may have.
     fn is_long(&self) -> bool
-        ensures { result ≡ nat_lt longest_name (length (bytes_of_words self.now.at self.now.words)) }
+        ensures { result ≡ nat_lt LONGEST_NAME (length (bytes_of_words self.now.at self.now.words)) }
     {
         let count = self.words.len();
         count > 200 || (8 * count).saturating_sub((self.at % 8) as usize) > 1024
@@ -134,8 +136,8 @@ impl Copying {
 
     /// What the words spell: a name, a fault, or that a further word is needed.
     pub fn state(&self) -> Spelling
-        ensures value { result ≡ state_of (spelled self.now) }
-        ensures inside { (next : ℕ) → result ≡ Spelling.More next → next < space_words }
+        ensures value { result ≡ spelling_state (spelled_name self.now) }
+        ensures inside { (next : ℕ) → result ≡ Spelling.More next → next < SPACE_WORDS }
     {
         match self.zero {
             Some(_) => Spelling::Done,
@@ -145,8 +147,8 @@ impl Copying {
 
     // Where the text of a name ends that is wholly copied.
     fn end(&self) -> usize
-        requires { state_of (spelled self.now) ≡ Spelling.Done }
-        ensures text { spelled self.now ≡ spelling.Text (take result (bytes_of_words self.now.at self.now.words)) }
+        requires { spelling_state (spelled_name self.now) ≡ Spelling.Done }
+        ensures text { spelled_name self.now ≡ spelling.Text (take result (bytes_of_words self.now.at self.now.words)) }
         ensures inside { self.now.at % 8 + result ≤ length (flat_map (to_le_bytes w64) self.now.words) }
     {
         match self.zero {
@@ -157,8 +159,8 @@ impl Copying {
 
     /// The text of a name that is wholly copied.
     pub fn text(&self, alloc: Global) -> Result<Text, AllocError>
-        requires { state_of (spelled self.now) ≡ Spelling.Done }
-        ensures { IfOk result (λ text. spelled self.now ≡ spelling.Text text) }
+        requires { spelling_state (spelled_name self.now) ≡ Spelling.Done }
+        ensures { IfOk result (λ text. spelled_name self.now ≡ spelling.Text text) }
     {
         let bytes = bytes_of(alloc, self.words.as_slice())?;
         Text::of(alloc, part(&bytes, (self.at % 8) as usize, self.end()))

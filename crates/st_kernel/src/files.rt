@@ -1,49 +1,49 @@
 ghost use Rattle.std.specs.Prelude.{◌≡◌, ◌≤◌, Some, None, length, take, option_copied, IfOk};
-ghost use Rattle.st_names.specs.Tree.{is_directory, look, node_of, root_only, seen_of};
-ghost use Rattle.st_law.specs.History.{tree_from, node_of_row};
+ghost use Rattle.st_model.specs.Tree.{is_directory, look, node_of, root_only, seen_of, node_of_new};
+ghost use Rattle.st_law.specs.History.{tree_from};
 ghost use Rattle.st_kernel.specs.Files.{node_in};
 
 use crate::index::Index;
 use st_names::{AbsName, SeenText};
-use st_trace::{NewRow, RowKind, TreeRow};
+use st_trace::{NewKind, NewNode, TreeRow};
 use std::alloc::{AllocError, Global};
 use std::marker::Model;
 
 /// The kernel's file tree: what whole names have, by the rows of the script.
 #[derive(Debug, Drop)]
 pub struct Files<'a> {
-    root: NewRow,
+    root: NewNode,
     index: Index<'a>,
 }
 
 impl<'a> Model for Files<'a> {
     ghost use Rattle.std.specs.Prelude.{◌≡◌};
-    ghost use Rattle.st_names.specs.Tree.{Tree, root_node, root_only};
-    ghost use Rattle.st_law.specs.History.{tree_from, node_of_row};
+    ghost use Rattle.st_model.specs.Tree.{Tree, root_node, root_only, node_of_new};
+    ghost use Rattle.st_law.specs.History.{tree_from};
 
     ghost Value = { Tree };
 
     ghost view = { λ f. tree_from root_only f.index };
 
-    ghost invariant = { λ f. node_of_row f.root ≡ root_node };
+    ghost invariant = { λ f. node_of_new f.root ≡ root_node };
 }
 
 // What is seen of a row's object.
-fn seen_of_row(alloc: Global, row: &NewRow) -> Result<SeenText, AllocError>
-    ensures { IfOk result (λ seen. seen ≡ seen_of (Some (node_of_row row.now))) }
+fn seen_of_row(alloc: Global, row: &NewNode) -> Result<SeenText, AllocError>
+    ensures { IfOk result (λ seen. seen ≡ seen_of (Some (node_of_new row.now))) }
 {
     Ok(match &row.kind {
-        RowKind::Dir => SeenText::Dir,
-        RowKind::File(_) => SeenText::File,
-        RowKind::Link(target) => SeenText::Link(target.copy(alloc)?),
+        NewKind::Dir => SeenText::Dir,
+        NewKind::File(_) => SeenText::File,
+        NewKind::Link(target) => SeenText::Link(target.copy(alloc)?),
     })
 }
 
 /// Whether a row makes a directory.
-pub fn is_directory(row: &NewRow) -> bool
-    ensures { result ≡ is_directory (node_of_row row.now).kind }
+pub fn is_directory(row: &NewNode) -> bool
+    ensures { result ≡ is_directory (node_of_new row.now).kind }
 {
-    matches!(&row.kind, RowKind::Dir)
+    matches!(&row.kind, NewKind::Dir)
 }
 
 impl<'a> Files<'a> {
@@ -51,8 +51,8 @@ impl<'a> Files<'a> {
     pub fn of(alloc: Global, rows: &'a [TreeRow]) -> Result<Self, AllocError>
         ensures { IfOk result (λ files. files ≡ tree_from root_only rows.now) }
     {
-        let root = NewRow {
-            kind: RowKind::Dir,
+        let root = NewNode {
+            kind: NewKind::Dir,
             uid: 0,
             gid: 0,
             mode: 0o755,
@@ -67,7 +67,7 @@ impl<'a> Files<'a> {
         alloc: Global,
         name: &AbsName,
         len: usize,
-    ) -> Result<Option<&NewRow>, AllocError>
+    ) -> Result<Option<&NewNode>, AllocError>
         requires { len ≤ length name.now }
         ensures { IfOk result (λ found. node_in (option_copied found) ≡ node_of self.now (take len name.now)) }
     {
@@ -78,7 +78,7 @@ impl<'a> Files<'a> {
     }
 
     /// What a name has.
-    pub fn node(&self, alloc: Global, name: &AbsName) -> Result<Option<&NewRow>, AllocError>
+    pub fn node(&self, alloc: Global, name: &AbsName) -> Result<Option<&NewNode>, AllocError>
         ensures { IfOk result (λ found. node_in (option_copied found) ≡ node_of self.now name.now) }
     {
         self.node_at(alloc, name, name.len())

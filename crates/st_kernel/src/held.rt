@@ -1,6 +1,6 @@
 ghost use Rattle.std.specs.Prelude.{◌≡◌, ◌-◌, ◌<◌, ◌^◌, ◌∷◌, [], IfOk, OnOk, OnErr};
-ghost use Rattle.st_kernel.specs.Copies.{IsInside, due, no_copies, parts_in, progress_of};
-ghost use Rattle.st_kernel.specs.Held.{IsDue, asks_worker, copies_after, held_after, stage_after};
+ghost use Rattle.st_kernel.specs.Copies.{IsInside, progress_of_need, no_copies, parts_in, progress_of};
+ghost use Rattle.st_kernel.specs.Held.{IsDue, needs_worker, copies_after, held_after, stage_after};
 
 use crate::copies::{Copies, Need};
 use st_base::{Errno, Seq, Sequence};
@@ -24,8 +24,8 @@ pub enum Stage {
 
 impl Stage {
     /// Whether a worker has something to do for the message.
-    pub fn asks_worker(self) -> bool
-        ensures { result ≡ asks_worker self }
+    pub fn needs_worker(self) -> bool
+        ensures { result ≡ needs_worker self }
     {
         matches!(self, Stage::Waiting | Stage::Claimed)
     }
@@ -112,7 +112,7 @@ impl Held {
 
     /// What the copies of the newest held call need next.
     pub fn need(&mut self, alloc: Global) -> Result<Need, AllocError>
-        ensures value { IfOk result (λ need. due need ≡ progress_of self.old.copies) }
+        ensures value { IfOk result (λ need. progress_of_need need ≡ progress_of self.old.copies) }
         ensures inside { IfOk result IsInside }
         ensures kept { self.new ≡ self.old }
     {
@@ -144,7 +144,7 @@ impl Held {
                 Ok(())
             }
             Entry::Copied { word, .. } => self.copies.push_word(*word),
-            Entry::Looked { seen, .. } => self.copies.push_seen(alloc, seen.copy(alloc)?),
+            Entry::Looked { seen, .. } => self.copies.push_lookup(alloc, seen.copy(alloc)?),
             _ => Ok(()),
         }
     }

@@ -1,10 +1,10 @@
 ghost use Rattle.std.specs.Prelude.{◌≡◌, ◌≤◌, None, length, take, option_copied, IfOk};
-ghost use Rattle.st_kernel.specs.Files.{last_under};
+ghost use Rattle.st_kernel.specs.Files.{last_row_of};
 ghost use Rattle.st_kernel.specs.Index.{IsIndex, key_cmp, key_name};
 ghost use Rattle.std.specs.BTreeMap.{get};
 
 use st_names::AbsName;
-use st_trace::{NewRow, TreeRow};
+use st_trace::{NewNode, TreeRow};
 use std::alloc::{AllocError, Global};
 use std::collections::BTreeMap;
 use std::marker::Model;
@@ -13,7 +13,7 @@ use std::marker::Model;
 #[derive(Debug, Drop)]
 pub struct Index<'a> {
     rows: &'a [TreeRow],
-    made: BTreeMap<Vec<Vec<u8>>, &'a NewRow>,
+    made: BTreeMap<Vec<Vec<u8>>, &'a NewNode>,
 }
 
 impl<'a> Model for Index<'a> {
@@ -34,8 +34,8 @@ fn key_of(alloc: Global, name: &AbsName, len: usize) -> Result<Vec<Vec<u8>>, All
     ensures { IfOk result (λ key. key_name key ≡ take len name.now) }
 {
     let mut key = Vec::new(alloc);
-    for i in 0..len {
-        key.push(Vec::from_slice(alloc, name.part(i))?)?;
+    for part in name.parts().take(len) {
+        key.push(Vec::from_slice(alloc, part)?)?;
     }
     Ok(key)
 }
@@ -44,7 +44,7 @@ fn key_of(alloc: Global, name: &AbsName, len: usize) -> Result<Vec<Vec<u8>>, All
 fn made_by<'a>(
     alloc: Global,
     rows: &'a [TreeRow],
-) -> Result<BTreeMap<Vec<Vec<u8>>, &'a NewRow>, AllocError>
+) -> Result<BTreeMap<Vec<Vec<u8>>, &'a NewNode>, AllocError>
     ensures { IfOk result (λ made. IsIndex made rows.now) }
 {
     let mut made = BTreeMap::new(alloc);
@@ -70,9 +70,9 @@ impl<'a> Index<'a> {
         alloc: Global,
         name: &AbsName,
         len: usize,
-    ) -> Result<Option<&'a NewRow>, AllocError>
+    ) -> Result<Option<&'a NewNode>, AllocError>
         requires { len ≤ length name.now }
-        ensures { IfOk result (λ found. option_copied found ≡ last_under None self.now (take len name.now)) }
+        ensures { IfOk result (λ found. option_copied found ≡ last_row_of None self.now (take len name.now)) }
     {
         let key = key_of(alloc, name, len)?;
         Ok(self.made.get(&key).copied())

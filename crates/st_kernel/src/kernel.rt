@@ -1,35 +1,38 @@
 ghost use Rattle.std.specs.Prelude.{◌≡◌, ◌↔◌, ◌<◌, [], ◌++◌, is_some, IsSome, IfOk, OnOk, OnErr, None, Some, take, length, reverse};
-ghost use Rattle.st_calls.specs.Spelling.{space_words};
-ghost use Rattle.st_memory.specs.Memory.{word_of};
+ghost use Rattle.st_model.specs.Memory.{word_of};
 ghost use Rattle.st_trace.specs.declared.entry.Choice.TheVariants as choices;
 ghost use Rattle.st_trace.specs.declared.entry.Way.TheVariants as ways;
-ghost use Rattle.st_law.specs.History.{byte_at, pending, posted, turn};
+ghost use Rattle.st_law.specs.History.{byte_at, pending_call, posted_count, turn_of};
 ghost use Rattle.st_law.specs.Lawful.{Lawful};
-ghost use Rattle.st_law.specs.Machine.{run, first_enabled, finished};
+ghost use Rattle.st_law.specs.Machine.{run, first_enabled, pending_call_entry};
 ghost use Rattle.st_kernel.specs.Kept.{StoresIn};
-ghost use Rattle.st_kernel.specs.Runs.{IsOneThread, IsAdvanced, first_choice, state_of, entry_at, left_of};
+ghost use Rattle.st_kernel.specs.Runs.{IsOneThread, IsAdvanced, first_choice, state_after_run, entry_at, choices_left};
+ghost use Rattle.st_model.specs.declared.limits.TheConstants.{SPACE_WORDS};
 
 use crate::copies::Need;
 use crate::held::{Held, Stage};
+use crate::process_state::ProcessState;
 use crate::setup::{PROCESS, Setup, THREAD, WORKER};
-use crate::standing::Standing;
-use crate::thread::{Pending, Thread};
-use st_base::{Seq, Sequence};
+use crate::thread::{PendingCall, Thread};
+use st_base::{Seq, Sequence, Space};
 use st_law::Input;
-use st_memory::{SPACE_WORDS, Space, Spaces};
+use st_memory::{SPACE_WORDS, Spaces};
 use st_trace::{Cause, Choice, Entry, Way};
 use std::alloc::{AllocError, Global};
 use std::marker::Model;
+use thiserror::Error;
 
 // The number of the process's memory.
 const SPACE: Space = 1;
 
 /// Why a step was not made.
-#[derive(Clone, Copy, Debug, PartialEq, Eq)]
+#[derive(Clone, Copy, Debug, PartialEq, Eq, Drop, Error)]
 pub enum StepFault {
     /// The choice is not enabled.
+    #[error("the choice is not enabled")]
     NotEnabled,
     /// There is no memory for it.
+    #[error("out of memory")]
     NoMemory,
 }
 
@@ -49,7 +52,7 @@ pub struct Kernel<'a> {
     setup: Setup<'a>,
     spaces: Spaces,
     thread: Thread<'a>,
-    standing: Standing,
+    process_state: ProcessState,
     held: Held,
     trace: Vec<Entry>,
     schedule: Vec<Choice>,
@@ -57,7 +60,7 @@ pub struct Kernel<'a> {
 
 impl<'a> Model for Kernel<'a> {
     ghost use Rattle.std.specs.Coded.{codes};
-    ghost use Rattle.st_policy.specs.FormulaCode.{formula_code};
+    ghost use Rattle.st_filter.specs.FormulaCode.{formula_code};
     ghost use Rattle.st_kernel.specs.Runs.{Run};
     ghost use Rattle.st_kernel.specs.Kept.{IsKernel};
 
@@ -67,7 +70,7 @@ impl<'a> Model for Kernel<'a> {
 
     ghost view = { λ k. record { input = k.setup; trace = k.trace.items; schedule = k.schedule.items } };
 
-    ghost invariant = { λ k. IsKernel k.setup k.spaces k.thread k.standing k.held k.trace.items k.schedule.items };
+    ghost invariant = { λ k. IsKernel k.setup k.spaces k.thread k.process_state k.held k.trace.items k.schedule.items };
 }
 
 // What an entry makes of memory; a place past its end is none.
@@ -96,7 +99,7 @@ impl<'a> Kernel<'a> {
             setup,
             spaces,
             thread: Thread::new(PROCESS, thread.body.as_slice()),
-            standing: Standing::new(),
+            process_state: ProcessState::new(),
             held: Held::new(alloc),
             trace: Vec::new(alloc),
             schedule: Vec::new(alloc),
@@ -130,11 +133,11 @@ impl<'a> Kernel<'a> {
     fn held_entry(
         &mut self,
         alloc: Global,
-        entered: Pending,
+        entered: PendingCall,
         seq: Seq,
     ) -> Result<Option<Entry>, AllocError>
-        requires { pending (reverse self.old.trace) 1 ≡ Some (record { call = entered.call; regs = entered.regs; way = ways.Held seq }) }
-        ensures value { IfOk result (λ entry. entry ≡ finished self.old.input (state_of self.old) 1 1 entered.call entered.regs (ways.Held seq)) }
+        requires { pending_call (reverse self.old.trace) 1 ≡ Some (record { call = entered.call; regs = entered.regs; way = ways.Held seq }) }
+        ensures value { IfOk result (λ entry. entry ≡ pending_call_entry self.old.input (state_after_run self.old) 1 1 entered.call entered.regs (ways.Held seq)) }
         ensures kept { self.new ≡ self.old }
     {
         match self.held.stage() {
@@ -148,7 +151,7 @@ impl<'a> Kernel<'a> {
                 let Some(args) = self.held.parts(alloc)? else {
                     return Ok(None);
                 };
-                let descriptors = self.standing.descriptors();
+                let descriptors = self.process_state.descriptors();
                 let entry = self
                     .setup
                     .decided(alloc, seq, entered, args, descriptors, verdict)?;
@@ -159,16 +162,20 @@ impl<'a> Kernel<'a> {
     }
 
     // What the thread does next where this call is pending.
-    fn call_entry(&mut self, alloc: Global, entered: Pending) -> Result<Option<Entry>, AllocError>
-        requires { pending (reverse self.old.trace) 1 ≡ Some entered }
-        ensures value { IfOk result (λ entry. entry ≡ finished self.old.input (state_of self.old) 1 1 entered.call entered.regs entered.way) }
+    fn call_entry(
+        &mut self,
+        alloc: Global,
+        entered: PendingCall,
+    ) -> Result<Option<Entry>, AllocError>
+        requires { pending_call (reverse self.old.trace) 1 ≡ Some entered }
+        ensures value { IfOk result (λ entry. entry ≡ pending_call_entry self.old.input (state_after_run self.old) 1 1 entered.call entered.regs entered.way) }
         ensures kept { self.new ≡ self.old }
     {
         match entered.way {
             Way::Fast => {
                 let args = Sequence::new(alloc);
                 let ids = self.setup.ids();
-                let descriptors = self.standing.descriptors();
+                let descriptors = self.process_state.descriptors();
                 let entry = self
                     .setup
                     .used(alloc, None, entered, args, ids, descriptors)?;
@@ -188,7 +195,7 @@ impl<'a> Kernel<'a> {
         if self.thread.has_ended() {
             return Ok(None);
         }
-        if self.standing.is_dying() {
+        if self.process_state.is_dying() {
             return Ok(Some(Entry::Ended { tid: THREAD }));
         }
         match self.thread.pending() {
@@ -202,7 +209,7 @@ impl<'a> Kernel<'a> {
 
     // The word at a place of memory.
     fn word(&self, place: u32) -> u64
-        requires { place < space_words }
+        requires { place < SPACE_WORDS }
         ensures { result ≡ word_of (byte_at self.now.input (reverse self.now.trace) 1) place }
     {
         match self.spaces.word(SPACE, place) {
@@ -213,7 +220,7 @@ impl<'a> Kernel<'a> {
 
     // What the worker does next that is at the newest message.
     fn serve(&mut self, alloc: Global) -> Result<Entry, AllocError>
-        requires { turn (reverse self.old.trace) 1 ≡ Some (posted (reverse self.old.trace)) }
+        requires { turn_of (reverse self.old.trace) 1 ≡ Some (posted_count (reverse self.old.trace)) }
         ensures value { IfOk result (λ entry. Some entry ≡ entry_at self.old (choices.Worker WORKER)) }
         ensures kept { self.new ≡ self.old }
     {
@@ -289,9 +296,9 @@ impl<'a> Kernel<'a> {
     }
 
     // Whether a pending call can be made or denied.
-    fn call_moves(&self, entered: Pending) -> bool
-        requires { pending (reverse self.now.trace) 1 ≡ Some entered }
-        ensures { result ≡ is_some (finished self.now.input (state_of self.now) 1 1 entered.call entered.regs entered.way) }
+    fn call_moves(&self, entered: PendingCall) -> bool
+        requires { pending_call (reverse self.now.trace) 1 ≡ Some entered }
+        ensures { result ≡ is_some (pending_call_entry self.now.input (state_after_run self.now) 1 1 entered.call entered.regs entered.way) }
     {
         match entered.way {
             Way::Fast => true,
@@ -312,7 +319,7 @@ impl<'a> Kernel<'a> {
         if self.thread.has_ended() {
             return false;
         }
-        if self.standing.is_dying() {
+        if self.process_state.is_dying() {
             return true;
         }
         match self.thread.pending() {
@@ -327,7 +334,7 @@ impl<'a> Kernel<'a> {
     {
         match choice {
             Choice::Thread(tid) => self.setup.is_thread(tid) && self.thread_moves(),
-            Choice::Worker(worker) => worker == WORKER && self.held.stage().asks_worker(),
+            Choice::Worker(worker) => worker == WORKER && self.held.stage().needs_worker(),
             Choice::Operator => false,
         }
     }
@@ -342,7 +349,7 @@ impl<'a> Kernel<'a> {
         if self.thread_moves() {
             return Some(Choice::Thread(THREAD));
         }
-        if stage.asks_worker() {
+        if stage.needs_worker() {
             return Some(Choice::Worker(WORKER));
         }
         None
@@ -359,7 +366,7 @@ impl<'a> Kernel<'a> {
         self.held.follow(alloc, &entry)?;
         store(&mut self.spaces, &entry);
         self.thread.follow(THREAD, &entry);
-        self.standing.follow(&entry);
+        self.process_state.follow(&entry);
         self.trace.push_reserved(entry);
         self.schedule.push_reserved(choice);
         Ok(())
@@ -393,10 +400,10 @@ impl<'a> Kernel<'a> {
     /// Makes the first enabled choice again and again, until none is enabled. Without memory the steps before stand.
     pub fn finish(&mut self, alloc: Global) -> Result<(), AllocError>
         ensures input { self.new.input ≡ self.old.input }
-        ensures ok { OnOk result (self.new.schedule ≡ self.old.schedule ++ left_of self.old) }
-        ensures settled { OnOk result (first_enabled self.old.input (state_of self.new) ≡ None) }
+        ensures ok { OnOk result (self.new.schedule ≡ self.old.schedule ++ choices_left self.old) }
+        ensures settled { OnOk result (first_enabled self.old.input (state_after_run self.new) ≡ None) }
         ensures begun { take (length self.old.schedule) self.new.schedule ≡ self.old.schedule }
-        ensures on_the_way { self.new.schedule ++ left_of self.new ≡ self.old.schedule ++ left_of self.old }
+        ensures on_the_way { self.new.schedule ++ choices_left self.new ≡ self.old.schedule ++ choices_left self.old }
     {
         while let Some(choice) = self.first_choice() {
             self.make(alloc, choice)?;

@@ -9,8 +9,8 @@ mod held;
 mod index;
 mod kernel;
 mod opening;
+mod process_state;
 mod setup;
-mod standing;
 mod table;
 #[cfg(test)]
 mod tests;

@@ -1,57 +1,33 @@
 ghost use Rattle.std.specs.Prelude.{◌≡◌, None, option_copied, IfOk};
-ghost use Rattle.st_trace.specs.Served.{opens_node};
-ghost use Rattle.st_names.specs.Permission.{allowed, bit_of, bits_for, has_bit};
-ghost use Rattle.st_trace.specs.Permission.{passes, walk_error};
-ghost use Rattle.st_law.specs.History.{node_of_row};
+ghost use Rattle.st_law.specs.Served.{machine_open_node_outcome};
+ghost use Rattle.st_model.specs.Permission.{allowed};
+ghost use Rattle.st_effects.specs.NameTests.{search_error, walk_error};
+ghost use Rattle.st_model.specs.Tree.{node_of_new};
 ghost use Rattle.st_kernel.specs.Files.{node_in};
-ghost use Rattle.st_kernel.specs.Opening.{wanted, opens_named};
+ghost use Rattle.st_kernel.specs.Opening.{open_named_outcome};
 
 use crate::files::{Files, is_directory};
 use st_base::{Errno, Ids};
+use st_model::{DESCRIPTORS, Permission, Want};
 use st_names::AbsName;
-use st_trace::{CallResult, NewRow};
+use st_trace::{CallResult, NewNode};
 use std::alloc::{AllocError, Global};
 
-/// What is asked of an object.
-#[derive(Clone, Copy, Debug, PartialEq, Eq)]
-pub enum Want {
-    Read,
-    Search,
-}
-
-// The three bits of a row's mode that stand for a user and a group.
-fn bits_for(row: &NewRow, uid: u32, gid: u32) -> u32
-    ensures { result ≡ bits_for (node_of_row row.now) uid gid }
+// Whether a user and a group may do this with a row's object.
+fn allowed(row: &NewNode, uid: u32, gid: u32, want: Want) -> bool
+    ensures { result ≡ allowed (node_of_new row.now) uid gid want }
 {
-    if uid == row.uid {
-        row.mode / 64 % 8
-    } else if gid == row.gid {
-        row.mode / 8 % 8
-    } else {
-        row.mode % 8
-    }
-}
-
-// Whether three bits have the one that a want asks for.
-fn has_bit(bits: u32, want: Want) -> bool
-    ensures { result ≡ has_bit bits (bit_of (wanted want)) }
-{
-    match want {
-        Want::Read => bits / 4 % 2 == 1,
-        Want::Search => bits % 2 == 1,
-    }
-}
-
-/// Whether a user and a group may do this with a row's object.
-pub fn allowed(row: &NewRow, uid: u32, gid: u32, want: Want) -> bool
-    ensures { result ≡ allowed (node_of_row row.now) uid gid (wanted want) }
-{
-    uid == 0 || has_bit(bits_for(row, uid, gid), want)
+    let permission = Permission {
+        uid: row.uid,
+        gid: row.gid,
+        mode: row.mode,
+    };
+    permission.is_permitted(uid, gid, want)
 }
 
 // Why a walk can't lead on from what was found.
-fn error_at(found: Option<&NewRow>, ids: Ids) -> Option<Errno>
-    ensures { result ≡ passes (node_in (option_copied found.entry)) ids None }
+fn error_at(found: Option<&NewNode>, ids: Ids) -> Option<Errno>
+    ensures { result ≡ search_error (node_in (option_copied found.entry)) ids None }
 {
     let Some(row) = found else {
         return Some(Errno::ENOENT);
@@ -84,8 +60,8 @@ pub fn walk_error(
 }
 
 // What reading of a name's object gives, where the walk to it had no error.
-fn result_at(found: Option<&NewRow>, descriptor: u64, ids: Ids) -> CallResult
-    ensures { result ≡ (opens_node descriptor ids (node_in (option_copied found.entry))).result }
+fn result_at(found: Option<&NewNode>, descriptor: u64, ids: Ids) -> CallResult
+    ensures { result ≡ (machine_open_node_outcome descriptor ids (node_in (option_copied found.entry))).result }
 {
     let Some(row) = found else {
         return CallResult::Failed(Errno::ENOENT);
@@ -105,9 +81,9 @@ pub fn open_result(
     ids: Ids,
     name: &AbsName,
 ) -> Result<CallResult, AllocError>
-    ensures { IfOk result (λ given. given ≡ (opens_named (record { tree = files.now; descriptors = descriptors }) ids name.now).result) }
+    ensures { IfOk result (λ given. given ≡ (open_named_outcome (record { tree = files.now; descriptors = descriptors }) ids name.now).result) }
 {
-    if descriptors >= 64 {
+    if descriptors >= DESCRIPTORS as u64 {
         return Ok(CallResult::Failed(Errno::EMFILE));
     }
     match walk_error(files, alloc, ids, name)? {

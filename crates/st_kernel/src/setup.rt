@@ -1,21 +1,20 @@
 ghost use Rattle.std.specs.Prelude.{◌≡◌, ◌==◌, ℕ, true, is_some, Some, IfOk};
-ghost use Rattle.st_names.specs.Tree.{look};
-ghost use Rattle.st_law.specs.History.{judged, process, tree_of};
-ghost use Rattle.st_law.specs.Machine.{answer_for, decided, denied_by, enters, goes_on, used, way_for};
+ghost use Rattle.st_model.specs.Tree.{look};
+ghost use Rattle.st_law.specs.History.{verdict_of, process_of, tree_of};
+ghost use Rattle.st_law.specs.Machine.{answer_for, entry_of_verdict, barred_entry, entered_entry, next_instruction_entry, used_entry, way_for};
 ghost use Rattle.st_kernel.specs.Runs.{IsOneThread};
-ghost use Rattle.st_kernel.specs.Setup.{copied_call, setting};
+ghost use Rattle.st_kernel.specs.Setup.{snapshot_of_copies, setting_of};
 ghost use Rattle.st_trace.specs.declared.entry.Entry.TheVariants.{Answered};
 
 use crate::effects::{changes_of, result_of};
 use crate::files::Files;
 use crate::table::Table;
-use crate::thread::Pending;
+use crate::thread::PendingCall;
 use st_base::{Errno, Ids, Pid, Seq, Sequence, Tid, Worker};
 use st_calls::{ArgText, FastAnswer, Rule, Snapshot, SysCall, Verdict};
-use st_filter::decide;
+use st_filter::{Policy, decide};
 use st_law::Input;
 use st_names::{AbsName, SeenText};
-use st_policy::Policy;
 use st_trace::{Cause, Entry, Instr, ProcessRow, Way};
 use std::alloc::{AllocError, Global};
 use std::marker::Model;
@@ -41,7 +40,7 @@ pub struct Setup<'a> {
 
 impl<'a> Model for Setup<'a> {
     ghost use Rattle.std.specs.Coded.{codes};
-    ghost use Rattle.st_policy.specs.FormulaCode.{formula_code};
+    ghost use Rattle.st_filter.specs.FormulaCode.{formula_code};
     ghost use Rattle.st_law.specs.declared.input.Input.{Input};
     ghost use Rattle.st_kernel.specs.Setup.{IsSetup};
 
@@ -88,14 +87,14 @@ impl<'a> Setup<'a> {
 
     /// The ids of the process.
     pub fn ids(&self) -> Ids
-        ensures { result ≡ (process self.now 1).ids }
+        ensures { result ≡ (process_of self.now 1).ids }
     {
         Ids::of(self.process.uid, self.process.gid)
     }
 
     // The kernel's own answer for a call.
     fn answer(&self, call: SysCall) -> FastAnswer
-        ensures value { result ≡ answer_for self.now (process self.now 1) call }
+        ensures value { result ≡ answer_for self.now (process_of self.now 1) call }
         ensures one { IsOneThread self.now }
     {
         self.table.answer(Rule::of(call, &[0; 6], true))
@@ -103,7 +102,7 @@ impl<'a> Setup<'a> {
 
     // How a call goes on, where the next message has this number.
     fn way(&self, call: SysCall, next: Seq) -> Way
-        ensures { way_for self.now (process self.now 1) next call ≡ Some result }
+        ensures { way_for self.now (process_of self.now 1) next call ≡ Some result }
     {
         match self.answer(call) {
             FastAnswer::Permit => Way::Fast,
@@ -114,7 +113,7 @@ impl<'a> Setup<'a> {
 
     // The entry of a call, where the next message has this number.
     fn entered(&self, call: SysCall, regs: [u64; 6], next: Seq) -> Entry
-        ensures { enters self.now (process self.now 1) next 1 call regs ≡ Some result }
+        ensures { entered_entry self.now (process_of self.now 1) next 1 call regs ≡ Some result }
     {
         let way = self.way(call, next);
         Entry::Entered {
@@ -127,7 +126,7 @@ impl<'a> Setup<'a> {
 
     /// The thread's step where no call is pending, these instructions are left, and the next message has this number.
     pub fn next(&self, left: &[Instr], next: Seq) -> Entry
-        ensures { goes_on self.now (process self.now 1) next 1 left.now ≡ Some result }
+        ensures { next_instruction_entry self.now (process_of self.now 1) next 1 left.now ≡ Some result }
     {
         match left {
             [] => Entry::Ended { tid: THREAD },
@@ -143,14 +142,14 @@ impl<'a> Setup<'a> {
 
     /// Whether the kernel refuses a call by itself.
     pub fn refuses(&self, call: SysCall) -> bool
-        ensures { (number : ℕ) → result ≡ is_some (denied_by 1 number (answer_for self.now (process self.now 1) call)) }
+        ensures { (number : ℕ) → result ≡ is_some (barred_entry 1 number (answer_for self.now (process_of self.now 1) call)) }
     {
         matches!(self.answer(call), FastAnswer::Refuse(_))
     }
 
     /// The denial of a call that the filter of this number bars.
     pub fn barred(&self, call: SysCall, number: u32) -> Option<Entry>
-        ensures { result ≡ denied_by 1 number (answer_for self.now (process self.now 1) call) }
+        ensures { result ≡ barred_entry 1 number (answer_for self.now (process_of self.now 1) call) }
     {
         match self.answer(call) {
             FastAnswer::Refuse(errno) => Some(Entry::Denied {
@@ -168,12 +167,12 @@ impl<'a> Setup<'a> {
         &self,
         alloc: Global,
         seq: Option<Seq>,
-        entered: Pending,
+        entered: PendingCall,
         args: Sequence<ArgText>,
         ids: Ids,
         descriptors: u64,
     ) -> Result<Entry, AllocError>
-        ensures value { IfOk result (λ entry. entry ≡ used 1 seq entered.call 1 entered.regs args ids (setting self.now descriptors)) }
+        ensures value { IfOk result (λ entry. entry ≡ used_entry 1 seq entered.call 1 entered.regs args ids (setting_of self.now descriptors)) }
         ensures one { IsOneThread self.now }
     {
         let call = entered.call;
@@ -205,12 +204,12 @@ impl<'a> Setup<'a> {
         &self,
         alloc: Global,
         seq: Seq,
-        entered: Pending,
+        entered: PendingCall,
         args: Sequence<ArgText>,
         descriptors: u64,
         verdict: Verdict,
     ) -> Result<Entry, AllocError>
-        ensures { IfOk result (λ entry. entry ≡ decided 1 seq (copied_call self.now seq entered.call entered.regs args) (setting self.now descriptors) verdict) }
+        ensures { IfOk result (λ entry. entry ≡ entry_of_verdict 1 seq (snapshot_of_copies self.now seq entered.call entered.regs args) (setting_of self.now descriptors) verdict) }
     {
         match verdict {
             Verdict::Permit(_, ids) => self.used(alloc, Some(seq), entered, args, ids, descriptors),
@@ -238,7 +237,7 @@ impl<'a> Setup<'a> {
         regs: [u64; 6],
         args: Sequence<ArgText>,
     ) -> Result<Snapshot, AllocError>
-        ensures { IfOk result (λ copies. copies ≡ copied_call self.now seq call regs args) }
+        ensures { IfOk result (λ copies. copies ≡ snapshot_of_copies self.now seq call regs args) }
     {
         Ok(Snapshot {
             seq,
@@ -261,7 +260,7 @@ impl<'a> Setup<'a> {
         regs: [u64; 6],
         args: Sequence<ArgText>,
     ) -> Result<Entry, AllocError>
-        ensures { IfOk result (λ entry. entry ≡ Answered 1 (copied_call self.now seq call regs args) (judged self.now (copied_call self.now seq call regs args)) true) }
+        ensures { IfOk result (λ entry. entry ≡ Answered 1 (snapshot_of_copies self.now seq call regs args) (verdict_of self.now (snapshot_of_copies self.now seq call regs args)) true) }
     {
         let snapshot = self.snapshot(alloc, seq, call, regs, args)?;
         let verdict = decide(self.policy, &snapshot);

@@ -1,12 +1,11 @@
 ghost use Rattle.std.specs.Prelude.{◌≡◌, List, IfOk};
-ghost use Rattle.st_policy.specs.Formula.{FilterValue};
-ghost use Rattle.st_policy.specs.Fast.{fast};
-ghost use Rattle.st_policy.specs.Policies.{filters_of};
+ghost use Rattle.st_filter.specs.Formula.{FilterValue};
+ghost use Rattle.st_filter.specs.Fast.{fast};
+ghost use Rattle.st_filter.specs.Policies.{filters_of};
 ghost use Rattle.st_kernel.specs.Answers.{fast_answers};
 
 use st_calls::{FastAnswer, Rule};
-use st_filter::fast;
-use st_policy::Policy;
+use st_filter::{Policy, fast};
 use std::alloc::{AllocError, Global};
 use std::marker::Model;
 
@@ -18,7 +17,7 @@ pub struct Table {
 
 impl Model for Table {
     ghost use Rattle.std.specs.Prelude.{◌≡◌, List};
-    ghost use Rattle.st_policy.specs.Formula.{FilterValue};
+    ghost use Rattle.st_filter.specs.Formula.{FilterValue};
     ghost use Rattle.st_calls.specs.declared.rule.FastAnswer.{FastAnswer};
     ghost use Rattle.st_kernel.specs.Answers.{IsTable};
 
@@ -34,9 +33,11 @@ impl Table {
     pub fn of(alloc: Global, policy: &Policy) -> Result<Self, AllocError>
         ensures { IfOk result (λ table. table ≡ fast_answers policy.now) }
     {
+        // No filter is added to a session yet.
+        let session = Policy::new(alloc);
         let answers = Rule::ALL
             .iter()
-            .map(|&rule| fast(policy, rule))
+            .map(|&rule| fast(policy, &session, rule))
             .collect(alloc)?;
         Ok(Table { answers })
     }

@@ -8,16 +8,16 @@ use std::marker::Model;
 
 /// A call that the thread has entered, and that is neither made nor denied yet.
 #[derive(Clone, Copy, Debug)]
-pub struct Pending {
+pub struct PendingCall {
     pub call: SysCall,
     pub regs: [u64; 6],
     pub way: Way,
 }
 
-impl Model for Pending {
+impl Model for PendingCall {
     ghost use Rattle.st_law.specs.History as history;
 
-    ghost Value = { history.Pending };
+    ghost Value = { history.PendingCall };
 
     ghost view = { λ p. record { call = p.call; regs = p.regs; way = p.way } };
 
@@ -29,14 +29,14 @@ impl Model for Pending {
 pub struct Thread<'a> {
     owner: Pid,
     left: &'a [Instr],
-    pending: Option<Pending>,
+    pending: Option<PendingCall>,
     ended: bool,
 }
 
 impl<'a> Model for Thread<'a> {
     ghost use Rattle.st_law.specs.Machine as machine;
 
-    ghost Value = { machine.Thread };
+    ghost Value = { machine.ThreadState };
 
     ghost view = { λ t. record { owner = t.owner; left = t.left.now; pending = t.pending; ended = t.ended } };
 }
@@ -72,7 +72,7 @@ impl<'a> Thread<'a> {
     }
 
     /// The call that the thread has entered.
-    pub fn pending(&self) -> Option<Pending>
+    pub fn pending(&self) -> Option<PendingCall>
         ensures { result ≡ self.now.pending }
     {
         self.pending
@@ -116,7 +116,7 @@ impl<'a> Thread<'a> {
                 way,
             } => {
                 if *mover == tid {
-                    self.pending = Some(Pending {
+                    self.pending = Some(PendingCall {
                         call: *call,
                         regs: *regs,
                         way: *way,

@@ -1,8 +1,8 @@
 ghost use Rattle.std.specs.Prelude.{◌≡◌, ◌≢◌, ℕ, ◌+◌, ◌≤◌, ◌<◌, Bool, [], ◌∷◌, ◌++◌, List, length, reverse, take, Some, None, IfOk, OnOk, OnErr};
-ghost use Rattle.st_names.specs.Name.{components_of};
-ghost use Rattle.st_names.specs.Walk.{climbed, onward, origin, is_up};
+ghost use Rattle.st_names.specs.Name.{AreParts, components_of};
+ghost use Rattle.st_model.specs.Walk.{name_after_ups, rest_after_ups, start_of_name, is_up};
 ghost use Rattle.st_names.specs.declared.seen.SeenText.{SeenText};
-ghost use Rattle.st_kernel.specs.Walking.{Names, early_fault, entered, followed, onward_from, started, step_of, walked};
+ghost use Rattle.st_kernel.specs.Walking.{IsNameOf, fault_before_lookups, place_after_part, place_after_link, walk_on_from, first_place, step_of, walk_state};
 ghost use Rattle.st_base.specs.declared.errno.Errno.{Errno};
 
 use st_base::{Errno, Text};
@@ -38,6 +38,10 @@ impl Model for Place {
     ghost Value = { walking.Place };
 
     ghost view = { λ p. record { done = p.done; rest = reverse p.left.items; links = p.links; fault = p.fault } };
+
+    ghost use Rattle.st_names.specs.Name.{AreParts};
+
+    ghost invariant = { λ p. AreParts p.left.items };
 }
 
 fn is_up(part: &[u8]) -> bool
@@ -59,22 +63,10 @@ fn parts_of(alloc: Global, text: &[u8]) -> Result<Vec<Text>, AllocError>
     Ok(parts)
 }
 
-/// The name that a text's components spell from the root.
-pub fn name_of(alloc: Global, text: &[u8]) -> Result<AbsName, AllocError>
-    ensures { IfOk result (λ name. name ≡ components_of text.now) }
-{
-    let mut name = AbsName::root(alloc);
-    for part in text.split(|byte| *byte == b'/') {
-        if is_component(part) {
-            name.push(Text::of(alloc, part)?)?;
-        }
-    }
-    Ok(name)
-}
-
 // The components of a text, the first one last.
 fn stack_of(alloc: Global, text: &[u8]) -> Result<Vec<Text>, AllocError>
-    ensures { IfOk result (λ parts. parts.items ≡ reverse (components_of text.now)) }
+    ensures components { IfOk result (λ parts. parts.items ≡ reverse (components_of text.now)) }
+    ensures plain { IfOk result (λ parts. AreParts parts.items) }
 {
     let mut parts = parts_of(alloc, text)?;
     parts.reverse();
@@ -84,7 +76,7 @@ fn stack_of(alloc: Global, text: &[u8]) -> Result<Vec<Text>, AllocError>
 impl Place {
     // Drops the `..` that are next, each with the component that it steps up from.
     fn climb(&mut self)
-        ensures { self.new ≡ record { done = climbed self.old.done self.old.rest; rest = onward self.old.rest; links = self.old.links; fault = self.old.fault } }
+        ensures { self.new ≡ record { done = name_after_ups self.old.done self.old.rest; rest = rest_after_ups self.old.rest; links = self.old.links; fault = self.old.fault } }
     {
         while let Some(part) = self.left.last() {
             if !is_up(part.bytes()) {
@@ -96,13 +88,13 @@ impl Place {
     }
 
     // Adds the next component to the name; without memory it stays where it is.
-    fn enter(&mut self, alloc: Global) -> Result<(), AllocError>
+    fn enter(&mut self) -> Result<(), AllocError>
         requires { 0 < length self.old.rest }
-        ensures ok { OnOk result (self.new ≡ entered self.old) }
+        ensures ok { OnOk result (self.new ≡ place_after_part self.old) }
         ensures err { OnErr result (self.new ≡ self.old) }
     {
-        let part = self.left[self.left.len() - 1].copy(alloc)?;
-        self.done.push(part)?;
+        let part = &self.left[self.left.len() - 1];
+        self.done.push(part.bytes())?;
         self.left.pop();
         Ok(())
     }
@@ -111,7 +103,7 @@ impl Place {
     fn follow(&mut self, alloc: Global, target: &[u8]) -> Result<(), AllocError>
         requires next { 0 < length self.old.rest }
         requires links { self.old.links < 32 }
-        ensures ok { OnOk result (self.new ≡ followed self.old target.now) }
+        ensures ok { OnOk result (self.new ≡ place_after_link self.old target.now) }
         ensures err { OnErr result (self.new ≡ self.old) }
     {
         let mut parts = stack_of(alloc, target)?;
@@ -128,7 +120,7 @@ impl Place {
     // Goes on by what is seen of the next component.
     fn go(&mut self, alloc: Global, seen: &SeenText, follow: bool) -> Result<(), AllocError>
         requires { self.old.links ≤ 32 }
-        ensures ok { OnOk result ((more : List SeenText) → onward_from self.new more follow ≡ onward_from self.old (seen.now ∷ more) follow) }
+        ensures ok { OnOk result ((more : List SeenText) → walk_on_from self.new more follow ≡ walk_on_from self.old (seen.now ∷ more) follow) }
         ensures links { self.new.links ≤ 32 }
         ensures err { OnErr result (self.new ≡ self.old) }
     {
@@ -138,15 +130,15 @@ impl Place {
         let is_last = self.left.len() == 1;
         match seen {
             SeenText::Dir => {
-                self.enter(alloc)?;
+                self.enter()?;
                 self.climb();
             }
-            SeenText::File if is_last => self.enter(alloc)?,
-            SeenText::Missing if is_last => self.enter(alloc)?,
+            SeenText::File if is_last => self.enter()?,
+            SeenText::Missing if is_last => self.enter()?,
             SeenText::File => self.fault = Some(Errno::ENOTDIR),
             SeenText::Missing => self.fault = Some(Errno::ENOENT),
             SeenText::NotDir => self.fault = Some(Errno::ENOTDIR),
-            SeenText::Link(_) if is_last && !follow => self.enter(alloc)?,
+            SeenText::Link(_) if is_last && !follow => self.enter()?,
             SeenText::Link(_) if self.links == 32 => self.fault = Some(Errno::ELOOP),
             SeenText::Link(target) => {
                 self.follow(alloc, target.bytes())?;
@@ -158,7 +150,7 @@ impl Place {
 
     // What the walk needs at this place.
     fn step(&self) -> Step
-        ensures { (follow : Bool) → result ≡ step_of (onward_from self.now [] follow) }
+        ensures { (follow : Bool) → result ≡ step_of (walk_on_from self.now [] follow) }
     {
         match self.fault {
             Some(errno) => Step::Fault(errno),
@@ -170,7 +162,7 @@ impl Place {
 
     // The place where the walk of a text begins.
     fn start(alloc: Global, text: &[u8], cwd: &AbsName) -> Result<Self, AllocError>
-        ensures { IfOk result (λ place. place ≡ started text.now cwd.now) }
+        ensures { IfOk result (λ place. place ≡ first_place text.now cwd.now) }
     {
         let done = origin_of(alloc, text, cwd)?;
         let left = stack_of(alloc, text)?;
@@ -189,18 +181,17 @@ impl Place {
     fn name(&self, alloc: Global) -> Result<AbsName, AllocError>
         ensures { IfOk result (λ name. name ≡ self.now.done ++ take 1 self.now.rest) }
     {
-        let Some(part) = self.left.last() else {
-            return self.done.copy(alloc);
-        };
         let mut name = self.done.copy(alloc)?;
-        name.push(part.copy(alloc)?)?;
+        if let Some(part) = self.left.last() {
+            name.push(part.bytes())?;
+        }
         Ok(name)
     }
 }
 
 // Where a text begins: at the root if it is absolute, else at this name.
 fn origin_of(alloc: Global, text: &[u8], cwd: &AbsName) -> Result<AbsName, AllocError>
-    ensures { IfOk result (λ name. name ≡ origin text.now cwd.now) }
+    ensures { IfOk result (λ name. name ≡ start_of_name text.now cwd.now) }
 {
     if text.starts_with(b"/") {
         Ok(AbsName::root(alloc))
@@ -211,7 +202,7 @@ fn origin_of(alloc: Global, text: &[u8], cwd: &AbsName) -> Result<AbsName, Alloc
 
 // The fault of a text before any look.
 fn first_fault(text: &[u8]) -> Option<Errno>
-    ensures { result ≡ early_fault text.now }
+    ensures { result ≡ fault_before_lookups text.now }
 {
     if text.is_empty() {
         Some(Errno::ENOENT)
@@ -228,7 +219,7 @@ pub struct Walking {
     text: Text,
     cwd: AbsName,
     follow: bool,
-    seens: Vec<SeenText>,
+    lookups: Vec<SeenText>,
     place: Place,
 }
 
@@ -237,9 +228,9 @@ impl Model for Walking {
 
     ghost Value = { Walk };
 
-    ghost view = { λ w. record { text = w.text; cwd = w.cwd; follow = w.follow; seens = w.seens.items } };
+    ghost view = { λ w. record { text = w.text; cwd = w.cwd; follow = w.follow; lookups = w.lookups.items } };
 
-    ghost invariant = { λ w. IsPlace w.text w.cwd w.follow w.seens.items w.place };
+    ghost invariant = { λ w. IsPlace w.text w.cwd w.follow w.lookups.items w.place };
 }
 
 impl Walking {
@@ -250,40 +241,40 @@ impl Walking {
         cwd: &AbsName,
         follow: bool,
     ) -> Result<Walking, AllocError>
-        ensures { IfOk result (λ walking. walking ≡ record { text = text; cwd = cwd.now; follow = follow; seens = [] }) }
+        ensures { IfOk result (λ walking. walking ≡ record { text = text; cwd = cwd.now; follow = follow; lookups = [] }) }
     {
         let place = Place::start(alloc, text.bytes(), cwd)?;
         Ok(Walking {
             cwd: cwd.copy(alloc)?,
             text,
             follow,
-            seens: Vec::new(alloc),
+            lookups: Vec::new(alloc),
             place,
         })
     }
 
     /// Adds what was seen of the next name.
     pub fn push(&mut self, alloc: Global, seen: SeenText) -> Result<(), AllocError>
-        ensures ok { OnOk result (self.new ≡ record { text = self.old.text; cwd = self.old.cwd; follow = self.old.follow; seens = self.old.seens ++ seen ∷ [] }) }
+        ensures ok { OnOk result (self.new ≡ record { text = self.old.text; cwd = self.old.cwd; follow = self.old.follow; lookups = self.old.lookups ++ seen ∷ [] }) }
         ensures err { OnErr result (self.new ≡ self.old) }
     {
-        self.seens.reserve(1)?;
+        self.lookups.reserve(1)?;
         self.place.go(alloc, &seen, self.follow)?;
-        self.seens.push_reserved(seen);
+        self.lookups.push_reserved(seen);
         Ok(())
     }
 
     /// Whether the walk has its name, asks for a look or has ended.
     pub fn next(&self) -> Step
-        ensures { result ≡ step_of (walked self.now) }
+        ensures { result ≡ step_of (walk_state self.now) }
     {
         self.place.step()
     }
 
     /// The name that is looked at next, or that the walk has found.
     pub fn name(&self, alloc: Global) -> Result<AbsName, AllocError>
-        requires { (errno : Errno) → step_of (walked self.now) ≢ Step.Fault errno }
-        ensures { IfOk result (λ name. Names (walked self.now) name) }
+        requires { (errno : Errno) → step_of (walk_state self.now) ≢ Step.Fault errno }
+        ensures { IfOk result (λ name. IsNameOf (walk_state self.now) name) }
     {
         self.place.name(alloc)
     }

@@ -1,5 +1,5 @@
 use Rattle.std.proofs.Common.{◌≡◌, take, drop}
-use Rattle.st_trace.specs.Permission.{walk_error, walk_error_from}
+use Rattle.st_effects.specs.NameTests.{walk_error, walk_error_from}
 use Rattle.st_kernel.proofs.opening.walk_error.Given as goal
 
 -- what is left decides behind the front so far

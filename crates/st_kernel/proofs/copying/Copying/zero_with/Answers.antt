@@ -1,9 +1,10 @@
 use Rattle.std.proofs.Common.{◌≡◌, ◌≤◌, ◌<◌, ◌∙◌, ◌-◌, ◌*◌, ◌%◌, ℕ, List, Option, Some, None, Bool, true, false, refl, ap, sym, length, take, drop, nat_lt, ◌==◌, arith}
-use borrow.Author.Tests.{ltb-true, ltb-false, eqb-true, eqb-false}
+use Rattle.std.proofs.lemmas.Bool.{ltb-true, ltb-false, eqb-true, eqb-false}
 use Rattle.std.specs.Int.{w64, to_le_bytes}
-use Rattle.st_calls.specs.Spelling.{bytes_of_words, longest_name}
+use Rattle.st_model.specs.Spelling.{bytes_of_words}
 use Rattle.st_kernel.specs.Copying.{Copied}
 use Rattle.st_kernel.proofs.Zeros.{zero_of, word_more, word_late, word_first, word_found, word_over, word_none, length-bytes, zero_below}
+use Rattle.st_names.specs.declared.limits.TheConstants.{LONGEST_NAME}
 use Rattle.st_kernel.proofs.copying.Copying.zero_with.Goals as goal
 
 -- what the invariant and the tests say
@@ -11,14 +12,14 @@ none_here : (zero : Option ℕ) (at : ℕ) (words : List ℕ) → zero ≡ zero_
 none_here None at words h n = sym h
 none_here (Some x) at words h n = absurd (n x refl)
 
-test_at : (copied now : Copied) (r b : Bool) → copied ≡ now → r ≡ nat_lt longest_name (length (bytes_of_words now.at now.words)) → r ≡ b → nat_lt longest_name (length (bytes_of_words copied.at copied.words)) ≡ b
-test_at copied now r b v e t = ap (λ (x : Copied). nat_lt longest_name (length (bytes_of_words x.at x.words))) v ∙ sym e ∙ t
+test_at : (copied now : Copied) (r b : Bool) → copied ≡ now → r ≡ nat_lt LONGEST_NAME (length (bytes_of_words now.at now.words)) → r ≡ b → nat_lt LONGEST_NAME (length (bytes_of_words copied.at copied.words)) ≡ b
+test_at copied now r b v e t = ap (λ (x : Copied). nat_lt LONGEST_NAME (length (bytes_of_words x.at x.words))) v ∙ sym e ∙ t
 
-long_at : (copied now : Copied) (r : Bool) → copied ≡ now → r ≡ nat_lt longest_name (length (bytes_of_words now.at now.words)) → r ≡ true → longest_name < length (bytes_of_words copied.at copied.words)
-long_at copied now r v e t = ltb-true longest_name (length (bytes_of_words copied.at copied.words)) (test_at copied now r true v e t)
+long_at : (copied now : Copied) (r : Bool) → copied ≡ now → r ≡ nat_lt LONGEST_NAME (length (bytes_of_words now.at now.words)) → r ≡ true → LONGEST_NAME < length (bytes_of_words copied.at copied.words)
+long_at copied now r v e t = ltb-true LONGEST_NAME (length (bytes_of_words copied.at copied.words)) (test_at copied now r true v e t)
 
-short_at : (copied now : Copied) (r : Bool) → copied ≡ now → r ≡ nat_lt longest_name (length (bytes_of_words now.at now.words)) → r ≡ false → length (bytes_of_words copied.at copied.words) ≤ longest_name
-short_at copied now r v e t = ltb-false longest_name (length (bytes_of_words copied.at copied.words)) (test_at copied now r false v e t)
+short_at : (copied now : Copied) (r : Bool) → copied ≡ now → r ≡ nat_lt LONGEST_NAME (length (bytes_of_words now.at now.words)) → r ≡ false → length (bytes_of_words copied.at copied.words) ≤ LONGEST_NAME
+short_at copied now r v e t = ltb-false LONGEST_NAME (length (bytes_of_words copied.at copied.words)) (test_at copied now r false v e t)
 
 some_words : (words : List ℕ) (n : ℕ) (r : Bool) → n ≡ length words → r ≡ (n == 0) → r ≡ false → 0 < length words
 some_words words n r e f g = let d = eqb-false n 0 (sym f ∙ g) in omega (arith, d, e)

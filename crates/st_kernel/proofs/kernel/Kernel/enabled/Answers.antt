@@ -12,6 +12,6 @@ returns-else-is_thread c =
 
 pub returns-then-worker-eq-WORKER : goal.returns-then-worker-eq-WORKER
 returns-then-worker-eq-WORKER c =
-    c.asks_worker.ensures ∙ worker_moves_now c.self.inside c.args.self.now c.self.view_is c.self.invariant c.stage.result c.stage.ensures ∙
+    c.needs_worker.ensures ∙ worker_moves_now c.self.inside c.args.self.now c.self.view_is c.self.invariant c.stage.result c.stage.ensures ∙
     (λ k. is_some (entry_at c.args.self.now (Worker (sym c.if-worker-eq-WORKER.true k)))) ∙
     (λ k. is_some (entry_at c.args.self.now (sym c.in-Worker.is k)))

@@ -9,11 +9,11 @@ returns-then-thread_moves c = record {
   lawful = lawful_now c.self.inside c.args.self.now c.self.view_is c.self.invariant;
 }
 
-pub returns-then-asks_worker : goal.returns-then-asks_worker
-returns-then-asks_worker c = record {
+pub returns-then-needs_worker : goal.returns-then-needs_worker
+returns-then-needs_worker c = record {
   value =
       worker_first c.args.self.now (one_now c.self.inside c.args.self.now c.self.view_is c.self.invariant) (sym c.if-thread_moves.false ∙ c.thread_moves.ensures)
-      (sym c.if-asks_worker.true ∙ c.asks_worker.ensures ∙ worker_moves_now c.self.inside c.args.self.now c.self.view_is c.self.invariant c.stage-stage.result c.stage-stage.ensures);
+      (sym c.if-needs_worker.true ∙ c.needs_worker.ensures ∙ worker_moves_now c.self.inside c.args.self.now c.self.view_is c.self.invariant c.stage-stage.result c.stage-stage.ensures);
   one = one_now c.self.inside c.args.self.now c.self.view_is c.self.invariant;
   lawful = lawful_now c.self.inside c.args.self.now c.self.view_is c.self.invariant;
 }
@@ -22,7 +22,7 @@ pub returns : goal.returns
 returns c = record {
   value =
       none_first c.args.self.now (one_now c.self.inside c.args.self.now c.self.view_is c.self.invariant) (sym c.if-thread_moves.false ∙ c.thread_moves.ensures)
-      (sym c.if-asks_worker.false ∙ c.asks_worker.ensures ∙ worker_moves_now c.self.inside c.args.self.now c.self.view_is c.self.invariant c.stage-stage.result c.stage-stage.ensures);
+      (sym c.if-needs_worker.false ∙ c.needs_worker.ensures ∙ worker_moves_now c.self.inside c.args.self.now c.self.view_is c.self.invariant c.stage-stage.result c.stage-stage.ensures);
   one = one_now c.self.inside c.args.self.now c.self.view_is c.self.invariant;
   lawful = lawful_now c.self.inside c.args.self.now c.self.view_is c.self.invariant;
 }

@@ -1,6 +1,6 @@
 use Rattle.std.proofs.Common.{refl, ◌∙◌, sym}
-use Rattle.st_law.specs.Machine.{decided}
-use Rattle.st_kernel.specs.Setup.{copied_call, setting}
+use Rattle.st_law.specs.Machine.{entry_of_verdict}
+use Rattle.st_kernel.specs.Setup.{snapshot_of_copies, setting_of}
 use Rattle.st_kernel.proofs.Now.{faulted_now, answered_now, unready_now, waits_now}
 use Rattle.st_kernel.proofs.kernel.Kernel.held_entry.Goals as goal
 
@@ -18,7 +18,7 @@ pub returns-in_ok-entry-in-Answered-clause-value : goal.returns-in_ok-entry-in-A
 returns-in_ok-entry-in-Answered-clause-value c =
     answered_now c.self.inside c.args.self.now c.self.view_is c.self.invariant c.args.entered.call c.args.entered.regs c.args.seq c.in-Answered.verdict _ _
     c.requires (sym c.stage.ensures ∙ c.in-Answered.is) (sym c.in-Some.is ∙ c.in_ok-args-in-Answered.ensures.value)
-    (c.in_ok-entry-in-Answered.ensures ∙ (λ k. decided 1 c.args.seq (copied_call c.self.inside.setup c.args.seq c.args.entered.call c.args.entered.regs c.in-Some.args) (setting c.self.inside.setup (c.descriptors-descriptors.ensures k)) c.in-Answered.verdict))
+    (c.in_ok-entry-in-Answered.ensures ∙ (λ k. entry_of_verdict 1 c.args.seq (snapshot_of_copies c.self.inside.setup c.args.seq c.args.entered.call c.args.entered.regs c.in-Some.args) (setting_of c.self.inside.setup (c.descriptors-descriptors.ensures k)) c.in-Answered.verdict))
 
 pub returns-in-Closed : goal.returns-in-Closed
 returns-in-Closed c = record {

@@ -1,8 +1,8 @@
 use Rattle.std.proofs.Common.{Some, sym, ◌∙◌, true}
 use Rattle.st_trace.specs.declared.entry.Entry.TheVariants.{Copied, Looked, Faulted, Answered}
-use Rattle.st_law.specs.History.{judged}
-use Rattle.st_kernel.specs.Copies.{due}
-use Rattle.st_kernel.specs.Setup.{copied_call}
+use Rattle.st_law.specs.History.{verdict_of}
+use Rattle.st_kernel.specs.Copies.{progress_of_need}
+use Rattle.st_kernel.specs.Setup.{snapshot_of_copies}
 use Rattle.st_kernel.proofs.Places.{if_ok_map}
 use Rattle.st_kernel.proofs.Now.{copied_now, looked_now, stuck_now, answer_now}
 use Rattle.st_kernel.proofs.kernel.Kernel.serve.Goals as goal
@@ -10,21 +10,21 @@ use Rattle.st_kernel.proofs.kernel.Kernel.serve.Goals as goal
 pub returns-in-Word-clause-value : goal.returns-in-Word-clause-value
 returns-in-Word-clause-value c =
     (λ k. Some (Copied (c.posted-seq.ensures k) 0 c.in-Word.place c.word-word.result)) ∙
-    copied_now c.self.inside c.args.self.now c.self.view_is c.self.invariant c.requires c.in-Word.place c.word-word.result ((λ k. due (sym c.in-Word.is k)) ∙ c.in_ok-place.ensures.value) c.word-word.ensures
+    copied_now c.self.inside c.args.self.now c.self.view_is c.self.invariant c.requires c.in-Word.place c.word-word.result ((λ k. progress_of_need (sym c.in-Word.is k)) ∙ c.in_ok-place.ensures.value) c.word-word.ensures
 
 pub returns-in_ok-seen-in-Look-clause-value : goal.returns-in_ok-seen-in-Look-clause-value
 returns-in_ok-seen-in-Look-clause-value c =
     (λ k. Some (Looked (c.posted-seq.ensures k) 0 c.in-Look.name c.in_ok-seen-in-Look.seen)) ∙
-    looked_now c.self.inside c.args.self.now c.self.view_is c.self.invariant c.requires c.in-Look.name c.in_ok-seen-in-Look.seen ((λ k. due (sym c.in-Look.is k)) ∙ c.in_ok-place.ensures.value) c.in_ok-seen-in-Look.ensures
+    looked_now c.self.inside c.args.self.now c.self.view_is c.self.invariant c.requires c.in-Look.name c.in_ok-seen-in-Look.seen ((λ k. progress_of_need (sym c.in-Look.is k)) ∙ c.in_ok-place.ensures.value) c.in_ok-seen-in-Look.ensures
 
 pub returns-in-Fault-clause-value : goal.returns-in-Fault-clause-value
 returns-in-Fault-clause-value c =
     (λ k. Some (Faulted (c.posted-seq.ensures k) c.in-Fault.errno)) ∙
-    stuck_now c.self.inside c.args.self.now c.self.view_is c.self.invariant c.requires c.in-Fault.errno ((λ k. due (sym c.in-Fault.is k)) ∙ c.in_ok-place.ensures.value)
+    stuck_now c.self.inside c.args.self.now c.self.view_is c.self.invariant c.requires c.in-Fault.errno ((λ k. progress_of_need (sym c.in-Fault.is k)) ∙ c.in_ok-place.ensures.value)
 
 pub returns-in-Parts-clause-value : goal.returns-in-Parts-clause-value
 returns-in-Parts-clause-value c =
     if_ok_map c.answered.result
-    (λ y is. answer_now c.self.inside c.args.self.now c.self.view_is c.self.invariant c.requires c.in-Parts.args ((λ k. due (sym c.in-Parts.is k)) ∙ c.in_ok-place.ensures.value) y
-    (is ∙ (λ k. Answered 1 (copied_call c.self.inside.setup (c.posted-seq.ensures k) ((c.call-call.ensures ∙ (λ j. (c.need.ensures.kept j).copies.call)) k) ((c.regs-regs.ensures ∙ (λ j. (c.need.ensures.kept j).copies.regs)) k) c.in-Parts.args) (judged c.self.inside.setup (copied_call c.self.inside.setup (c.posted-seq.ensures k) ((c.call-call.ensures ∙ (λ j. (c.need.ensures.kept j).copies.call)) k) ((c.regs-regs.ensures ∙ (λ j. (c.need.ensures.kept j).copies.regs)) k) c.in-Parts.args)) true)))
+    (λ y is. answer_now c.self.inside c.args.self.now c.self.view_is c.self.invariant c.requires c.in-Parts.args ((λ k. progress_of_need (sym c.in-Parts.is k)) ∙ c.in_ok-place.ensures.value) y
+    (is ∙ (λ k. Answered 1 (snapshot_of_copies c.self.inside.setup (c.posted-seq.ensures k) ((c.call-call.ensures ∙ (λ j. (c.need.ensures.kept j).copies.call)) k) ((c.regs-regs.ensures ∙ (λ j. (c.need.ensures.kept j).copies.regs)) k) c.in-Parts.args) (verdict_of c.self.inside.setup (snapshot_of_copies c.self.inside.setup (c.posted-seq.ensures k) ((c.call-call.ensures ∙ (λ j. (c.need.ensures.kept j).copies.call)) k) ((c.regs-regs.ensures ∙ (λ j. (c.need.ensures.kept j).copies.regs)) k) c.in-Parts.args)) true)))
     c.answered.ensures

@@ -1,6 +1,6 @@
 use Rattle.std.proofs.Common.{◌+◌, sym, ◌∙◌, arith}
-use Rattle.st_law.specs.History.{process}
-use Rattle.st_law.specs.Machine.{goes_on}
+use Rattle.st_law.specs.History.{process_of}
+use Rattle.st_law.specs.Machine.{next_instruction_entry}
 use Rattle.st_kernel.proofs.Places.{if_ok_map}
 use Rattle.st_kernel.proofs.Now.{ended_now, dying_now, finishing_now, pending_now, going_now, posted_fits}
 use Rattle.st_kernel.proofs.kernel.Kernel.thread_entry.Goals as goal
@@ -26,4 +26,4 @@ returns-in-Some-clause-value c =
 pub returns-in-None-clause-value : goal.returns-in-None-clause-value
 returns-in-None-clause-value c =
     going_now c.self.inside c.args.self.now c.self.view_is c.self.invariant (sym c.has_ended.ensures ∙ c.if-has_ended.false) (sym c.is_dying.ensures ∙ c.if-is_dying.false) (sym c.pending.ensures ∙ c.in-None.is) c.next.result
-    ((λ k. goes_on c.self.inside.setup (process c.self.inside.setup 1) (sym c.posted-next.ensures k + 1) 1 (sym c.left.ensures k)) ∙ c.next.ensures)
+    ((λ k. next_instruction_entry c.self.inside.setup (process_of c.self.inside.setup 1) (sym c.posted-next.ensures k + 1) 1 (sym c.left.ensures k)) ∙ c.next.ensures)

@@ -5,4 +5,4 @@ use Rattle.st_kernel.proofs.walking.Walking.next.Goals as goal
 
 pub returns : goal.returns
 returns c =
-    rw (← c.self.view_is) (c.step.ensures c.self.inside.follow ∙ ap step_of (stands c.self.inside.text c.self.inside.cwd c.self.inside.follow c.self.inside.seens.items c.self.inside.place c.self.invariant))
+    rw (← c.self.view_is) (c.step.ensures c.self.inside.follow ∙ ap step_of (stands c.self.inside.text c.self.inside.cwd c.self.inside.follow c.self.inside.lookups.items c.self.inside.place c.self.invariant))

@@ -1,6 +1,6 @@
 ghost use Rattle.std.specs.Prelude.{◌≡◌, ◌<◌, ◌-◌, ◌^◌, false};
-ghost use Rattle.st_law.specs.History.{changes_of, ends_process, opens_one};
-ghost use Rattle.st_kernel.specs.Standing.{opened_by, standing_after};
+ghost use Rattle.st_law.specs.History.{changes_of, ends_process, opened_count};
+ghost use Rattle.st_kernel.specs.ProcessState.{opened_count_of, process_state_after};
 
 use crate::setup::PROCESS;
 use st_base::Pid;
@@ -9,7 +9,7 @@ use st_trace::{CallResult, Change, Entry};
 
 /// What changes of the one process.
 #[derive(Clone, Copy, Debug)]
-pub struct Standing {
+pub struct ProcessState {
     dying: bool,
     // Those from 0 on are open.
     descriptors: u64,
@@ -40,8 +40,8 @@ fn ends(entry: &Entry) -> bool
 }
 
 // How many descriptors a call opens that has this result.
-fn opens_one(call: SysCall, given: CallResult) -> u64
-    ensures value { result ≡ opens_one call given }
+fn opened_count(call: SysCall, given: CallResult) -> u64
+    ensures value { result ≡ opened_count call given }
     ensures one { result < 2 }
 {
     match (call, given) {
@@ -51,8 +51,8 @@ fn opens_one(call: SysCall, given: CallResult) -> u64
 }
 
 // How many descriptors an entry opens.
-fn opened_by(entry: &Entry) -> u64
-    ensures value { result ≡ opened_by entry.now }
+fn opened_count_of(entry: &Entry) -> u64
+    ensures value { result ≡ opened_count_of entry.now }
     ensures one { result < 2 }
 {
     match entry {
@@ -60,17 +60,17 @@ fn opened_by(entry: &Entry) -> u64
             call,
             result: given,
             ..
-        } => opens_one(*call, *given),
+        } => opened_count(*call, *given),
         _ => 0,
     }
 }
 
-impl Standing {
+impl ProcessState {
     /// A process at its start, with three descriptors.
     pub fn new() -> Self
         ensures { result ≡ record { dying = false; descriptors = 3 } }
     {
-        Standing {
+        ProcessState {
             dying: false,
             descriptors: 3,
         }
@@ -93,9 +93,9 @@ impl Standing {
     /// What an entry makes of the process.
     pub fn follow(&mut self, entry: &Entry)
         requires { self.old.descriptors < 2 ^ 64 - 1 }
-        ensures { self.new ≡ standing_after entry.now self.old }
+        ensures { self.new ≡ process_state_after entry.now self.old }
     {
         self.dying = ends(entry) || self.dying;
-        self.descriptors += opened_by(entry);
+        self.descriptors += opened_count_of(entry);
     }
 }

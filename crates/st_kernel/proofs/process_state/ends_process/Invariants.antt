@@ -1,6 +1,6 @@
 use Rattle.std.proofs.Common.{◌≡◌, drop}
 use Rattle.st_law.specs.History.{ends_process}
-use Rattle.st_kernel.proofs.standing.ends_process.Given as goal
+use Rattle.st_kernel.proofs.process_state.ends_process.Given as goal
 
 -- what is left says whether it ends
 abbrev pub invariant-loop-change : goal.invariant-loop-change
