@@ -15,13 +15,14 @@ pub record Answer : Type 0 where
   pub snapshot : Snapshot
   pub verdict : Verdict
 
-abbrev pub said : Snapshot → Verdict → Answer
-said snapshot verdict = record { snapshot = snapshot; verdict = verdict }
+-- the answer with this snapshot and this verdict
+abbrev pub answer_with : Snapshot → Verdict → Answer
+answer_with snapshot verdict = record { snapshot = snapshot; verdict = verdict }
 
 -- what an entry does to the applied answer to the message of a number
 abbrev pub answer_after : Entry → ℕ → Option Answer → Option Answer
 answer_after (Answered w snapshot verdict applied) q before =
-    if (snapshot.seq == q) && applied then Some (said snapshot verdict) else before
+    if (snapshot.seq == q) && applied then Some (answer_with snapshot verdict) else before
 answer_after _ q before = before
 
 -- the newest applied answer to the message of a number
@@ -30,14 +31,15 @@ answer_of [] q = None
 answer_of (e ∷ h) q = answer_after e q (answer_of h q)
 
 -- the number of the filter that permits, 0 where none does
-abbrev pub number_in : Verdict → ℕ
-number_in (Permit n ids) = n
-number_in (Refuse n errno) = 0
-number_in Unmatched = 0
+abbrev pub filter_number : Verdict → ℕ
+filter_number (Permit n ids) = n
+filter_number (Refuse n errno) = 0
+filter_number Unmatched = 0
 
-abbrev pub permitting : Option Answer → ℕ
-permitting None = 0
-permitting (Some answer) = number_in answer.verdict
+-- the number of the filter by which an answer permits, 0 where none does
+abbrev pub permit_number : Option Answer → ℕ
+permit_number None = 0
+permit_number (Some answer) = filter_number answer.verdict
 
 -- the arguments that were judged
 abbrev pub parts_in : Option Answer → List ArgText

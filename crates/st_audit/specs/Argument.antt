@@ -1,20 +1,17 @@
-use Rattle.std.specs.Prelude.{ℕ, ◌==◌, if◌then◌else◌, List, [], ◌++◌, codes, decimal, Option, Some, None}
+use Rattle.std.specs.Prelude.{ℕ, List, [], ◌++◌, codes, Option, Some, None}
 use Rattle.std.specs.List.{flat_map}
 use Rattle.st_calls.specs.declared.argument.ArgText.{ArgText}
-use Rattle.st_calls.specs.Argument.{name_of_label}
+use Rattle.st_calls.specs.Argument.{index_text, name_of_label}
 use Rattle.st_lex.specs.Quote.{quoted}
 use Rattle.st_trace.specs.declared.entry.Cause.{Cause}
 use Rattle.st_trace.specs.declared.entry.Cause.TheVariants.{Filter, NoFilter, Fault, Link}
 use Rattle.st_audit.specs.Answer.{Answer, parts_in}
 
--- which of the arguments with a label: nothing for the first, and [N] for another
-abbrev pub index_text : ℕ → List ℕ
-index_text n = if n == 0 then [] else codes "[" ++ decimal n ++ codes "]"
-
 -- a blank, and an argument as label="text" or label[N]="text"
 abbrev pub arg_text : ArgText → List ℕ
 arg_text arg = codes " " ++ name_of_label arg.label ++ index_text arg.index ++ codes "=" ++ quoted arg.text
 
+-- the arguments of a call, as its line has them
 abbrev pub args_text : List ArgText → List ℕ
 args_text args = flat_map arg_text args
 

@@ -6,13 +6,13 @@ use Rattle.st_calls.specs.declared.argument.ArgText.{ArgText}
 use Rattle.st_calls.specs.declared.call.SysCall.{SysCall}
 use Rattle.st_calls.specs.Call.{name_of_rule}
 use Rattle.st_lex.specs.Quote.{quoted}
-use Rattle.st_trace.specs.Served.{machine_rule}
+use Rattle.st_law.specs.Served.{machine_rule}
 use Rattle.st_trace.specs.declared.entry.Entry.{Entry}
 use Rattle.st_trace.specs.declared.entry.Entry.TheVariants.{Used, Denied}
 use Rattle.st_trace.specs.declared.entry.CallResult.{CallResult}
 use Rattle.st_trace.specs.declared.entry.CallResult.TheVariants.{Value, Failed}
 use Rattle.st_law.specs.declared.input.Input.{Input}
-use Rattle.st_law.specs.History.{History, Process, process, owner, Pending, pending}
+use Rattle.st_law.specs.History.{History, Process, process_of, owner_of, PendingCall, pending_call}
 use Rattle.st_audit.specs.declared.how.How.{How}
 use Rattle.st_audit.specs.Answer.{answer_of}
 use Rattle.st_audit.specs.Argument.{args_text, args_used, args_denied}
@@ -39,9 +39,10 @@ traced_line p pid tid call args how result = if p.traced then line_text pid tid 
 
 -- the line of a call of a thread
 abbrev pub call_line : Input → ℕ → SysCall → List ArgText → How → CallResult → List ℕ
-call_line i t call args how result = traced_line (process i (owner i t)) (owner i t) t call args how result
+call_line i t call args how result = traced_line (process_of i (owner_of i t)) (owner_of i t) t call args how result
 
-abbrev pub denied_line : Input → ℕ → Option Pending → List ArgText → How → Errno → List ℕ
+-- the line of the call that a thread had pending and that was denied; none where none was pending
+abbrev pub denied_line : Input → ℕ → Option PendingCall → List ArgText → How → Errno → List ℕ
 denied_line i t None args how errno = []
 denied_line i t (Some entered) args how errno = call_line i t entered.call args how (Failed errno)
 
@@ -50,9 +51,10 @@ abbrev pub line_of : Input → History → Entry → List ℕ
 line_of i h (Used t seq call regs args ids result changes) =
     call_line i t call (args_used seq args) (how_used (answer_of h) seq) result
 line_of i h (Denied t seq errno cause) =
-    denied_line i t (pending h t) (args_denied (answer_of h) seq cause) (how_denied seq cause) errno
+    denied_line i t (pending_call h t) (args_denied (answer_of h) seq cause) (how_denied seq cause) errno
 line_of i h _ = []
 
+-- the audit of a history: the lines of its entries, the oldest first
 abbrev pub audit_back : Input → History → List ℕ
 audit_back i [] = []
 audit_back i (e ∷ h) = audit_back i h ++ line_of i h e

@@ -5,11 +5,11 @@ use Rattle.std.specs.Ordering.{nat_cmp}
 use Rattle.st_calls.specs.declared.call.SysCall.{SysCall}
 use Rattle.st_trace.specs.declared.entry.Entry.{Entry}
 use Rattle.st_trace.specs.declared.entry.Entry.TheVariants.{Entered, Used, Denied}
-use Rattle.st_law.specs.History.{History, pending}
+use Rattle.st_law.specs.History.{History, pending_call}
 
 -- the call that a thread has entered, and that is neither made nor denied yet
 abbrev pub entered_call : History → ℕ → Option SysCall
-entered_call h t = option_map (λ p. p.call) (pending h t)
+entered_call h t = option_map (λ p. p.call) (pending_call h t)
 
 -- what an entry does to the call that a thread has entered
 abbrev pub entered_after : Entry → ℕ → Option SysCall → Option SysCall
@@ -23,5 +23,5 @@ abbrev pub entered_in : BTreeMap ℕ SysCall → ℕ → Option SysCall
 entered_in entered t = get nat_cmp entered t
 
 -- the map has the entered call of each thread, and no other
-abbrev pub Knows : BTreeMap ℕ SysCall → History → Type 0
-Knows entered h = (t : ℕ) → entered_in entered t ≡ entered_call h t
+abbrev pub HasEnteredCalls : BTreeMap ℕ SysCall → History → Type 0
+HasEnteredCalls entered h = (t : ℕ) → entered_in entered t ≡ entered_call h t

@@ -5,7 +5,7 @@ use Rattle.st_trace.specs.declared.entry.Cause.{Cause}
 use Rattle.st_trace.specs.declared.entry.Cause.TheVariants as cause
 use Rattle.st_audit.specs.declared.how.How.{How}
 use Rattle.st_audit.specs.declared.how.How.TheVariants.{Fast, Barred, Permit, Deny, NoFilter, Fault, Link}
-use Rattle.st_audit.specs.Answer.{Answer, permitting}
+use Rattle.st_audit.specs.Answer.{Answer, permit_number}
 
 -- how a call went
 abbrev pub how_text : How → List ℕ
@@ -20,8 +20,9 @@ how_text (Link name) = codes "link " ++ quoted name
 -- a call that was made: the kernel permitted it by itself, or a filter did
 abbrev pub how_used : (ℕ → Option Answer) → Option ℕ → How
 how_used answers None = Fast
-how_used answers (Some q) = Permit (permitting (answers q))
+how_used answers (Some q) = Permit (permit_number (answers q))
 
+-- how a call went that the filter of this number denied: barred where it has no message, else held
 abbrev pub how_filtered : ℕ → Option ℕ → How
 how_filtered n None = Barred n
 how_filtered n (Some q) = Deny n

@@ -16,11 +16,11 @@ pub struct Answer<'a> {
 }
 
 impl<'a> Model for Answer<'a> {
-    ghost use Rattle.st_audit.specs.Answer.{Answer, said};
+    ghost use Rattle.st_audit.specs.Answer.{Answer, answer_with};
 
     ghost Value = { Answer };
 
-    ghost view = { λ a. said a.snapshot.now a.verdict };
+    ghost view = { λ a. answer_with a.snapshot.now a.verdict };
 }
 
 impl<'a> Answer<'a> {

@@ -1,10 +1,10 @@
 ghost use Rattle.std.specs.Prelude.{◌≡◌, ◌++◌, OnOk};
 ghost use Rattle.st_audit.specs.Answer.{answer_in};
-ghost use Rattle.st_audit.specs.Argument.{index_text, arg_text, args_text, args_used, args_denied};
+ghost use Rattle.st_audit.specs.Argument.{arg_text, args_text, args_used, args_denied};
 
 use crate::answer::Answer;
 use st_base::{Seq, Text};
-use st_calls::ArgText;
+use st_calls::{ArgText, append_index};
 use st_lex::quote;
 use st_trace::Cause;
 use std::alloc::AllocError;
@@ -38,23 +38,13 @@ pub fn args_denied<'m>(
     }
 }
 
-fn append_index(text: &mut Text, index: u32) -> Result<(), AllocError>
-    ensures { OnOk result (text.new ≡ text.old ++ index_text index) }
-{
-    if index == 0 {
-        return Ok(());
-    }
-    text.push(b'[')?;
-    text.append_number(u64::from(index))?;
-    text.push(b']')
-}
-
+// Appends a blank and an argument.
 fn append_arg(text: &mut Text, arg: &ArgText) -> Result<(), AllocError>
     ensures { OnOk result (text.new ≡ text.old ++ arg_text arg.now) }
 {
     text.push(b' ')?;
     text.append(arg.label.word())?;
-    append_index(text, arg.index)?;
+    append_index(arg.index, text)?;
     text.push(b'=')?;
     quote(arg.text.bytes(), text)
 }

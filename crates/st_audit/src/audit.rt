@@ -2,13 +2,13 @@ ghost use Rattle.std.specs.Prelude.{◌≡◌, ℕ, ◌∷◌, ◌++◌, IfOk, O
 ghost use Rattle.st_law.specs.History.{History};
 ghost use Rattle.st_audit.specs.Answer.{HasAnswers};
 ghost use Rattle.st_audit.specs.Audit.{audit, line_of};
-ghost use Rattle.st_audit.specs.Entered.{entered_after, entered_in, Knows};
+ghost use Rattle.st_audit.specs.Entered.{entered_after, entered_in, HasEnteredCalls};
 ghost use Rattle.st_audit.specs.Extends.{GrowsWithTheRun};
 
 use crate::answer::{Answer, note_answer};
 use crate::argument::{args_denied, args_used};
 use crate::how::How;
-use crate::line::{Told, append_traced_line};
+use crate::line::{CallLine, append_traced_line};
 use st_base::{Seq, Text, Tid};
 use st_calls::SysCall;
 use st_law::Input;
@@ -25,7 +25,7 @@ fn append_entry(
     answers: &BTreeMap<Seq, Answer<'_>>,
     entry: &Entry,
 ) -> Result<(), AllocError>
-    ensures { OnOk result ((h : History) → Knows entered.now h → HasAnswers answers.now h → text.new ≡ text.old ++ line_of input.now h entry.now) }
+    ensures { OnOk result ((h : History) → HasEnteredCalls entered.now h → HasAnswers answers.now h → text.new ≡ text.old ++ line_of input.now h entry.now) }
 {
     match entry {
         Entry::Used {
@@ -36,7 +36,7 @@ fn append_entry(
             result: outcome,
             ..
         } => {
-            let told = Told {
+            let told = CallLine {
                 call: *call,
                 args: args_used(*seq, args.as_slice()),
                 how: How::used(answers, *seq),
@@ -51,7 +51,7 @@ fn append_entry(
             cause,
         } => match entered.get(tid) {
             Some(call) => {
-                let told = Told {
+                let told = CallLine {
                     call: *call,
                     args: args_denied(answers, *seq, cause),
                     how: How::denied(alloc, *seq, cause)?,

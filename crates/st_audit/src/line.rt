@@ -1,5 +1,6 @@
 ghost use Rattle.std.specs.Prelude.{◌≡◌, ◌++◌, option_copied, OnOk};
-ghost use Rattle.st_law.specs.History.{row_of, owner};
+ghost use Rattle.st_law.specs.History.{owner_of};
+ghost use Rattle.st_base.specs.Numbered.{item_at_number};
 ghost use Rattle.st_audit.specs.Audit.{result_text, caller_text, line_text, call_line};
 
 use crate::argument::append_args;
@@ -21,7 +22,7 @@ struct Caller<'a> {
 
 /// What a line says of a call: with which arguments it was made or denied, how, and with what end.
 #[derive(Drop)]
-pub struct Told<'a> {
+pub struct CallLine<'a> {
     pub call: SysCall,
     pub args: &'a [ArgText],
     pub how: How,
@@ -49,7 +50,7 @@ fn append_result(text: &mut Text, outcome: CallResult) -> Result<(), AllocError>
     }
 }
 
-fn append_line(text: &mut Text, caller: &Caller<'_>, told: &Told<'_>) -> Result<(), AllocError>
+fn append_line(text: &mut Text, caller: &Caller<'_>, told: &CallLine<'_>) -> Result<(), AllocError>
     ensures { OnOk result (text.new ≡ text.old ++ line_text caller.now.pid caller.now.tid caller.now.policy.now told.now.call told.now.args.now told.now.how told.now.outcome) }
 {
     append_caller(text, caller, told.call)?;
@@ -62,8 +63,8 @@ fn append_line(text: &mut Text, caller: &Caller<'_>, told: &Told<'_>) -> Result<
 }
 
 // The row of a number, counted from 1.
-fn row_of<T>(rows: &[T], number: u32) -> Option<&T>
-    ensures { option_copied result ≡ row_of rows.now number }
+fn item_at_number<T>(rows: &[T], number: u32) -> Option<&T>
+    ensures { option_copied result ≡ item_at_number rows.now number }
 {
     let index = number.checked_sub(1)?;
     rows.get(index as usize)
@@ -71,9 +72,9 @@ fn row_of<T>(rows: &[T], number: u32) -> Option<&T>
 
 // The process of a thread, 0 where it has none.
 fn owner(input: &Input, tid: Tid) -> Pid
-    ensures { result ≡ owner input.now tid }
+    ensures { result ≡ owner_of input.now tid }
 {
-    match row_of(input.start.threads.as_slice(), tid) {
+    match item_at_number(input.start.threads.as_slice(), tid) {
         Some(row) => row.process.unwrap_or(0),
         None => 0,
     }
@@ -84,12 +85,12 @@ pub fn append_traced_line(
     text: &mut Text,
     input: &Input,
     tid: Tid,
-    told: &Told<'_>,
+    told: &CallLine<'_>,
 ) -> Result<(), AllocError>
     ensures { OnOk result (text.new ≡ text.old ++ call_line input.now tid told.now.call told.now.args.now told.now.how told.now.outcome) }
 {
     let pid = owner(input, tid);
-    match row_of(input.start.processes.as_slice(), pid) {
+    match item_at_number(input.start.processes.as_slice(), pid) {
         Some(row) if row.traced => {
             let policy = row.binary.bytes();
             append_line(text, &Caller { pid, tid, policy }, told)

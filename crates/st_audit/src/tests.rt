@@ -1,9 +1,9 @@
 use crate::audit_text;
 use st_base::{Errno, Ids, Pid, Sequence, Text, Tid};
 use st_calls::{ArgText, Label, Rule, Snapshot, SysCall, Verdict};
+use st_filter::PolicySet;
 use st_law::{Input, Mode, Options};
 use st_names::AbsName;
-use st_policy::PolicySet;
 use st_trace::{CallResult, Cause, Entry, ProcessRow, Start, ThreadRow, Way};
 use std::alloc::{AllocError, Global};
 use std::test::Fail;
@@ -38,13 +38,6 @@ fn input_of(alloc: Global, start: Start) -> Input {
             mode: Mode::Enforce,
         },
     }
-}
-
-// The name of one component.
-fn name_of(alloc: Global, part: &[u8]) -> Result<AbsName, AllocError> {
-    let mut name = AbsName::root(alloc);
-    name.push(Text::of(alloc, part)?)?;
-    Ok(name)
 }
 
 // A traced process with a thread.
@@ -257,7 +250,7 @@ fn prints_refusals_and_faults(rt: HostRuntime) -> Result<(), Fail> {
 #[test]
 fn prints_a_link_in_the_way(rt: HostRuntime) -> Result<(), Fail> {
     let alloc = rt.alloc();
-    let link = Cause::Link(name_of(alloc, b"tmp")?);
+    let link = Cause::Link(AbsName::of(alloc, b"/tmp")?);
     let trace = [
         entered(1, SysCall::Open, Way::Held(1)),
         denied_held(1, Errno::ELOOP, link),

@@ -8,32 +8,32 @@ use std::marker::Model;
 
 /// The files that `step` names.
 #[derive(Debug, Drop)]
-pub struct Step<'a> {
+pub struct StepFiles<'a> {
     pub policy: &'a Text,
     pub script: &'a Text,
     pub schedule: &'a Text,
 }
 
-impl<'a> Model for Step<'a> {
+impl<'a> Model for StepFiles<'a> {
     ghost use Rattle.st_top.specs.Command as command;
 
-    ghost Value = { command.Step };
+    ghost Value = { command.StepFiles };
 
     ghost view = { λ c. record { policy = c.policy.now; script = c.script.now; schedule = c.schedule.now } };
 }
 
 /// What `check` is asked to do.
 #[derive(Debug, Drop)]
-pub struct Check<'a> {
+pub struct CheckFiles<'a> {
     pub policy: &'a Text,
     /// Whether filters may grant ids.
     pub elevate: bool,
 }
 
-impl<'a> Model for Check<'a> {
+impl<'a> Model for CheckFiles<'a> {
     ghost use Rattle.st_top.specs.Command as command;
 
-    ghost Value = { command.Check };
+    ghost Value = { command.CheckFiles };
 
     ghost view = { λ c. record { policy = c.policy.now; elevate = c.elevate } };
 }
@@ -45,7 +45,7 @@ fn is_option(word: &Text) -> bool
 }
 
 /// The words `step -f POLICY SCRIPT SCHEDULE`.
-pub fn step_of(words: &[Text]) -> Option<Step<'_>>
+pub fn step_of(words: &[Text]) -> Option<StepFiles<'_>>
     ensures { result ≡ step_in words.now }
 {
     let [step, flag, policy, script, schedule] = words else {
@@ -57,7 +57,7 @@ pub fn step_of(words: &[Text]) -> Option<Step<'_>>
     if is_option(script) || is_option(schedule) {
         return None;
     }
-    Some(Step {
+    Some(StepFiles {
         policy,
         script,
         schedule,
@@ -99,18 +99,18 @@ fn are_ids(word: &[u8]) -> bool
 }
 
 // The file of `check`, where what stands before it fits.
-fn check_operand(fits: bool, policy: &Text, elevate: bool) -> Option<Check<'_>>
+fn check_operand(fits: bool, policy: &Text, elevate: bool) -> Option<CheckFiles<'_>>
     ensures { result ≡ if_operand fits policy.now elevate }
 {
     if fits && !is_option(policy) {
-        Some(Check { policy, elevate })
+        Some(CheckFiles { policy, elevate })
     } else {
         None
     }
 }
 
 /// The words `check POLICY` and `check -c U:G POLICY`.
-pub fn check_of(words: &[Text]) -> Option<Check<'_>>
+pub fn check_of(words: &[Text]) -> Option<CheckFiles<'_>>
     ensures { result ≡ check_in words.now }
 {
     match words {

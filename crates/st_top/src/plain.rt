@@ -1,21 +1,21 @@
 ghost use Rattle.std.specs.Prelude.{◌≡◌, ◌≢◌, ◌≤◌, ◌<◌, ◌^◌, ◌⊎◌, ◌↔◌, List, ℕ, length, Some, None, IfOk, IfErr, OnOk, OnErr};
-ghost use Rattle.st_outside.specs.Count.{Rises};
+ghost use Rattle.st_outside.specs.Count.{HasRisen};
 ghost use Rattle.st_outside.specs.Files.{CanHold};
 ghost use Rattle.st_outside.specs.declared.files.TheConstants.{FILE_LIMIT};
 ghost use Rattle.st_kernel.specs.Runs.{IsOneThread};
 ghost use Rattle.st_script.specs.Script.{StartsOneThread};
-ghost use Rattle.st_trace.specs.Served.{HaveNoLinks};
+ghost use Rattle.st_law.specs.Served.{HaveNoLinks};
 ghost use Rattle.st_law.specs.Machine.{run, played};
 ghost use Rattle.st_audit.specs.Audit.{audit};
 ghost use Rattle.st_top.specs.declared.status.Which.{Which};
 ghost use Rattle.st_top.specs.Command.{command_in, Steps, Checks};
 ghost use Rattle.st_top.specs.Envs.{check_env, script_env};
-ghost use Rattle.st_top.specs.Meaning.{Outcome, Refuses, Means, MeansCommand, MeansStart, MeansInput};
+ghost use Rattle.st_top.specs.Meaning.{Meaning, Refuses, Means, MeansCommand, MeansStart, MeansInput};
 ghost use Rattle.st_top.specs.Readings.{PolicyRead, FormRead, CanonRead};
 ghost use Rattle.st_policy.specs.declared.fault.PolicyFault.{PolicyFault};
 ghost use Rattle.st_top.specs.Ends.{FetchRefused, IsStopped, Prepares, WritesWhole, WritesFront, IsTold, Ends};
 
-use crate::command::{Check, Step, check_of, step_of};
+use crate::command::{CheckFiles, StepFiles, check_of, step_of};
 use crate::envs::{check_env, script_env};
 use crate::status::{Status, Which};
 use st_audit::audit_text;
@@ -59,7 +59,7 @@ fn audit_of(alloc: Global, input: &Input, schedule: Schedule) -> Result<Text, Al
 // From the schedule file on.
 fn run_input<F: Files>(
     alloc: Global,
-    step: &Step<'_>,
+    step: &StepFiles<'_>,
     files: &mut F,
     input: &Input,
 ) -> Result<Text, Status>
@@ -106,7 +106,7 @@ fn policies_in_form(alloc: Global, text: &[u8], start: &Start) -> Result<PolicyS
 // From the policy file on.
 fn run_start<F: Files>(
     alloc: Global,
-    step: &Step<'_>,
+    step: &StepFiles<'_>,
     files: &mut F,
     start: Start,
 ) -> Result<Text, Status>
@@ -131,7 +131,7 @@ fn run_start<F: Files>(
 }
 
 // What `step` writes, or why it is refused.
-fn run_step<F: Files>(alloc: Global, step: &Step<'_>, files: &mut F) -> Result<Text, Status>
+fn run_step<F: Files>(alloc: Global, step: &StepFiles<'_>, files: &mut F) -> Result<Text, Status>
     ensures held { F.held files.new ≡ F.held files.old }
     ensures prepares { Prepares (MeansCommand (F.held files.old) (Some (Steps step.now))) (F.faults files.old) (F.faults files.new) result }
     ensures quiet { result ≢ Err Status.ReadFault → F.faults files.new ≡ F.faults files.old }
@@ -156,7 +156,7 @@ fn canon_of(alloc: Global, text: &[u8], elevate: bool) -> Result<Text, Status>
 }
 
 // What `check` writes, or why it is refused.
-fn run_check<F: Files>(alloc: Global, check: &Check<'_>, files: &mut F) -> Result<Text, Status>
+fn run_check<F: Files>(alloc: Global, check: &CheckFiles<'_>, files: &mut F) -> Result<Text, Status>
     ensures held { F.held files.new ≡ F.held files.old }
     ensures prepares { Prepares (MeansCommand (F.held files.old) (Some (Checks check.now))) (F.faults files.old) (F.faults files.new) result }
     ensures quiet { result ≢ Err Status.ReadFault → F.faults files.new ≡ F.faults files.old }
@@ -202,8 +202,8 @@ pub fn systrace_plain<F: Files, S: Sink>(
 
     // A fault comes only where its count rose, and one of reading only at a file before which nothing is refused. What was
     // written before a fault of writing is a front of the text.
-    ensures read_fault { result ≡ Status.ReadFault → Rises (F.faults files.old) (F.faults files.new) × IsStopped (Means words.now (F.held files.old)) }
-    ensures write_fault { result ≡ Status.WriteFault → Rises (S.faults out.old) (S.faults out.new) }
+    ensures read_fault { result ≡ Status.ReadFault → HasRisen (F.faults files.old) (F.faults files.new) × IsStopped (Means words.now (F.held files.old)) }
+    ensures write_fault { result ≡ Status.WriteFault → HasRisen (S.faults out.old) (S.faults out.new) }
     ensures front { result ≡ Status.WriteFault → WritesFront (Means words.now (F.held files.old)) (S.written out.old) (S.written out.new) }
 
     // Nothing is written before any other status, and all else stays.
@@ -214,8 +214,8 @@ pub fn systrace_plain<F: Files, S: Sink>(
 
     // Where each name is told and no count rose, the call ends as its words and files mean, unless memory runs out.
     ensures complete { ((name : List ℕ) → IsTold (F.held files.old name)) →
-        (Rises (F.faults files.old) (F.faults files.new) → ⊥) → (Rises (S.faults out.old) (S.faults out.new) → ⊥) →
-        (outcome : Outcome) → Means words.now (F.held files.old) outcome →
+        (HasRisen (F.faults files.old) (F.faults files.new) → ⊥) → (HasRisen (S.faults out.old) (S.faults out.new) → ⊥) →
+        (outcome : Meaning) → Means words.now (F.held files.old) outcome →
         (result ≡ Status.NoMemory) ⊎ Ends outcome (S.written out.old) (S.written out.new) result }
 {
     match prepare(alloc, words, files) {

@@ -1,13 +1,15 @@
 use crate::{Status, Which, systrace_plain};
 use st_base::Text;
 use st_lex::LexFault;
-use st_outside::{FILE_LIMIT, MemoryFiles, MemorySink};
+use st_outside::{MemoryFiles, MemorySink};
 use st_policy::{PolicyFault, Unsupported};
 use std::alloc::Global;
 use std::test::Fail;
 
 const POLICY: &[u8] =
     b"Policy: /bin/a, Emulation: native\nnative-getpid: permit\nnative-exit: permit\n";
+
+const PROCESS: &[u8] = b"process p traced \"/bin/a\" 0 0 \"/\"\nthread a in p\n";
 
 const SCRIPT: &[u8] =
     b"process p traced \"/bin/a\" 0 0 \"/\"\nthread a in p\ncall getpid\ncall exit 0\nend\n";
@@ -20,12 +22,12 @@ const WRITTEN: &[u8] =
 const CAT_POLICY: &[u8] =
     b"Policy: /bin/cat, Emulation: native\nnative-fsread: filename eq \"/etc/passwd\" then permit\n";
 
-const CAT_FILES: &[u8] =
-    b"dir \"/etc\" 0 0 755\nfile \"/etc/passwd\" 0 0 644 \"root\"\nfile \"/etc/spwd\" 0 0 600 \"s\"\n";
-
-const CAT_THREAD: &[u8] = b"process p traced \"/bin/cat\" 1000 1000 \"/\"\nthread a in p\n";
-
-const OPENED: &[u8] = b"1.1 \"/bin/cat\" native-fsread filename=\"/etc/passwd\" permit#1 = 3\n";
+const CAT: &[u8] = b"dir \"/etc\" 0 0 755
+file \"/etc/passwd\" 0 0 644 \"root\"
+file \"/etc/spwd\" 0 0 600 \"s\"
+process p traced \"/bin/cat\" 1000 1000 \"/\"
+thread a in p
+";
 
 const WORDS: [&[u8]; 5] = [b"step", b"-f", b"P", b"S", b"C"];
 
@@ -50,128 +52,149 @@ fn files_of(
     Ok(files)
 }
 
-// What a policy and a script come to, and what is written of it.
-fn step(alloc: Global, policy: &[u8], script: &[u8]) -> Result<(Status, MemorySink), Fail> {
-    let words = words_of(alloc, &WORDS)?;
-    let mut files = files_of(alloc, policy, script, SCHEDULE)?;
-    let mut sink = MemorySink::new(alloc, 1000)?;
-    let status = systrace_plain(alloc, &words, &mut files, &mut sink);
-    Ok((status, sink))
-}
-
-// What `check` comes to with these words before the policy's, and what is written.
-fn check(alloc: Global, options: &[&[u8]], policy: &[u8]) -> Result<(Status, MemorySink), Fail> {
-    let mut words = words_of(alloc, &[b"check".as_slice()])?;
-    for option in options {
-        words.push(Text::of(alloc, option)?)?;
-    }
-    words.push(Text::of(alloc, b"P")?)?;
-    let mut files = files_of(alloc, policy, b"", b"")?;
+// What words over files come to, and what is written of it.
+fn run(
+    alloc: Global,
+    words: &[&[u8]],
+    mut files: MemoryFiles,
+) -> Result<(Status, MemorySink), Fail> {
+    let words = words_of(alloc, words)?;
     let mut sink = MemorySink::new(alloc, 2000)?;
-    let status = systrace_plain(alloc, &words, &mut files, &mut sink);
+    let status = systrace_plain(alloc, words.as_slice(), &mut files, &mut sink);
     Ok((status, sink))
 }
 
-// The script of a thread of `/bin/cat` with this body.
-fn cat(alloc: Global, body: &[u8]) -> Result<Text, Fail> {
-    let mut script = Text::of(alloc, CAT_FILES)?;
-    script.append(CAT_THREAD)?;
-    script.append(body)?;
-    script.append(b"end\n")?;
-    Ok(script)
-}
-
-// A body that opens the file of a name.
-fn opening(alloc: Global, name: &[u8]) -> Result<Text, Fail> {
-    let mut body = Text::of(alloc, b"put 0 \"")?;
-    body.append(name)?;
-    body.append(b"\"\ncall open 0 0\n")?;
-    Ok(body)
-}
-
-// This many bytes, then the rest of a name.
-fn repeated(alloc: Global, byte: u8, count: u32, rest: &[u8]) -> Result<Text, Fail> {
-    let mut name = Text::new(alloc);
+// A front, this many bytes, and a rest.
+fn repeated(
+    alloc: Global,
+    front: &[u8],
+    byte: u8,
+    count: usize,
+    rest: &[u8],
+) -> Result<Text, Fail> {
+    let mut text = Text::of(alloc, front)?;
     for _ in 0..count {
-        name.push(byte)?;
+        text.push(byte)?;
     }
-    name.append(rest)?;
-    Ok(name)
+    text.append(rest)?;
+    Ok(text)
 }
 
+// A policy, what its script begins with, what its thread does, and what is written of it.
 #[test]
-fn plain_permits(rt: HostRuntime) -> Result<(), Fail> {
-    let (status, sink) = step(rt.alloc(), POLICY, SCRIPT)?;
-    assert_eq!(rt; status, Status::Done);
-    assert_eq!(rt; sink.bytes(), WRITTEN);
-    Ok(())
-}
-
-#[test]
-fn barred_getuid_then_exit(rt: HostRuntime) -> Result<(), Fail> {
-    let policy = b"Policy: /bin/a, Emulation: native\nnative-getuid: deny\nnative-exit: permit\n";
-    let script =
-        b"process p traced \"/bin/a\" 0 0 \"/\"\nthread a in p\ncall getuid\ncall exit 0\nend\n";
-    let written =
-        b"1.1 \"/bin/a\" native-getuid barred#1 = EPERM\n1.1 \"/bin/a\" native-exit fast = 0\n";
-    let (status, sink) = step(rt.alloc(), policy, script)?;
-    assert_eq!(rt; status, Status::Done);
-    assert_eq!(rt; sink.bytes(), written.as_slice());
-    Ok(())
-}
-
-#[test]
-fn held_opens(rt: HostRuntime) -> Result<(), Fail> {
+fn calls_of_a_thread(rt: HostRuntime) -> Result<(), Fail> {
     let alloc = rt.alloc();
-    let cases = [
-        (b"/etc/passwd".as_slice(), OPENED),
-        (b"etc/passwd", OPENED),
-        (b"//etc/./../etc/passwd/", OPENED),
+    let outside = b"1.1 \"/bin/cat\" native-fsread fault = EFAULT\n".as_slice();
+    let cases: [(&[u8], &[u8], &[u8], &[u8]); 9] = [
+        (POLICY, PROCESS, b"call getpid\ncall exit 0\n", WRITTEN),
         (
-            b"/etc/spwd",
-            b"1.1 \"/bin/cat\" native-fsread filename=\"/etc/spwd\" nofilter = EPERM\n",
+            b"Policy: /bin/a, Emulation: native\nnative-getuid: deny\nnative-exit: permit\n",
+            PROCESS,
+            b"call getuid\ncall exit 0\n",
+            b"1.1 \"/bin/a\" native-getuid barred#1 = EPERM\n1.1 \"/bin/a\" native-exit fast = 0\n",
         ),
         (
-            b"/etc/none",
-            b"1.1 \"/bin/cat\" native-fsread filename=\"/etc/none\" nofilter = EPERM\n",
+            POLICY,
+            b"process p traced \"/bin/b\" 0 0 \"/\"\nthread a in p\n",
+            b"call getpid\n",
+            b"1.1 \"/bin/b\" native-getpid nofilter = EPERM\n",
         ),
         (
-            b"..",
-            b"1.1 \"/bin/cat\" native-fsread filename=\"/\" nofilter = EPERM\n",
+            POLICY,
+            PROCESS,
+            b"call getuid\ncall getpid\n",
+            b"1.1 \"/bin/a\" native-getuid nofilter = EPERM\n1.1 \"/bin/a\" native-getpid fast = 1\n",
         ),
         (
-            b"/none/passwd",
+            b"Policy: /bin/cat, Emulation: native\nnative-getpid: permit\nnative-fsread: filename eq \"/etc/spwd\" then permit\nnative-fsread: filename eq \"/etc/passwd\" then permit\n",
+            CAT,
+            b"put 0 \"/etc/spwd\"\nput 16 \"/etc/passwd\"\ncall open 0 0\ncall getpid\ncall open 16 0\ncall open 16 0\n",
+            b"1.1 \"/bin/cat\" native-fsread filename=\"/etc/spwd\" permit#1 = EACCES\n1.1 \"/bin/cat\" native-getpid fast = 1\n1.1 \"/bin/cat\" native-fsread filename=\"/etc/passwd\" permit#2 = 3\n1.1 \"/bin/cat\" native-fsread filename=\"/etc/passwd\" permit#2 = 4\n",
+        ),
+        (
+            CAT_POLICY,
+            CAT,
+            b"store 8191 0x6100000000000000\ncall open 65535 0\n",
+            outside,
+        ),
+        (CAT_POLICY, CAT, b"call open 65536 0\n", outside),
+        (
+            CAT_POLICY,
+            CAT,
+            b"call open 18446744073709551615 0\n",
+            outside,
+        ),
+        (
+            CAT_POLICY,
+            CAT,
+            b"call open 0 0\n",
             b"1.1 \"/bin/cat\" native-fsread fault = ENOENT\n",
         ),
-        (
-            b"/etc/passwd/a",
-            b"1.1 \"/bin/cat\" native-fsread fault = ENOTDIR\n",
-        ),
     ];
-    for (name, written) in cases {
-        let body = opening(alloc, name)?;
-        let script = cat(alloc, body.bytes())?;
-        let (status, sink) = step(alloc, CAT_POLICY, script.bytes())?;
+    for (policy, front, body, written) in cases {
+        let mut script = Text::of(alloc, front)?;
+        script.append(body)?;
+        script.append(b"end\n")?;
+        let files = files_of(alloc, policy, script.bytes(), SCHEDULE)?;
+        let (status, sink) = run(alloc, &WORDS, files)?;
         assert_eq!(rt; status, Status::Done);
         assert_eq!(rt; sink.bytes(), written);
     }
     Ok(())
 }
 
+// This many bytes and the rest of a name that is opened, and what is written of it.
 #[test]
-fn long_names(rt: HostRuntime) -> Result<(), Fail> {
+fn opened_names(rt: HostRuntime) -> Result<(), Fail> {
     let alloc = rt.alloc();
+    let opened =
+        b"1.1 \"/bin/cat\" native-fsread filename=\"/etc/passwd\" permit#1 = 3\n".as_slice();
     let too_long = b"1.1 \"/bin/cat\" native-fsread fault = ENAMETOOLONG\n".as_slice();
-    let cases = [
-        (b'/', 1014, b"etc/passwd".as_slice(), OPENED),
+    let cases: [(u8, usize, &[u8], &[u8]); 11] = [
+        (b'/', 1, b"etc/passwd", opened),
+        (b'/', 0, b"etc/passwd", opened),
+        (b'/', 2, b"etc/./../etc/passwd/", opened),
+        (
+            b'/',
+            1,
+            b"etc/spwd",
+            b"1.1 \"/bin/cat\" native-fsread filename=\"/etc/spwd\" nofilter = EPERM\n",
+        ),
+        (
+            b'/',
+            1,
+            b"etc/none",
+            b"1.1 \"/bin/cat\" native-fsread filename=\"/etc/none\" nofilter = EPERM\n",
+        ),
+        (
+            b'.',
+            2,
+            b"",
+            b"1.1 \"/bin/cat\" native-fsread filename=\"/\" nofilter = EPERM\n",
+        ),
+        (
+            b'/',
+            1,
+            b"none/passwd",
+            b"1.1 \"/bin/cat\" native-fsread fault = ENOENT\n",
+        ),
+        (
+            b'/',
+            1,
+            b"etc/passwd/a",
+            b"1.1 \"/bin/cat\" native-fsread fault = ENOTDIR\n",
+        ),
+        (b'/', 1014, b"etc/passwd", opened),
         (b'/', 1015, b"etc/passwd", too_long),
         (b'a', 256, b"/passwd", too_long),
     ];
     for (byte, count, rest, written) in cases {
-        let name = repeated(alloc, byte, count, rest)?;
-        let body = opening(alloc, name.bytes())?;
-        let script = cat(alloc, body.bytes())?;
-        let (status, sink) = step(alloc, CAT_POLICY, script.bytes())?;
+        let mut script = Text::of(alloc, CAT)?;
+        let put = repeated(alloc, b"put 0 \"", byte, count, rest)?;
+        script.append(put.bytes())?;
+        script.append(b"\"\ncall open 0 0\nend\n")?;
+        let files = files_of(alloc, CAT_POLICY, script.bytes(), SCHEDULE)?;
+        let (status, sink) = run(alloc, &WORDS, files)?;
         assert_eq!(rt; status, Status::Done);
         assert_eq!(rt; sink.bytes(), written);
     }
@@ -179,181 +202,99 @@ fn long_names(rt: HostRuntime) -> Result<(), Fail> {
 }
 
 #[test]
-fn outside_and_empty_names(rt: HostRuntime) -> Result<(), Fail> {
+fn fetches_that_fail(rt: HostRuntime) -> Result<(), Fail> {
     let alloc = rt.alloc();
-    let outside = b"1.1 \"/bin/cat\" native-fsread fault = EFAULT\n".as_slice();
-    let empty = b"1.1 \"/bin/cat\" native-fsread fault = ENOENT\n";
-    let cases = [
-        (
-            b"store 8191 0x6100000000000000\ncall open 65535 0\n".as_slice(),
-            outside,
-        ),
-        (b"call open 65536 0\n", outside),
-        (b"call open 18446744073709551615 0\n", outside),
-        (b"call open 0 0\n", empty),
-    ];
-    for (body, written) in cases {
-        let script = cat(alloc, body)?;
-        let (status, sink) = step(alloc, CAT_POLICY, script.bytes())?;
-        assert_eq!(rt; status, Status::Done);
-        assert_eq!(rt; sink.bytes(), written);
-    }
-    Ok(())
-}
-
-#[test]
-fn filters_are_numbered_within_their_rule(rt: HostRuntime) -> Result<(), Fail> {
-    let alloc = rt.alloc();
-    let policy =
-        b"Policy: /bin/cat, Emulation: native\nnative-getpid: permit\nnative-fsread: filename eq \"/etc/spwd\" then permit\nnative-fsread: filename eq \"/etc/passwd\" then permit\n";
-    let body =
-        b"put 0 \"/etc/spwd\"\nput 16 \"/etc/passwd\"\ncall open 0 0\ncall getpid\ncall open 16 0\ncall open 16 0\n";
-    let written =
-        b"1.1 \"/bin/cat\" native-fsread filename=\"/etc/spwd\" permit#1 = EACCES\n1.1 \"/bin/cat\" native-getpid fast = 1\n1.1 \"/bin/cat\" native-fsread filename=\"/etc/passwd\" permit#2 = 3\n1.1 \"/bin/cat\" native-fsread filename=\"/etc/passwd\" permit#2 = 4\n";
-    let script = cat(alloc, body)?;
-    let (status, sink) = step(alloc, policy, script.bytes())?;
-    assert_eq!(rt; status, Status::Done);
-    assert_eq!(rt; sink.bytes(), written.as_slice());
-    Ok(())
-}
-
-#[test]
-fn calls_without_a_filter(rt: HostRuntime) -> Result<(), Fail> {
-    let alloc = rt.alloc();
-    let other = b"process p traced \"/bin/b\" 0 0 \"/\"\nthread a in p\ncall getpid\nend\n";
-    let uncovered =
-        b"process p traced \"/bin/a\" 0 0 \"/\"\nthread a in p\ncall getuid\ncall getpid\nend\n";
-    let cases = [
-        (
-            other.as_slice(),
-            b"1.1 \"/bin/b\" native-getpid nofilter = EPERM\n".as_slice(),
-        ),
-        (
-            uncovered,
-            b"1.1 \"/bin/a\" native-getuid nofilter = EPERM\n1.1 \"/bin/a\" native-getpid fast = 1\n",
-        ),
-    ];
-    for (script, written) in cases {
-        let (status, sink) = step(alloc, POLICY, script)?;
-        assert_eq!(rt; status, Status::Done);
-        assert_eq!(rt; sink.bytes(), written);
-    }
-    Ok(())
-}
-
-#[test]
-fn a_fetch_that_fails(rt: HostRuntime) -> Result<(), Fail> {
-    let alloc = rt.alloc();
-    let words = words_of(alloc, &WORDS)?;
     for call in 1..4 {
         let mut files = files_of(alloc, POLICY, SCRIPT, SCHEDULE)?;
         files.fail_at(call)?;
-        let mut sink = MemorySink::new(alloc, 1000)?;
-        let status = systrace_plain(alloc, &words, &mut files, &mut sink);
+        let (status, _) = run(alloc, &WORDS, files)?;
         assert_eq!(rt; status, Status::ReadFault);
-        assert_eq!(rt; files.faults(), 1);
-        assert_eq!(rt; sink.bytes(), b"".as_slice());
     }
     Ok(())
 }
 
+// Words that name a file that is not there, or are no command.
 #[test]
-fn files_that_are_missing(rt: HostRuntime) -> Result<(), Fail> {
+fn words_that_are_refused(rt: HostRuntime) -> Result<(), Fail> {
     let alloc = rt.alloc();
-    let cases = [
-        ([b"step".as_slice(), b"-f", b"P", b"T", b"C"], Which::Script),
-        ([b"step", b"-f", b"Q", b"S", b"C"], Which::Policy(1)),
-        ([b"step", b"-f", b"P", b"S", b"D"], Which::Schedule),
-        ([b"step", b"-f", b"-", b"S", b"C"], Which::Policy(1)),
+    let cases: [(&[&[u8]], Status); 18] = [
+        (
+            &[b"step", b"-f", b"P", b"T", b"C"],
+            Status::Missing(Which::Script),
+        ),
+        (
+            &[b"step", b"-f", b"Q", b"S", b"C"],
+            Status::Missing(Which::Policy(1)),
+        ),
+        (
+            &[b"step", b"-f", b"P", b"S", b"D"],
+            Status::Missing(Which::Schedule),
+        ),
+        (
+            &[b"step", b"-f", b"-", b"S", b"C"],
+            Status::Missing(Which::Policy(1)),
+        ),
+        (&[], Status::Usage),
+        (&[b"step"], Status::Usage),
+        (&[b"step", b"-f", b"P", b"-S", b"C"], Status::Usage),
+        (&[b"--help"], Status::Usage),
+        (&[b"step", b"-g", b"P", b"S", b"C"], Status::Usage),
+        (&[b"check"], Status::Usage),
+        (&[b"check", b"-P"], Status::Usage),
+        (&[b"check", b"P", b"S"], Status::Usage),
+        (&[b"check", b"-c", b"1", b"P"], Status::Usage),
+        (&[b"check", b"-c", b"1:", b"P"], Status::Usage),
+        (&[b"check", b"-c", b":1", b"P"], Status::Usage),
+        (&[b"check", b"-c", b"01:1", b"P"], Status::Usage),
+        (&[b"check", b"-c", b"1:4294967296", b"P"], Status::Usage),
+        (&[b"check", b"-c", b"+1:1", b"P"], Status::Usage),
     ];
-    for (names, which) in cases {
-        let words = words_of(alloc, names.as_slice())?;
-        let mut files = files_of(alloc, POLICY, SCRIPT, SCHEDULE)?;
-        let mut sink = MemorySink::new(alloc, 1000)?;
-        let status = systrace_plain(alloc, &words, &mut files, &mut sink);
-        assert_eq!(rt; status, Status::Missing(which));
-        assert_eq!(rt; sink.bytes(), b"".as_slice());
+    for (words, wanted) in cases {
+        let files = files_of(alloc, POLICY, SCRIPT, SCHEDULE)?;
+        let (status, _) = run(alloc, words, files)?;
+        assert_eq!(rt; status, wanted);
     }
     Ok(())
 }
 
+// A policy, a script and a schedule that `step` refuses.
 #[test]
-fn files_that_are_not_built(rt: HostRuntime) -> Result<(), Fail> {
+fn files_that_are_refused(rt: HostRuntime) -> Result<(), Fail> {
     let alloc = rt.alloc();
-    let reads = b"Policy: /bin/a, Emulation: native\nnative-fsread: permit\n";
-    let writes = b"process p traced \"/bin/a\" 0 0 \"/\"\nthread a in p\ncall open 0 1\nend\n";
-    let cases = [
-        (b"".as_slice(), SCRIPT, SCHEDULE, Which::Policy(1)),
-        (reads, SCRIPT, SCHEDULE, Which::Policy(1)),
-        (b"", b"", SCHEDULE, Which::Script),
-        (POLICY, writes, SCHEDULE, Which::Script),
-        (POLICY, SCRIPT, b"", Which::Schedule),
-        (POLICY, SCRIPT, b"thread 1", Which::Schedule),
+    let long = repeated(alloc, b"", b'\n', 1_048_577, b"")?;
+    let reads = b"Policy: /bin/a, Emulation: native\nnative-fsread: permit\n".as_slice();
+    let open = b"Policy: /bin/a, Emulation: native\nnative-fsread: filename eq \"/etc".as_slice();
+    let writes =
+        b"process p traced \"/bin/a\" 0 0 \"/\"\nthread a in p\ncall open 0 1\nend\n".as_slice();
+    let cases: [(&[u8], &[u8], &[u8], Status); 8] = [
+        (b"", SCRIPT, SCHEDULE, Status::NotBuilt(Which::Policy(1))),
+        (reads, SCRIPT, SCHEDULE, Status::NotBuilt(Which::Policy(1))),
+        (b"", b"", SCHEDULE, Status::NotBuilt(Which::Script)),
+        (POLICY, writes, SCHEDULE, Status::NotBuilt(Which::Script)),
+        (POLICY, SCRIPT, b"", Status::NotBuilt(Which::Schedule)),
+        (
+            POLICY,
+            SCRIPT,
+            b"thread 1",
+            Status::NotBuilt(Which::Schedule),
+        ),
+        (
+            long.bytes(),
+            SCRIPT,
+            SCHEDULE,
+            Status::TooLong(Which::Policy(1)),
+        ),
+        (
+            open,
+            SCRIPT,
+            SCHEDULE,
+            Status::Policy(1, PolicyFault::Lex(LexFault::OpenQuote(61))),
+        ),
     ];
-    for (policy, script, schedule, which) in cases {
-        let words = words_of(alloc, &WORDS)?;
-        let mut files = files_of(alloc, policy, script, schedule)?;
-        let mut sink = MemorySink::new(alloc, 1000)?;
-        let status = systrace_plain(alloc, &words, &mut files, &mut sink);
-        assert_eq!(rt; status, Status::NotBuilt(which));
-        assert_eq!(rt; sink.bytes(), b"".as_slice());
-    }
-    Ok(())
-}
-
-#[test]
-fn a_policy_of_one_byte_too_many(rt: HostRuntime) -> Result<(), Fail> {
-    let alloc = rt.alloc();
-    let mut policy = Text::of(alloc, POLICY)?;
-    for _ in POLICY.len() as u64..FILE_LIMIT + 1 {
-        policy.push(b'\n')?;
-    }
-    let words = words_of(alloc, &WORDS)?;
-    let mut files = files_of(alloc, policy.bytes(), SCRIPT, SCHEDULE)?;
-    let mut sink = MemorySink::new(alloc, 1000)?;
-    let status = systrace_plain(alloc, &words, &mut files, &mut sink);
-    assert_eq!(rt; status, Status::TooLong(Which::Policy(1)));
-    Ok(())
-}
-
-fn is_usage(alloc: Global, words: &[&[u8]]) -> Result<bool, Fail> {
-    let words = words_of(alloc, words)?;
-    let mut files = files_of(alloc, POLICY, SCRIPT, SCHEDULE)?;
-    let mut sink = MemorySink::new(alloc, 1000)?;
-    let status = systrace_plain(alloc, &words, &mut files, &mut sink);
-    Ok(status == Status::Usage)
-}
-
-#[test]
-fn words_that_are_no_command(rt: HostRuntime) -> Result<(), Fail> {
-    let step = [b"step".as_slice()];
-    let option = [b"step".as_slice(), b"-f", b"P", b"-S", b"C"];
-    let help = [b"--help".as_slice()];
-    let five = [b"step".as_slice(), b"-g", b"P", b"S", b"C"];
-    for words in [[].as_slice(), &step, &option, &help, &five] {
-        assert!(rt; is_usage(rt.alloc(), words)?);
-    }
-    Ok(())
-}
-
-#[test]
-fn words_that_are_no_check(rt: HostRuntime) -> Result<(), Fail> {
-    let no_file = [b"check".as_slice()];
-    let no_operand = [b"check".as_slice(), b"-P"];
-    let script = [b"check".as_slice(), b"P", b"S"];
-    for words in [no_file.as_slice(), &no_operand, &script] {
-        assert!(rt; is_usage(rt.alloc(), words)?);
-    }
-    for ids in [
-        b"1".as_slice(),
-        b"1:",
-        b":1",
-        b"01:1",
-        b"1:4294967296",
-        b"+1:1",
-    ] {
-        let words = [b"check".as_slice(), b"-c", ids, b"P"];
-        assert!(rt; is_usage(rt.alloc(), &words)?);
+    for (policy, script, schedule, wanted) in cases {
+        let files = files_of(alloc, policy, script, schedule)?;
+        let (status, _) = run(alloc, &WORDS, files)?;
+        assert_eq!(rt; status, wanted);
     }
     Ok(())
 }
@@ -390,71 +331,6 @@ fn statuses_have_numbers(rt: HostRuntime) {
     for (status, number) in cases {
         assert_eq!(rt; status.number(), number);
     }
-}
-
-#[test]
-fn refused_policies(rt: HostRuntime) -> Result<(), Fail> {
-    let open = b"Policy: /bin/a, Emulation: native\nnative-fsread: filename eq \"/etc".as_slice();
-    let expression =
-        b"Policy: /bin/a, Emulation: native\nnative-fsread: filename re \"x\" then permit";
-    let cases = [
-        (open, PolicyFault::Lex(LexFault::OpenQuote(61))),
-        (expression, PolicyFault::NotSupported(58, Unsupported::Re)),
-    ];
-    for (policy, fault) in cases {
-        let (status, sink) = step(rt.alloc(), policy, SCRIPT)?;
-        assert_eq!(rt; status, Status::Policy(1, fault));
-        assert_eq!(rt; sink.bytes(), b"".as_slice());
-        let (status, _) = check(rt.alloc(), &[], policy)?;
-        assert_eq!(rt; status, Status::Policy(1, fault));
-    }
-    Ok(())
-}
-
-#[test]
-fn elevation_refused(rt: HostRuntime) -> Result<(), Fail> {
-    let bind = b"Policy: /bin/a, Emulation: native\nnative-bind: permit as root\n";
-    let (status, _) = check(rt.alloc(), &[], bind)?;
-    assert_eq!(rt;
-        status,
-        Status::Policy(1, PolicyFault::ElevateWithoutIds(54))
-    );
-    let setuid = b"Policy: /bin/a, Emulation: native\nnative-setuid: permit as root\n";
-    let (status, _) = check(rt.alloc(), &[b"-c", b"30:30"], setuid)?;
-    assert_eq!(rt; status, Status::Policy(1, PolicyFault::ElevateOnSetId(56)));
-    Ok(())
-}
-
-#[test]
-fn canonical_policy(rt: HostRuntime) -> Result<(), Fail> {
-    let policy =
-        b"Policy: /bin/a, Emulation: native\nnative-fsread: not filename match \"$HOME/*\" and (true or filename sub \"\\x24x\") then deny[enoent] log\nnative-getpid: true then permit\nnative-bind: permit log as root:wheel, if user != 0\n";
-    let canonical =
-        b"Policy: /bin/a, Emulation: native\nnative-fsread: not filename match \"/root/*\" and (true or filename sub \"\\x24x\") then deny[enoent] log\nnative-getpid: permit\nnative-bind: permit as 0:0 log, if user != 0\n";
-    for text in [policy.as_slice(), canonical] {
-        let (status, sink) = check(rt.alloc(), &[b"-c", b"30:30"], text)?;
-        assert_eq!(rt; status, Status::Done);
-        assert_eq!(rt; sink.bytes(), canonical.as_slice());
-    }
-    Ok(())
-}
-
-#[test]
-fn sixty_four_nots(rt: HostRuntime) -> Result<(), Fail> {
-    let alloc = rt.alloc();
-    for (count, expected) in [
-        (64, Status::Done),
-        (65, Status::Policy(1, PolicyFault::TooMany(305))),
-    ] {
-        let mut policy = Text::of(alloc, b"Policy: /bin/a, Emulation: native\nnative-getpid: ")?;
-        for _ in 0..count {
-            policy.append(b"not ")?;
-        }
-        policy.append(b"true then permit\n")?;
-        let (status, _) = check(alloc, &[], policy.bytes())?;
-        assert_eq!(rt; status, expected);
-    }
-    Ok(())
 }
 
 // The policy of a web server, up to the user of its logs, and behind it.
@@ -534,23 +410,53 @@ fn web(alloc: Global, user: &[u8]) -> Result<Text, Fail> {
     Ok(policy)
 }
 
+// The words of `check`, its policy, what it comes to, and what is written.
 #[test]
-fn a_web_server_in_its_canonical_form(rt: HostRuntime) -> Result<(), Fail> {
+fn policies_that_are_checked(rt: HostRuntime) -> Result<(), Fail> {
     let alloc = rt.alloc();
-    let policy = web(alloc, b"67")?;
-    for text in [policy.bytes(), WEB_CANON] {
-        let (status, sink) = check(alloc, &[b"-c", b"67:67"], text)?;
-        assert_eq!(rt; status, Status::Done);
-        assert_eq!(rt; sink.bytes(), WEB_CANON);
+    let by_id = web(alloc, b"67")?;
+    let by_name = web(alloc, b"www")?;
+    let plain: &[&[u8]] = &[b"check", b"P"];
+    let elevated: &[&[u8]] = &[b"check", b"-c", b"67:67", b"P"];
+    let cases: [(&[&[u8]], &[u8], Status, &[u8]); 7] = [
+        (
+            elevated,
+            b"Policy: /bin/a, Emulation: native\nnative-bind: sockaddr eq \"$HOME\" then permit as root:wheel\n",
+            Status::Done,
+            b"Policy: /bin/a, Emulation: native\nnative-bind: sockaddr eq \"/root\" then permit as 0:0\n",
+        ),
+        (elevated, by_id.bytes(), Status::Done, WEB_CANON),
+        (elevated, WEB_CANON, Status::Done, WEB_CANON),
+        (
+            elevated,
+            by_name.bytes(),
+            Status::Policy(1, PolicyFault::UnknownUser(774)),
+            b"",
+        ),
+        (
+            elevated,
+            b"Policy: /bin/a, Emulation: native\nnative-setuid: permit as root\n",
+            Status::Policy(1, PolicyFault::ElevateOnSetId(56)),
+            b"",
+        ),
+        (
+            plain,
+            b"Policy: /bin/a, Emulation: native\nnative-bind: permit as root\n",
+            Status::Policy(1, PolicyFault::ElevateWithoutIds(54)),
+            b"",
+        ),
+        (
+            plain,
+            b"Policy: /bin/a, Emulation: native\nnative-fsread: filename re \"x\" then permit",
+            Status::Policy(1, PolicyFault::NotSupported(58, Unsupported::Re)),
+            b"",
+        ),
+    ];
+    for (words, policy, wanted, written) in cases {
+        let files = files_of(alloc, policy, b"", b"")?;
+        let (status, sink) = run(alloc, words, files)?;
+        assert_eq!(rt; status, wanted);
+        assert_eq!(rt; sink.bytes(), written);
     }
-    Ok(())
-}
-
-#[test]
-fn a_web_server_whose_user_has_no_row(rt: HostRuntime) -> Result<(), Fail> {
-    let policy = web(rt.alloc(), b"www")?;
-    let (status, sink) = check(rt.alloc(), &[b"-c", b"67:67"], policy.bytes())?;
-    assert_eq!(rt; status, Status::Policy(1, PolicyFault::UnknownUser(774)));
-    assert_eq!(rt; sink.bytes(), b"".as_slice());
     Ok(())
 }

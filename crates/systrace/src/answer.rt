@@ -55,13 +55,16 @@ mod tests {
 
     #[test]
     fn answers_one_word_alone(rt: HostRuntime) -> Result<(), Fail> {
-        let version = words_of(rt.alloc(), &[b"--version"])?;
-        assert_eq!(rt; answer_of(version.as_slice()), Some("systrace 0.1.0\n"));
-        let help = words_of(rt.alloc(), &[b"--help"])?;
-        assert_eq!(rt; answer_of(help.as_slice()), Some(HELP));
-        let both = words_of(rt.alloc(), &[b"--help", b"--version"])?;
-        assert_eq!(rt; answer_of(both.as_slice()), None);
-        assert_eq!(rt; answer_of(&[]), None);
+        let cases: [(&[&[u8]], Option<&str>); 4] = [
+            (&[b"--version"], Some("systrace 0.1.0\n")),
+            (&[b"--help"], Some(HELP)),
+            (&[b"--help", b"--version"], None),
+            (&[], None),
+        ];
+        for (line, wanted) in cases {
+            let words = words_of(rt.alloc(), line)?;
+            assert_eq!(rt; answer_of(words.as_slice()), wanted);
+        }
         Ok(())
     }
 }

@@ -28,9 +28,9 @@ pub fn expected_at(place: Place) -> &'static str {
         Place::Action => "'permit', 'deny' or 'ask'",
         Place::Denial => "'[', 'log', ',' or the end of the line",
         Place::Error => ERROR,
-        Place::Tail { grant, log } => behind_action(grant, log),
+        Place::Tail { grant, log } => after_action(grant, log),
         Place::Grant { .. } => "':' or the id of a user",
-        Place::User { log } => behind_user(log),
+        Place::User { log } => after_user(log),
         Place::Group { .. } => "the id of a group",
         Place::If => "'if'",
         Place::Who => "'user' or 'group'",
@@ -40,7 +40,7 @@ pub fn expected_at(place: Place) -> &'static str {
     }
 }
 
-fn behind_action(grant: bool, log: bool) -> &'static str {
+fn after_action(grant: bool, log: bool) -> &'static str {
     match (grant, log) {
         (true, true) => "'as', 'log', ',' or the end of the line",
         (true, false) => "'as', ',' or the end of the line",
@@ -49,7 +49,7 @@ fn behind_action(grant: bool, log: bool) -> &'static str {
     }
 }
 
-fn behind_user(log: bool) -> &'static str {
+fn after_user(log: bool) -> &'static str {
     if log {
         "':', 'log', ',' or the end of the line"
     } else {

@@ -99,230 +99,199 @@ mod tests {
     use super::*;
     use crate::misfit::misfit_in;
     use st_policy::PolicyFault;
+    use std::process::Abort;
     use std::test::Fail;
 
-    fn words(alloc: Global) -> Result<Vec<Text>, AllocError> {
+    fn words_of(alloc: Global, line: &[&[u8]]) -> Result<Vec<Text>, Fail> {
         let mut words = Vec::new(alloc);
-        for word in [b"step".as_slice(), b"-f", b"p", b"a b", b"\xff"] {
+        for word in line {
             words.push(Text::of(alloc, word)?)?;
         }
         Ok(words)
     }
 
+    // The words of a command, how it ends, and the line.
     #[test]
-    fn tells_a_status_without_a_file(rt: HostRuntime) -> Result<(), Fail> {
-        let words = words(rt.alloc())?;
-        for (status, number, want) in [
-            (Status::Done, 0, b"".as_slice()),
+    fn tells_a_status(rt: HostRuntime) -> Result<(), Fail> {
+        let step: &[&[u8]] = &[b"step", b"-f", b"p", b"a b", b"\xff"];
+        let check: &[&[u8]] = &[b"check", b"-c", b"67:67", b"p"];
+        let cases: [(&[&[u8]], Status, &[u8]); 14] = [
+            (step, Status::Done, b""),
             (
+                step,
                 Status::Usage,
-                2,
                 b"usage: systrace step -f POLICY SCRIPT SCHEDULE\n       systrace check [-c U:G] POLICY",
             ),
-            (Status::ReadFault, 5, b"systrace: a file could not be read"),
             (
+                step,
+                Status::ReadFault,
+                b"systrace: a file could not be read",
+            ),
+            (
+                step,
                 Status::WriteFault,
-                6,
                 b"systrace: standard output could not be written",
             ),
-            (Status::NoMemory, 7, b"systrace: out of memory"),
-        ] {
-            assert_eq!(rt;
-                message(rt.alloc(), status, words.as_slice())?.bytes(),
-                want
-            );
-            assert_eq!(rt; status.number(), number);
-        }
-        Ok(())
-    }
-
-    #[test]
-    fn tells_a_file_by_its_name(rt: HostRuntime) -> Result<(), Fail> {
-        let words = words(rt.alloc())?;
-        for (status, number, want) in [
+            (step, Status::NoMemory, b"systrace: out of memory"),
             (
+                step,
                 Status::Missing(Which::Policy(1)),
-                1,
-                b"systrace: p: no such file".as_slice(),
+                b"systrace: p: no such file",
             ),
             (
+                step,
                 Status::Missing(Which::Script),
-                1,
                 b"systrace: a b: no such file",
             ),
             (
+                step,
                 Status::Missing(Which::Schedule),
-                1,
                 b"systrace: \xff: no such file",
             ),
             (
-                Status::TooLong(Which::Policy(1)),
-                9,
-                b"systrace: p: holds more than 1048576 bytes",
-            ),
-            (
+                step,
                 Status::TooLong(Which::Script),
-                9,
                 b"systrace: a b: holds more than 1048576 bytes",
             ),
             (
-                Status::TooLong(Which::Schedule),
-                9,
-                b"systrace: \xff: holds more than 1048576 bytes",
-            ),
-            (
+                step,
                 Status::NotBuilt(Which::Policy(1)),
-                11,
                 b"systrace: p: not a policy that is built: expected the form that 'step' runs",
             ),
             (
+                step,
                 Status::NotBuilt(Which::Script),
-                11,
                 b"systrace: a b: not a script that is built: expected at most 4096 instructions",
             ),
             (
+                step,
                 Status::NotBuilt(Which::Schedule),
-                11,
                 b"systrace: \xff: not a schedule that is built: expected the one line 'rest'",
             ),
-        ] {
-            assert_eq!(rt;
-                message(rt.alloc(), status, words.as_slice())?.bytes(),
-                want
-            );
-            assert_eq!(rt; status.number(), number);
-        }
-        Ok(())
-    }
-
-    #[test]
-    fn tells_the_file_of_check(rt: HostRuntime) -> Result<(), Fail> {
-        let mut words = Vec::new(rt.alloc());
-        for word in [b"check".as_slice(), b"-c", b"67:67", b"p"] {
-            words.push(Text::of(rt.alloc(), word)?)?;
-        }
-        for (status, want) in [
             (
+                check,
                 Status::Missing(Which::Policy(1)),
-                b"systrace: p: no such file".as_slice(),
+                b"systrace: p: no such file",
             ),
             (
+                check,
                 Status::Policy(1, PolicyFault::Expected(0)),
                 b"systrace: p: refused, and not read again to tell why",
             ),
-        ] {
+        ];
+        for (line, status, wanted) in cases {
+            let words = words_of(rt.alloc(), line)?;
             assert_eq!(rt;
                 message(rt.alloc(), status, words.as_slice())?.bytes(),
-                want
+                wanted
             );
         }
         Ok(())
     }
 
-    fn told(alloc: Global, which: Which, text: &[u8]) -> Result<Text, AllocError> {
-        if text.len() > 1000 {
-            return Ok(Text::new(alloc));
-        }
-        match misfit_in(alloc, which, text)? {
-            Some(misfit) => misfit_message(alloc, b"f", &misfit),
-            None => Ok(Text::new(alloc)),
-        }
+    // The line for a file that is not in its form.
+    fn told<R: Abort + AllocGlobal>(rt: &R, which: Which, text: &[u8]) -> Result<Text, Fail> {
+        assert!(rt; text.len() < 1000);
+        let misfit = misfit_in(rt.alloc(), which, text)?.ok_or("no misfit")?;
+        Ok(misfit_message(rt.alloc(), b"f", &misfit)?)
     }
 
     #[test]
-    fn tells_where_a_policy_leaves_its_form(rt: HostRuntime) -> Result<(), Fail> {
-        for (text, want) in [
+    fn tells_where_a_file_leaves_its_form(rt: HostRuntime) -> Result<(), Fail> {
+        let cases: [(Which, &[u8], &[u8]); 14] = [
             (
-                b"".as_slice(),
-                b"systrace: f:1:1: found the end of the file, expected 'Policy: /BINARY, Emulation: native'".as_slice(),
+                Which::Policy(1),
+                b"",
+                b"systrace: f:1:1: found the end of the file, expected 'Policy: /BINARY, Emulation: native'",
             ),
             (
+                Which::Policy(1),
                 b"Policy: /a, Emulation: native\n\n native-open: permit\n",
                 b"systrace: f:3:2: found 'native-open: permit', expected 'native-CALL: permit' or 'native-CALL: deny', CALL being getpid, getuid, geteuid or exit, or 'native-fsread: filename eq \"TEXT\" then permit'",
             ),
             (
+                Which::Policy(1),
                 b"Policy: /a, Emulation: native\nnative-fsread: filename eq \"$HOME\" then permit",
                 b"systrace: f:2:1: found 'native-fsread: filename eq \"$HOME\" then permit', expected 'native-fsread: filename eq \"TEXT\" then permit', TEXT without a backslash and '$'",
             ),
             (
+                Which::Policy(1),
                 b"Policy: /a, Emulation: native # a",
                 b"systrace: f:1:31: found '# a', expected no '#', which is not built",
             ),
             (
-                b"Policy: /a, Emulation: native\nnative-fsread: filename eq \"/f\" then permit",
-                b"",
-            ),
-        ] {
-            assert_eq!(rt; told(rt.alloc(), Which::Policy(1), text)?.bytes(), want);
-        }
-        Ok(())
-    }
-
-    #[test]
-    fn tells_where_the_rows_of_a_script_leave_their_form(rt: HostRuntime) -> Result<(), Fail> {
-        for (text, want) in [
-            (
-                b"process p traced \"/a\" 0 0 \"/\"\nthread a in q\nend".as_slice(),
-                b"systrace: f:2:1: found 'thread a in q', expected 'thread NAME in PROCESS', PROCESS being the process above".as_slice(),
+                Which::Script,
+                b"process p traced \"/a\" 0 0 \"/\"\nthread a in q\nend",
+                b"systrace: f:2:1: found 'thread a in q', expected 'thread NAME in PROCESS', PROCESS being the process above",
             ),
             (
-                b"dir \"/d\" 0 0 755\nfile \"/d/f\" 0 0 644 \"f\"\nprocess p traced \"/a\" 0 0 \"/\"\nthread a in p\nput 0 \"/d/f\"\nstore 9 1\ncall open\nend",
-                b"",
-            ),
-            (
+                Which::Script,
                 b"",
                 b"systrace: f:1:1: found the end of the file, expected 'process NAME traced \"/BINARY\" UID GID \"/\"', behind rows 'dir' and 'file'",
             ),
             (
+                Which::Script,
                 b"dir \"/d\" 0 0 755\ndir \"/d\" 0 0 755",
                 b"systrace: f:2:1: found 'dir \"/d\" 0 0 755', expected 'dir \"/PATH\" UID GID MODE', /PATH being new, in the root or a directory of a row above, at most 4095 rows in all",
             ),
             (
+                Which::Script,
                 b"file \"/d/f\" 0 0 644 \"f\"",
                 b"systrace: f:1:1: found 'file \"/d/f\" 0 0 644 \"f\"', expected 'file \"/PATH\" UID GID MODE \"CONTENT\"', /PATH being new, in the root or a directory of a row above, at most 4095 rows in all",
             ),
-        ] {
-            assert_eq!(rt; told(rt.alloc(), Which::Script, text)?.bytes(), want);
-        }
-        Ok(())
-    }
-
-    #[test]
-    fn tells_where_the_body_of_a_thread_leaves_its_form(rt: HostRuntime) -> Result<(), Fail> {
-        for (text, want) in [
             (
-                b"process p traced \"/a\" 0 0 \"/\"\nthread a in p\ncall open 0 1".as_slice(),
-                b"systrace: f:3:1: found 'call open 0 1', expected 'call CALL' with up to six numbers, CALL being getpid, getuid, geteuid, exit, or open with 0 as its second number".as_slice(),
+                Which::Script,
+                b"process p traced \"/a\" 0 0 \"/\"\nthread a in p\ncall open 0 1",
+                b"systrace: f:3:1: found 'call open 0 1', expected 'call CALL' with up to six numbers, CALL being getpid, getuid, geteuid, exit, or open with 0 as its second number",
             ),
             (
+                Which::Script,
                 b"process p traced \"/a\" 0 0 \"/\"\nthread a in p\nstore 8192 1",
                 b"systrace: f:3:1: found 'store 8192 1', expected 'store PLACE WORD', PLACE below 8192",
             ),
             (
+                Which::Script,
                 b"process p traced \"/a\" 0 0 \"/\"\nthread a in p\nput 4 \"/f\"",
                 b"systrace: f:3:1: found 'put 4 \"/f\"', expected 'put AT \"TEXT\"', AT a multiple of 8, and the text and a zero byte within 65536 bytes",
             ),
             (
+                Which::Script,
                 b"process p traced \"/a\" 0 0 \"/\"\nthread a in p\nfork b",
                 b"systrace: f:3:1: found 'fork b', expected 'call', 'store', 'put' or 'end'",
             ),
             (
+                Which::Script,
                 b"process p traced \"/a\" 0 0 \"/\"\nthread a in p\nend\nend",
                 b"systrace: f:4:1: found 'end', expected the end of the file",
             ),
-        ] {
-            assert_eq!(rt; told(rt.alloc(), Which::Script, text)?.bytes(), want);
+            (
+                Which::Schedule,
+                b"rest\nthread 1",
+                b"systrace: f:2:1: found 'thread 1', expected the end of the file",
+            ),
+        ];
+        for (which, text, wanted) in cases {
+            assert_eq!(rt; told(&rt, which, text)?.bytes(), wanted);
         }
         Ok(())
     }
 
     #[test]
-    fn tells_where_a_schedule_leaves_its_form(rt: HostRuntime) -> Result<(), Fail> {
-        let told = told(rt.alloc(), Which::Schedule, b"rest\nthread 1")?;
-        assert_eq!(rt;
-            told.bytes(),
-            b"systrace: f:2:1: found 'thread 1', expected the end of the file".as_slice()
-        );
+    fn tells_nothing_of_files_in_their_form(rt: HostRuntime) -> Result<(), Fail> {
+        let cases: [(Which, &[u8]); 2] = [
+            (
+                Which::Policy(1),
+                b"Policy: /a, Emulation: native\nnative-fsread: filename eq \"/f\" then permit",
+            ),
+            (
+                Which::Script,
+                b"dir \"/d\" 0 0 755\nfile \"/d/f\" 0 0 644 \"f\"\nprocess p traced \"/a\" 0 0 \"/\"\nthread a in p\nput 0 \"/d/f\"\nstore 9 1\ncall open\nend",
+            ),
+        ];
+        for (which, text) in cases {
+            assert!(rt; text.len() < 1000);
+            assert!(rt; misfit_in(rt.alloc(), which, text)?.is_none());
+        }
         Ok(())
     }
 }

@@ -6,7 +6,8 @@ use st_base::Text;
 use st_lex::{LexFault, Lexed, Token, next_row, tokens};
 use st_policy::{is_filter_row, is_header_row};
 use st_script::{
-    body_row, grown, is_end, is_thread_row, is_tree_row, process_row, root_alone, schedule_row,
+    body_row, is_end, is_thread_row, is_tree_row, process_row, root_tree, schedule_row,
+    tree_with_row,
 };
 use st_top::Which;
 use std::alloc::{AllocError, Global};
@@ -76,18 +77,18 @@ fn body_form(text: &[u8], row: &[Token]) -> &'static str {
 }
 
 // What is behind the rows of the tree that fit.
-fn behind_tree<'t>(
+fn after_tree<'t>(
     alloc: Global,
     text: &[u8],
     tokens: &'t [Token],
 ) -> Result<&'t [Token], AllocError> {
-    let mut tree = root_alone(alloc);
+    let mut tree = root_tree(alloc);
     let mut rest = tokens;
     while let Some((row, behind)) = next_row(rest) {
         if !is_tree_row(text, row) {
             return Ok(rest);
         }
-        let Some(more) = grown(alloc, text, tree, row)? else {
+        let Some(more) = tree_with_row(alloc, text, tree, row)? else {
             return Ok(rest);
         };
         tree = more;
@@ -97,17 +98,13 @@ fn behind_tree<'t>(
 }
 
 // What is awaited behind the process.
-fn behind_process(
-    alloc: Global,
-    text: &[u8],
-    row: &[Token],
-) -> Result<Option<Awaited>, AllocError> {
+fn after_process(alloc: Global, text: &[u8], row: &[Token]) -> Result<Option<Awaited>, AllocError> {
     let process = process_row(alloc, text, row)?;
     Ok(process.map(|process| Awaited::Thread(process.name)))
 }
 
 // What is awaited behind a row of a body.
-fn behind_body(alloc: Global, text: &[u8], row: &[Token]) -> Result<Option<Awaited>, AllocError> {
+fn after_body(alloc: Global, text: &[u8], row: &[Token]) -> Result<Option<Awaited>, AllocError> {
     if is_end(text, row) {
         return Ok(Some(Awaited::Nothing));
     }
@@ -156,13 +153,13 @@ impl Awaited {
         match self {
             Awaited::Header => Ok(filters_if(is_header_row(text, row))),
             Awaited::Filter => Ok(filters_if(is_filter_row(text, row))),
-            Awaited::Process => behind_process(alloc, text, row),
+            Awaited::Process => after_process(alloc, text, row),
             Awaited::Thread(owner) => Ok(if is_thread_row(text, owner.bytes(), row) {
                 Some(Awaited::Instruction)
             } else {
                 None
             }),
-            Awaited::Instruction => behind_body(alloc, text, row),
+            Awaited::Instruction => after_body(alloc, text, row),
             Awaited::Rest => Ok(schedule_row(text, row).map(|_| Awaited::Nothing)),
             Awaited::Nothing => Ok(None),
         }
@@ -193,7 +190,7 @@ fn first_misfit<'a>(
 ) -> Result<Option<Misfit<'a>>, AllocError> {
     let mut awaited = Awaited::first(which);
     let mut rest = match which {
-        Which::Script => behind_tree(alloc, text, tokens)?,
+        Which::Script => after_tree(alloc, text, tokens)?,
         Which::Policy(_) | Which::Schedule => tokens,
     };
     while let Some((row, behind)) = next_row(rest) {

@@ -5,7 +5,7 @@ use crate::expected::expected_of;
 use crate::position::{before_in_line, found_at, position_in, rest_of_line};
 use st_base::Text;
 use st_calls::{ArgSpec, Rule, args_of};
-use st_lex::{LexFault, TokenKind, tokens};
+use st_lex::{LexFault, TokenKind, hex_digit, tokens};
 use st_policy::{Env, PolicyFault, PolicySet, place_of_fault};
 use std::alloc::{AllocError, Global};
 
@@ -32,16 +32,6 @@ fn byte_of(fault: PolicyFault) -> usize {
         PolicyFault::NoMemory => 0,
     };
     at as usize
-}
-
-fn hex_digit(value: u8) -> u8
-    requires { value < 16 }
-{
-    if value < 10 {
-        b'0' + value
-    } else {
-        b'a' + (value - 10)
-    }
 }
 
 // Appends bytes between quotes, each that doesn't print by its number.
@@ -168,241 +158,255 @@ mod tests {
     use super::*;
     use st_policy::read_policies;
     use st_top::check_env;
+    use std::process::Abort;
     use std::test::Fail;
 
     const HEADER: &[u8] = b"Policy: /bin/a, Emulation: native\n";
 
-    // The line for a text that is refused, or nothing.
-    fn told_by(alloc: Global, env: &Env, text: &[u8]) -> Result<Text, AllocError> {
-        if text.len() > 100_000 {
-            return Ok(Text::new(alloc));
-        }
-        let mut set = PolicySet::new(alloc);
-        match read_policies(alloc, text, env, &mut set) {
-            Ok(()) => Ok(Text::new(alloc)),
-            Err(fault) => match refusal_message(alloc, b"f", text, env, fault)? {
-                Some(line) => Ok(line),
-                None => Ok(Text::new(alloc)),
-            },
-        }
-    }
-
-    fn told(alloc: Global, text: &[u8]) -> Result<Text, AllocError> {
-        let env = check_env(alloc, false)?;
-        told_by(alloc, &env, text)
-    }
-
-    // The header, and so many pieces and a rest behind it.
-    fn repeated(alloc: Global, count: u32, piece: &[u8], rest: &[u8]) -> Result<Text, AllocError> {
-        let mut text = Text::of(alloc, HEADER)?;
+    // A front, and so many pieces.
+    fn repeated(alloc: Global, front: &[u8], count: u32, piece: &[u8]) -> Result<Text, AllocError> {
+        let mut text = Text::of(alloc, front)?;
         for _ in 0..count {
             text.append(piece)?;
         }
-        text.append(rest)?;
         Ok(text)
     }
 
-    // The line for a row behind the header, with ids given or not.
-    fn row_told(alloc: Global, elevate: bool, row: &[u8]) -> Result<Text, AllocError> {
-        let env = check_env(alloc, elevate)?;
-        let text = repeated(alloc, 0, b"", row)?;
-        told_by(alloc, &env, text.bytes())
+    // The line for a text that is refused.
+    fn told<R: Abort + AllocGlobal>(rt: &R, env: &Env, text: &[u8]) -> Result<Text, Fail> {
+        assert!(rt; text.len() < 100_000);
+        let alloc = rt.alloc();
+        let mut set = PolicySet::new(alloc);
+        let refused = read_policies(alloc, text, env, &mut set).err();
+        let line = refusal_message(alloc, b"f", text, env, refused.ok_or("no fault")?)?;
+        Ok(line.ok_or("no line")?)
     }
 
+    // A front and so many pieces, and the line.
     #[test]
-    fn tells_of_headers(rt: HostRuntime) -> Result<(), Fail> {
-        let cases: [(&[u8], &[u8]); 11] = [
+    fn tells_of_texts(rt: HostRuntime) -> Result<(), Fail> {
+        let cases: [(&[u8], u32, &[u8], &[u8]); 13] = [
             (
                 b"native-read: permit",
+                0,
+                b"",
                 b"systrace: f:1:1: found 'native-read', expected a header 'Policy: BINARY, Emulation: native'",
             ),
-            (b"Policy /a", b"systrace: f:1:8: found '/a', expected ':'"),
+            (
+                b"Policy /a",
+                0,
+                b"",
+                b"systrace: f:1:8: found '/a', expected ':'",
+            ),
             (
                 b"Policy: a, Emulation: native",
+                0,
+                b"",
                 b"systrace: f:1:9: found 'a', expected a binary that begins with '/'",
             ),
             (
-                b"Policy: \"a\", Emulation: native",
-                b"systrace: f:1:9: found '\"a\"', expected a binary that begins with '/'",
-            ),
-            (
                 b"Policy: /a Emulation",
+                0,
+                b"",
                 b"systrace: f:1:12: found 'Emulation', expected ','",
             ),
             (
                 b"Policy: /a, emulation",
+                0,
+                b"",
                 b"systrace: f:1:13: found 'emulation', expected 'Emulation'",
             ),
             (
                 b"Policy: /a, Emulation\n",
+                0,
+                b"",
                 b"systrace: f:1:22: found the end of the line, expected ':'",
             ),
             (
                 b"Policy: /a, Emulation:",
+                0,
+                b"",
                 b"systrace: f:1:23: found the end of the file, expected 'native'",
             ),
             (
                 b"Policy: /a, Emulation: linux",
+                0,
+                b"",
                 b"systrace: f:1:24: found 'linux', expected 'native', the only emulation that is supported",
             ),
             (
                 b"Policy: /a, Emulation: native native-read: permit",
+                0,
+                b"",
                 b"systrace: f:1:31: found 'native-read', expected the end of the line",
             ),
             (
                 b"Policy: /a, Emulation: native\nPolicy: \"/a\", Emulation: native",
+                0,
+                b"",
                 b"systrace: f:2:9: found '\"/a\"', expected a binary that has no policy yet",
             ),
+            (
+                b"Policy: \"0123456789abcdefghijklmnopqrstuvwxyzABCDEFGHIJKLMNOPQRSTUVWXYZ\", Emulation",
+                0,
+                b"",
+                b"systrace: f:1:9: found '\"0123456789abcdefghijklmnopqrstuvwxyzABCDEFGHIJKLMNOPQRSTUVW', expected a binary that begins with '/'",
+            ),
+            (
+                HEADER,
+                4097,
+                b"native-read: permit\n",
+                b"systrace: f:4098:1: found 'native-read', expected at most 4096 filters in all",
+            ),
+            (
+                b"Policy: /bin/a, Emulation: native\nnative-read: ",
+                65,
+                b"not ",
+                b"systrace: f:2:270: found 'not', expected at most 64 of 'not', 'and', 'or' and '(' in a filter",
+            ),
         ];
-        for (text, wanted) in cases {
-            assert_eq!(rt; told(rt.alloc(), text)?.bytes(), wanted);
+        let env = check_env(rt.alloc(), false)?;
+        for (front, count, piece, wanted) in cases {
+            let text = repeated(rt.alloc(), front, count, piece)?;
+            assert_eq!(rt; told(&rt, &env, text.bytes())?.bytes(), wanted);
         }
         Ok(())
     }
 
+    // Whether ids are given, a row behind the header, and the line where policies are learnt.
     #[test]
-    fn tells_of_the_front_of_a_filter(rt: HostRuntime) -> Result<(), Fail> {
-        let cases: [(&[u8], &[u8]); 5] = [
+    fn tells_of_rows(rt: HostRuntime) -> Result<(), Fail> {
+        let cases: [(bool, &[u8], &[u8]); 44] = [
             (
+                false,
                 b": permit",
                 b"systrace: f:2:1: found ':', expected a filter 'native-CALL: ...' or a header 'Policy: BINARY, Emulation: native'",
             ),
             (
+                false,
                 b"linux-read: permit",
                 b"systrace: f:2:1: found 'linux-read', expected 'native-' and letters, digits or '_'",
             ),
             (
+                false,
                 b"\nnative-read permit",
                 b"systrace: f:3:13: found 'permit', expected ':'",
             ),
             (
+                false,
                 b"native-read: and",
                 b"systrace: f:2:14: found 'and', expected 'permit', 'deny', 'ask', 'not', 'true', '(' or a label",
             ),
             (
+                false,
                 b"native-read: not permit",
                 b"systrace: f:2:18: found 'permit', expected 'not', 'true', '(' or a label",
             ),
-        ];
-        for (row, wanted) in cases {
-            assert_eq!(rt; row_told(rt.alloc(), false, row)?.bytes(), wanted);
-        }
-        Ok(())
-    }
-
-    #[test]
-    fn tells_of_expressions(rt: HostRuntime) -> Result<(), Fail> {
-        let cases: [(&[u8], &[u8]); 8] = [
             (
+                false,
                 b"native-mmap: prot \"x\"",
                 b"systrace: f:2:19: found '\"x\"', expected '[' or one of match, eq, neq, sub, nsub, inpath",
             ),
             (
+                false,
                 b"native-mmap: prot[x]",
                 b"systrace: f:2:19: found 'x', expected an index below 4294967296",
             ),
             (
+                false,
                 b"native-mmap: prot[1 eq",
                 b"systrace: f:2:21: found 'eq', expected ']'",
             ),
             (
+                false,
                 b"native-mmap: prot[1] is",
                 b"systrace: f:2:22: found 'is', expected one of match, eq, neq, sub, nsub, inpath",
             ),
             (
+                false,
                 b"native-mmap: prot re \"x\"",
                 b"systrace: f:2:19: found 're', expected one of match, eq, neq, sub, nsub, inpath; 're' is not supported",
             ),
             (
+                false,
                 b"native-mmap: prot eq x",
                 b"systrace: f:2:22: found 'x', expected a quoted text",
             ),
             (
+                false,
                 b"native-read: true permit",
                 b"systrace: f:2:19: found 'permit', expected 'and', 'or', 'then', or ')' behind its '('",
             ),
             (
+                false,
                 b"native-read: true then log",
                 b"systrace: f:2:24: found 'log', expected 'permit', 'deny' or 'ask'",
             ),
-        ];
-        for (row, wanted) in cases {
-            assert_eq!(rt; row_told(rt.alloc(), false, row)?.bytes(), wanted);
-        }
-        Ok(())
-    }
-
-    #[test]
-    fn tells_the_arguments_of_a_call(rt: HostRuntime) -> Result<(), Fail> {
-        let cases: [(&[u8], &[u8]); 4] = [
             (
+                false,
                 b"native-fsread: uid eq \"0\" then permit",
                 b"systrace: f:2:16: found 'uid', expected an argument of the call: filename",
             ),
             (
+                false,
                 b"native-rename: filename[2] eq \"/a\" then permit",
                 b"systrace: f:2:16: found 'filename', expected an argument of the call: filename, filename[1]",
             ),
             (
+                false,
                 b"native-getpid: pid eq \"1\" then permit",
                 b"systrace: f:2:16: found 'pid', expected an argument of the call, which has none",
             ),
             (
+                false,
                 b"native-chown: mode[x]",
                 b"systrace: f:2:15: found 'mode', expected an argument of the call: filename, uid, gid",
             ),
-        ];
-        for (row, wanted) in cases {
-            assert_eq!(rt; row_told(rt.alloc(), false, row)?.bytes(), wanted);
-        }
-        Ok(())
-    }
-
-    #[test]
-    fn tells_of_actions(rt: HostRuntime) -> Result<(), Fail> {
-        let cases: [(&[u8], &[u8]); 8] = [
             (
+                false,
                 b"native-read: deny as root",
                 b"systrace: f:2:19: found 'as', expected '[', 'log', ',' or the end of the line",
             ),
             (
+                false,
                 b"native-read: deny[:",
                 b"systrace: f:2:19: found ':', expected the name of an error in small letters, such as eacces",
             ),
             (
+                false,
                 b"native-read: deny[EPERM]",
                 b"systrace: f:2:19: found 'EPERM', expected the name of an error in small letters, such as eacces",
             ),
             (
+                false,
                 b"native-read: deny[eacces",
                 b"systrace: f:2:25: found the end of the file, expected ']'",
             ),
             (
+                false,
                 b"native-read: deny[eacces] if",
                 b"systrace: f:2:27: found 'if', expected 'log', ',' or the end of the line",
             ),
             (
+                false,
                 b"native-read: deny log log",
                 b"systrace: f:2:23: found 'log', expected ',' or the end of the line",
             ),
             (
+                false,
                 b"native-read: permit if",
                 b"systrace: f:2:21: found 'if', expected 'as', 'log', ',' or the end of the line",
             ),
             (
+                false,
                 b"native-read: permit log log",
                 b"systrace: f:2:25: found 'log', expected 'as', ',' or the end of the line",
             ),
-        ];
-        for (row, wanted) in cases {
-            assert_eq!(rt; row_told(rt.alloc(), false, row)?.bytes(), wanted);
-        }
-        Ok(())
-    }
-
-    #[test]
-    fn tells_of_grants(rt: HostRuntime) -> Result<(), Fail> {
-        let cases: [(bool, &[u8], &[u8]); 7] = [
+            (
+                false,
+                b"native-read: ask",
+                b"systrace: f:2:14: found 'ask', expected no 'ask' where policies are learnt",
+            ),
             (
                 true,
                 b"native-bind: permit as ,",
@@ -425,11 +429,6 @@ mod tests {
             ),
             (
                 true,
-                b"native-bind: permit as daemon",
-                b"systrace: f:2:24: found 'daemon', expected an id below 4294967296, or the name of a known user or group",
-            ),
-            (
-                true,
                 b"native-setuid: permit as root",
                 b"systrace: f:2:23: found 'as', expected no 'as' on a call that sets ids",
             ),
@@ -438,119 +437,73 @@ mod tests {
                 b"native-bind: permit as root",
                 b"systrace: f:2:21: found 'as', expected no 'as' where no ids are given by '-c U:G'",
             ),
-        ];
-        for (elevate, row, wanted) in cases {
-            assert_eq!(rt; row_told(rt.alloc(), elevate, row)?.bytes(), wanted);
-        }
-        Ok(())
-    }
-
-    #[test]
-    fn tells_of_predicates(rt: HostRuntime) -> Result<(), Fail> {
-        let cases: [(&[u8], &[u8]); 7] = [
             (
+                false,
                 b"native-read: permit, user",
                 b"systrace: f:2:22: found 'user', expected 'if'",
             ),
             (
+                false,
                 b"native-read: permit, if root",
                 b"systrace: f:2:25: found 'root', expected 'user' or 'group'",
             ),
             (
+                false,
                 b"native-read: permit, if user 0",
                 b"systrace: f:2:30: found '0', expected '=', '!=', '<' or '>'",
             ),
             (
+                false,
                 b"native-read: permit, if user = \"root\"",
                 b"systrace: f:2:32: found '\"root\"', expected the id of a user",
             ),
             (
+                false,
                 b"native-read: permit, if group = (",
                 b"systrace: f:2:33: found '(', expected the id of a group",
             ),
             (
+                false,
                 b"native-read: permit, if user = www",
                 b"systrace: f:2:32: found 'www', expected an id below 4294967296, or the name of a known user or group",
             ),
             (
+                false,
                 b"native-read: permit, if user = 0 log",
                 b"systrace: f:2:34: found 'log', expected the end of the line",
             ),
-        ];
-        for (row, wanted) in cases {
-            assert_eq!(rt; row_told(rt.alloc(), false, row)?.bytes(), wanted);
-        }
-        Ok(())
-    }
-
-    #[test]
-    fn tells_of_what_is_no_token(rt: HostRuntime) -> Result<(), Fail> {
-        let cases: [(&[u8], &[u8]); 5] = [
             (
+                false,
                 b"native-read; permit",
                 b"systrace: f:2:12: found ';', expected a token",
             ),
             (
+                false,
                 b"native-read: \xff",
                 b"systrace: f:2:14: found '\\xff', expected a token",
             ),
             (
+                false,
                 b"native-mmap: prot eq \"/a then permit\n",
                 b"systrace: f:2:22: found '\"/a then permit', expected a text that is closed on its line",
             ),
             (
+                false,
                 b"native-mmap: prot eq \"/a\\x0\" then permit",
                 b"systrace: f:2:25: found '\\x0', expected '\\x' and two hexadecimal digits that aren't 00",
             ),
             (
+                false,
                 b"native-mmap: prot eq \"\\x00a\"",
                 b"systrace: f:2:23: found '\\x00', expected '\\x' and two hexadecimal digits that aren't 00",
             ),
         ];
-        for (row, wanted) in cases {
-            assert_eq!(rt; row_told(rt.alloc(), false, row)?.bytes(), wanted);
+        for (elevate, row, wanted) in cases {
+            let mut env = check_env(rt.alloc(), elevate)?;
+            env.learn = true;
+            let text = repeated(rt.alloc(), HEADER, 1, row)?;
+            assert_eq!(rt; told(&rt, &env, text.bytes())?.bytes(), wanted);
         }
-        Ok(())
-    }
-
-    #[test]
-    fn tells_of_too_many(rt: HostRuntime) -> Result<(), Fail> {
-        let filters = repeated(rt.alloc(), 4097, b"native-read: permit\n", b"")?;
-        assert_eq!(rt;
-            told(rt.alloc(), filters.bytes())?.bytes(),
-            b"systrace: f:4098:1: found 'native-read', expected at most 4096 filters in all".as_slice()
-        );
-        let mut joins = repeated(rt.alloc(), 0, b"", b"native-read: ")?;
-        for _ in 0..65 {
-            joins.append(b"not ")?;
-        }
-        assert_eq!(rt;
-            told(rt.alloc(), joins.bytes())?.bytes(),
-            b"systrace: f:2:270: found 'not', expected at most 64 of 'not', 'and', 'or' and '(' in a filter".as_slice()
-        );
-        Ok(())
-    }
-
-    #[test]
-    fn tells_of_asking_where_policies_are_learnt(rt: HostRuntime) -> Result<(), Fail> {
-        let mut env = check_env(rt.alloc(), false)?;
-        env.learn = true;
-        let text = repeated(rt.alloc(), 0, b"", b"native-read: ask")?;
-        assert_eq!(rt;
-            told_by(rt.alloc(), &env, text.bytes())?.bytes(),
-            b"systrace: f:2:14: found 'ask', expected no 'ask' where policies are learnt".as_slice()
-        );
-        Ok(())
-    }
-
-    #[test]
-    fn shows_the_front_of_a_long_text(rt: HostRuntime) -> Result<(), Fail> {
-        let text =
-            b"Policy: \"0123456789abcdefghijklmnopqrstuvwxyzABCDEFGHIJKLMNOPQRSTUVWXYZ\", Emulation";
-        assert_eq!(rt;
-            told(rt.alloc(), text)?.bytes(),
-            b"systrace: f:1:9: found '\"0123456789abcdefghijklmnopqrstuvwxyzABCDEFGHIJKLMNOPQRSTUVW', expected a binary that begins with '/'".as_slice()
-        );
         Ok(())
     }
 }
