@@ -32,9 +32,34 @@ kept_after false x (part ∷ rest) most h =
     let m = no_shorter (is_component part) part (filter is_component rest) in
     omega (arith, l, m)
 
-length-components : (text : List ℕ) → length (components_of text) ≤ length text
+pub length-components : (text : List ℕ) → length (components_of text) ≤ length text
 length-components [] = omega arith
 length-components (x ∷ xs) = let h = kept_after (x == slash) x (split_at_slashes xs) (length xs) (length-components xs) in omega (arith, h)
+
+-- each component behind the first part takes two bytes at least, a slash and one more
+abbrev IsSpread : Components → ℕ → Type 0
+IsSpread [] size = Unit {0}
+IsSpread (part ∷ rest) size = 2 * length (filter is_component rest) + length part ≤ size
+
+spread_if : (b : Bool) (x : ℕ) (parts : Components) (size : ℕ) → IsSpread parts size → IsSpread (cond b ([] ∷ parts) (onto_first x parts)) (suc size)
+spread_if true x [] size h = omega arith
+spread_if true x ([] ∷ rest) size h = omega (arith, h)
+spread_if true x ((y ∷ part) ∷ rest) size h = let l = longer (is_component (y ∷ part)) (y ∷ part) (filter is_component rest) in omega (arith, h, l)
+spread_if false x [] size h = omega arith
+spread_if false x (part ∷ rest) size h = omega (arith, h)
+
+spread : (text : List ℕ) → IsSpread (split_at_slashes text) (length text)
+spread [] = omega arith
+spread (x ∷ xs) = spread_if (x == slash) x (split_at_slashes xs) (length xs) (spread xs)
+
+few_of_spread : (parts : Components) (size : ℕ) → IsSpread parts size → 2 * length (filter is_component parts) ≤ size + 1
+few_of_spread [] size h = omega arith
+few_of_spread ([] ∷ rest) size h = omega (arith, h)
+few_of_spread ((y ∷ part) ∷ rest) size h = let l = longer (is_component (y ∷ part)) (y ∷ part) (filter is_component rest) in omega (arith, h, l)
+
+-- a text has half as many components as bytes
+pub few_components : (text : List ℕ) → 2 * length (components_of text) ≤ length text + 1
+few_components text = few_of_spread (split_at_slashes text) (length text) (spread text)
 
 length-onward : (rest : Components) → length (rest_after_ups rest) ≤ length rest
 length-onward [] = omega arith
@@ -45,18 +70,19 @@ length-onward (part ∷ rest) = onward_if (is_up part) part rest (length-onward 
 
 -- ---- links that are seen
 
-abbrev pub link_length : SeenText → ℕ
-link_length (Link text) = length text
-link_length Missing = 0
-link_length NotDir = 0
-link_length Dir = 0
-link_length File = 0
+-- how many components the target of a link has that is seen
+abbrev pub link_parts : SeenText → ℕ
+link_parts (Link text) = length (components_of text)
+link_parts Missing = 0
+link_parts NotDir = 0
+link_parts Dir = 0
+link_parts File = 0
 
 abbrev pub AreWithin : ℕ → List SeenText → Type 0
 AreWithin most [] = Unit {0}
-AreWithin most (seen ∷ lookups) = (link_length seen ≤ most) × AreWithin most lookups
+AreWithin most (seen ∷ lookups) = (link_parts seen ≤ most) × AreWithin most lookups
 
-pub AreWithin-push : (most : ℕ) (lookups : List SeenText) (seen : SeenText) → AreWithin most lookups → link_length seen ≤ most → AreWithin most (lookups ++ seen ∷ [])
+pub AreWithin-push : (most : ℕ) (lookups : List SeenText) (seen : SeenText) → AreWithin most lookups → link_parts seen ≤ most → AreWithin most (lookups ++ seen ∷ [])
 AreWithin-push most [] seen all here = (here, tt)
 AreWithin-push most (first ∷ lookups) seen all here = (all.0, AreWithin-push most lookups seen all.1 here)
 
@@ -74,22 +100,22 @@ object_within tree None = omega arith
 object_within tree (Some zero) = omega arith
 object_within tree (Some (suc before)) = longest_within tree.objects before
 
-seen_within : (node : Option Node) → link_length (seen_of node) ≤ node_length node
+seen_within : (node : Option Node) → link_parts (seen_of node) ≤ node_length node
 seen_within None = omega arith
 seen_within (Some node) = of_kind node.kind node.content where
-  of_kind : (kind : Kind) (content : List ℕ) → link_length (seen_of_kind kind content) ≤ length content
+  of_kind : (kind : Kind) (content : List ℕ) → link_parts (seen_of_kind kind content) ≤ length content
   of_kind object_kind.Dir content = omega arith
   of_kind object_kind.File content = omega arith
-  of_kind object_kind.Link content = omega arith
+  of_kind object_kind.Link content = length-components content
 
-after_within : (node : Option Node) (seen : SeenText) (most : ℕ) → link_length seen ≤ most → link_length (seen_through node seen) ≤ most
+after_within : (node : Option Node) (seen : SeenText) (most : ℕ) → link_parts seen ≤ most → link_parts (seen_through node seen) ≤ most
 after_within None seen most h = omega arith
 after_within (Some node) seen most h = if_directory (is_directory node.kind) seen most h where
-  if_directory : (b : Bool) (seen : SeenText) (most : ℕ) → link_length seen ≤ most → link_length (if b then seen else NotDir) ≤ most
+  if_directory : (b : Bool) (seen : SeenText) (most : ℕ) → link_parts seen ≤ most → link_parts (if b then seen else NotDir) ≤ most
   if_directory true seen most h = h
   if_directory false seen most h = omega arith
 
-look_within : (tree : Tree) (done rest : Components) → link_length (look_along tree done rest) ≤ longest_content tree
+look_within : (tree : Tree) (done rest : Components) → link_parts (look_along tree done rest) ≤ longest_content tree
 look_within tree done [] =
     let s = seen_within (node_of tree done) in
     let o = object_within tree (object_of tree done) in
@@ -133,18 +159,18 @@ asks_early done (part ∷ rest) n (Link text ∷ lookups) follow most (suc left)
     let i = asks_early (name_after_ups (start_of_name text done) (components_of text ++ rest)) (rest_after_ups (components_of text ++ rest)) (n + 1) lookups follow most left next all.1 b.1 in
     let o = length-onward (components_of text ++ rest) in
     let j = length-append (components_of text) rest in
-    let k = length-components text in
     let m = all.0 in
-    omega (arith, i, o, j, k, m)
+    omega (arith, i, o, j, m)
 
 -- ---- resolutions
 
-pub start_early : (tree : Tree) (cwd : Components) (text : List ℕ) (follow : Bool) (lookups : List SeenText) → AreWithin (longest_content tree) lookups → needs_lookup (start_walk text cwd follow lookups) ≡ true → length lookups < most_lookups tree text
-start_early tree cwd text follow lookups all h =
+-- a walk that still asks has seen fewer names than the text and the links that were followed have components
+pub start_early : (most : ℕ) (cwd : Components) (text : List ℕ) (follow : Bool) (lookups : List SeenText) → AreWithin most lookups → needs_lookup (start_walk text cwd follow lookups) ≡ true → length lookups < length (components_of text) + 32 * most
+start_early most cwd text follow lookups all h =
     let a = asks_if (nat_eq (length text) 0) _ _ refl h in
     let b = asks_if (has_long_part text) _ _ refl a.1 in
-    let i = asks_early (name_after_ups (start_of_name text cwd) (components_of text)) (rest_after_ups (components_of text)) 0 lookups follow (longest_content tree) 32 refl all b.1 in
-    omega (arith, i, length-onward (components_of text), length-components text)
+    let i = asks_early (name_after_ups (start_of_name text cwd) (components_of text)) (rest_after_ups (components_of text)) 0 lookups follow most 32 refl all b.1 in
+    omega (arith, i, length-onward (components_of text))
 
 asks_no_more : (w : WalkState) → (needs_lookup w ≡ true → ⊥) → needs_lookup w ≡ false
 asks_no_more (Name name) quiet = refl
@@ -158,7 +184,7 @@ asks-walk_through further (Fault errno) step = refl
 
 resolve_on_ends : (looks : ℕ) (tree : Tree) (cwd : Components) (text : List ℕ) (follow : Bool) (lookups : List SeenText) → AreWithin (longest_content tree) lookups → most_lookups tree text ≤ looks + length lookups → needs_lookup (resolve_within looks tree cwd text follow lookups) ≡ false
 resolve_on_ends zero tree cwd text follow lookups all enough =
-    asks_no_more _ (λ h. let early = start_early tree cwd text follow lookups all h in omega arith)
+    asks_no_more _ (λ h. let early = start_early (longest_content tree) cwd text follow lookups all h in let few = length-components text in omega (arith, early, few, enough))
 resolve_on_ends (suc looks) tree cwd text follow lookups all enough =
     asks-walk_through _ _ (λ name. resolve_on_ends looks tree cwd text follow (lookups ++ look tree name ∷ [])
     (AreWithin-push _ lookups (look tree name) all (look_within tree [] name))

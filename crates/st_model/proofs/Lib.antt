@@ -5,3 +5,4 @@ pub mod Objects
 pub mod Ordered
 pub mod Spelled
 pub mod Walks
+pub mod Words

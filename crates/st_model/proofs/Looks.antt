@@ -8,7 +8,7 @@ use Rattle.st_model.specs.declared.object.Kind.TheVariants as object_kind
 use Rattle.st_model.specs.Walk.{needs_lookup, start_walk}
 use Rattle.st_names.specs.declared.seen.SeenText.{SeenText}
 use Rattle.st_names.specs.declared.seen.SeenText.TheVariants.{NotDir}
-use Rattle.st_model.proofs.Endings.{link_length, AreWithin, start_early}
+use Rattle.st_model.proofs.Endings.{link_parts, AreWithin, start_early, length-components}
 
 abbrev pub is_link : Kind → Bool
 is_link object_kind.Dir = false
@@ -40,30 +40,30 @@ at-no_link : (tree : Tree) (o : Option ℕ) → AreNoLinks tree.objects → IsNo
 at-no_link tree None all = tt
 at-no_link tree (Some n) all = numbered-no_link tree n all
 
-kind-no_link : (kind : Kind) (content : List ℕ) → is_link kind ≡ false → link_length (seen_of_kind kind content) ≤ 0
+kind-no_link : (kind : Kind) (content : List ℕ) → is_link kind ≡ false → link_parts (seen_of_kind kind content) ≤ 0
 kind-no_link object_kind.Dir content h = omega arith
 kind-no_link object_kind.File content h = omega arith
 kind-no_link object_kind.Link content h = cc
 
-seen-no_link : (o : Option Node) → IsNoLink o → link_length (seen_of o) ≤ 0
+seen-no_link : (o : Option Node) → IsNoLink o → link_parts (seen_of o) ≤ 0
 seen-no_link None h = omega arith
 seen-no_link (Some node) h = kind-no_link node.kind node.content h
 
-behind-no_link : (o : Option Node) (rest : SeenText) → link_length rest ≤ 0 → link_length (seen_through o rest) ≤ 0
+behind-no_link : (o : Option Node) (rest : SeenText) → link_parts rest ≤ 0 → link_parts (seen_through o rest) ≤ 0
 behind-no_link None rest h = omega arith
 behind-no_link (Some node) rest h = by_kind (is_directory node.kind) rest h where
-  by_kind : (b : Bool) (rest : SeenText) → link_length rest ≤ 0 → link_length (cond b rest NotDir) ≤ 0
+  by_kind : (b : Bool) (rest : SeenText) → link_parts rest ≤ 0 → link_parts (cond b rest NotDir) ≤ 0
   by_kind true rest h = h
   by_kind false rest h = omega arith
 
-look_along-no_link : (tree : Tree) (done rest : Components) → AreNoLinks tree.objects → link_length (look_along tree done rest) ≤ 0
+look_along-no_link : (tree : Tree) (done rest : Components) → AreNoLinks tree.objects → link_parts (look_along tree done rest) ≤ 0
 look_along-no_link tree done [] all = seen-no_link (node_of tree done) (at-no_link tree (object_of tree done) all)
 look_along-no_link tree done (part ∷ rest) all = behind-no_link (node_of tree done) (look_along tree (done ++ part ∷ []) rest) (look_along-no_link tree (done ++ part ∷ []) rest all)
 
 -- no look sees a link
-pub look-no_link : (tree : Tree) (name : Components) → AreNoLinks tree.objects → link_length (look tree name) ≤ 0
+pub look-no_link : (tree : Tree) (name : Components) → AreNoLinks tree.objects → link_parts (look tree name) ≤ 0
 look-no_link tree name all = look_along-no_link tree [] name all
 
 -- where no link was seen, a walk that asks has taken fewer looks than its text has bytes
 pub few_looks : (cwd : Components) (text : List ℕ) (follow : Bool) (lookups : List SeenText) → AreWithin 0 lookups → needs_lookup (start_walk text cwd follow lookups) ≡ true → length lookups < length text
-few_looks cwd text follow lookups all h = let early = start_early root_only cwd text follow lookups all h in omega (arith, early)
+few_looks cwd text follow lookups all h = let early = start_early 0 cwd text follow lookups all h in let few = length-components text in omega (arith, early, few)
