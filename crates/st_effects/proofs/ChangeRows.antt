@@ -213,11 +213,11 @@ rows_after : map (process_after processes 1 1) ([] ∷ (Execed (codes "/bin/b") 
     process true 1 7 ∷ process false 2 22 ∷ []
 rows_after = refl
 
--- the thread that a fork starts belongs to the child; every other has the process that it had, or none
+-- the thread that a fork starts belongs to the child; every other has the process that it had, or none, and so has one that had started
 owners : map (λ t. owner_after_change t 0 (Forked 5 7 12)) (12 ∷ 5 ∷ 7 ∷ 1 ∷ []) ++ map (λ t. owner_after_change t 3 (Forked 5 7 12)) (12 ∷
     5 ∷ 7 ∷ 1 ∷ []) ++
-    map (λ t. owner_after t 3 (Forked 5 7 12 ∷ Forked 6 8 13 ∷ [])) (12 ∷ 13 ∷ 14 ∷ [])
-    ≡ 5 ∷ 0 ∷ 0 ∷ 0 ∷ 5 ∷ 3 ∷ 3 ∷ 3 ∷ 5 ∷ 6 ∷ 3 ∷ []
+    map (λ t. owner_after t 0 (Forked 5 7 12 ∷ Forked 6 8 13 ∷ Forked 7 9 12 ∷ [])) (12 ∷ 13 ∷ 14 ∷ [])
+    ≡ 5 ∷ 0 ∷ 0 ∷ 0 ∷ 3 ∷ 3 ∷ 3 ∷ 3 ∷ 5 ∷ 6 ∷ 0 ∷ []
 owners = refl
 
 owner_stays : map (owner_after_change 1 3) (of_tree ++ of_memory ++ of_row ++ of_ends ++ of_numbers ++ of_new_memory) ++

@@ -47,9 +47,9 @@ process_after_change processes m p before _ = before
 abbrev pub process_after : (ℕ → Process) → ℕ → ℕ → List Change → Process
 process_after processes m p changes = fold (process_after_change processes m p) (processes p) changes
 
--- the process of thread t after a change, 0 before it starts
+-- the process of thread t after a change, 0 before it starts; a thread starts once
 abbrev pub owner_after_change : ℕ → ℕ → Change → ℕ
-owner_after_change t before (Forked pid space tid) = if tid == t then pid else before
+owner_after_change t before (Forked pid space tid) = if tid == t && before == 0 then pid else before
 owner_after_change t before _ = before
 
 -- the process of thread t after changes, 0 before it starts
