@@ -1,11 +1,12 @@
 -- The bytes of spaces once a word is written or a space is added, and the words that bytes make.
-use Rattle.std.proofs.Common.{zero, suc, ◌≡◌, ℕ, ◌+◌, ◌-◌, ◌*◌, ◌/◌, ◌%◌, ◌^◌, ◌<◌, ◌≤◌, inl, inr, Bool, true, false, cond, List, [], ◌∷◌, ◌++◌, length, get_or, set, replicate, eqb, refl, ap, sym, ◌∙◌, arith, subst}
+use Rattle.std.proofs.Common.{zero, suc, ◌≡◌, ℕ, ◌+◌, ◌-◌, ◌*◌, ◌/◌, ◌%◌, ◌^◌, ◌<◌, ◌≤◌, inl, inr, Bool, true, false, cond, List, ◌++◌, length, get_or, set, take, drop, replicate, eqb, length-append, length-drop, refl, ap, sym, ◌∙◌, arith}
+use Rattle.std.proofs.lemmas.Bool.Decides.{leb_tells}
 use Rattle.std.proofs.lemmas.Bool.{cases_eq, eq-eqb, ne_eqb, cond-true, cond-false}
-use Rattle.std.proofs.lemmas.List.{get_or-set_same, get_or-set_other, ext_get_or}
-use Rattle.std.proofs.lemmas.List.FromFn.{get_or-map-range_with_len, map-range_with_len_more}
+use Rattle.std.proofs.lemmas.List.{get_or-set_same, get_or-set_other, get_or_append_left, get_or-append_right, get_or-take, get_or-drop, length-take-le, ext_get_or}
+use Rattle.std.proofs.lemmas.List.FromFn.{get_or-map-range_with_len, length-map-range_with_len}
 use Rattle.std.proofs.lemmas.Nat.{from_le_bytes-to_le_bytes_8}
 use Rattle.std.specs.Int.{w64, to_le_bytes, from_le_bytes}
-use Rattle.st_memory.specs.Memory.{byte_of, byte_in}
+use Rattle.st_memory.specs.Memory.{byte_of}
 use Rattle.st_model.specs.Memory.{bytes_from, word_of, bytes_after_store}
 
 get_or-set : {A : Type 0} (xs : List A) (i : ℕ) (y : A) (s : ℕ) (d : A) → i < length xs → get_or (set xs i y) s d ≡ cond (eqb s i) y (get_or xs s d)
@@ -46,58 +47,29 @@ zeros-at (suc n) zero = refl
 zeros-at (suc n) (suc k) = zeros-at n k
 
 -- words of zero are bytes of zero
-pub byte_of-zeros : (words : List ℕ) (n b : ℕ) → words ≡ replicate n 0 → byte_of words b ≡ 0
-byte_of-zeros words n b is =
-    ap (λ (w : ℕ). get_or (to_le_bytes w64 w) (b % 8) 0) (ap (λ (ws : List ℕ). get_or ws (b / 8) 0) is ∙ zeros-at n (b / 8)) ∙ zeros-at 8 (b % 8)
+pub byte_of-zeros : (n b : ℕ) → byte_of (replicate n 0) b ≡ 0
+byte_of-zeros n b = ap (λ (w : ℕ). get_or (to_le_bytes w64 w) (b % 8) 0) (zeros-at n (b / 8)) ∙ zeros-at 8 (b % 8)
 
--- a space more, of zeros
-more_zeros : (xs : List (List ℕ)) (page : List ℕ) (s b : ℕ) → byte_of page b ≡ 0 → byte_of (get_or (xs ++ page ∷ []) s []) b ≡ byte_of (get_or xs s []) b
-more_zeros [] page zero b zeros = zeros ∙ sym (byte_of-zeros [] 0 b refl)
-more_zeros [] page (suc s) b zeros = refl
-more_zeros (x ∷ xs) page zero b zeros = refl
-more_zeros (x ∷ xs) page (suc s) b zeros = more_zeros xs page s b zeros
-
-pub byte_in-append : (pages : List (List ℕ)) (page : List ℕ) (s b : ℕ) → ((c : ℕ) → byte_of page c ≡ 0) → byte_in (pages ++ page ∷ []) s b ≡ byte_in pages s b
-byte_in-append pages page s b zeros = more_zeros ([] ∷ pages) page s b (zeros b)
-
--- the page of a space
-page-at : (pages : List (List ℕ)) (i : ℕ) (page d : List ℕ) → i < length pages → page ≡ get_or pages i page → get_or pages i d ≡ page
-page-at [] i page d inside is = absurd (omega arith)
-page-at (p ∷ ps) zero page d inside is = sym is
-page-at (p ∷ ps) (suc i) page d inside is = page-at ps i page d (omega arith) is
-
-page_of : (pages : List (List ℕ)) (space : ℕ) (page : List ℕ) → 1 ≤ space → space ≤ length pages → page ≡ get_or pages (space - 1) page → get_or ([] ∷ pages) space [] ≡ page
-page_of pages zero page low high is = absurd (omega arith)
-page_of pages (suc i) page low high is =
-    let same : suc i - 1 ≡ i = omega arith in
-    page-at pages i page [] (omega arith) (subst (λ (n : ℕ). page ≡ get_or pages n page) same is)
-
--- what is made of one page's bytes is made of that space's, and of no other's
-pub byte_in-set : (change : (ℕ → ℕ) → ℕ → ℕ) (pages : List (List ℕ)) (space : ℕ) (page new : List ℕ) → 1 ≤ space → space ≤ length pages → page ≡ get_or pages (space - 1) page
-    → ((b : ℕ) → byte_of new b ≡ change (byte_of page) b) → (s b : ℕ) → byte_in (set pages (space - 1) new) s b ≡ cond (eqb s space) (change (byte_in pages s) b) (byte_in pages s b)
-byte_in-set change pages zero page new low high is made s b = absurd (omega arith)
-byte_in-set change pages (suc i) page new low high is made s b =
-    let same : suc i - 1 ≡ i = omega arith in
-    let old : get_or ([] ∷ pages) (suc i) [] ≡ page = page_of pages (suc i) page low high is in
-    let at : get_or ([] ∷ set pages i new) s [] ≡ cond (eqb s (suc i)) new (get_or ([] ∷ pages) s []) = get_or-set ([] ∷ pages) (suc i) new s [] (omega arith) in
-    rw same (ap (λ (ws : List ℕ). byte_of ws b) at ∙ elim (cases_eq s (suc i)) [
-      | inl e ↦
-          ap (λ (ws : List ℕ). byte_of ws b) (cond-true (eqb s (suc i)) new (get_or ([] ∷ pages) s []) (eq-eqb s (suc i) e))
-          ∙ made b
-          ∙ ap (λ (ws : List ℕ). change (byte_of ws) b) (sym old ∙ ap (λ (n : ℕ). get_or ([] ∷ pages) n []) (sym e))
-          ∙ sym (cond-true (eqb s (suc i)) (change (byte_in pages s) b) (byte_in pages s b) (eq-eqb s (suc i) e))
-      | inr n ↦
-          ap (λ (ws : List ℕ). byte_of ws b) (cond-false (eqb s (suc i)) new (get_or ([] ∷ pages) s []) (ne_eqb s (suc i) n))
-          ∙ sym (cond-false (eqb s (suc i)) (change (byte_in pages s) b) (byte_in pages s b) (ne_eqb s (suc i) n))
+-- bytes, and then those that follow them
+more_bytes : (f : ℕ → ℕ) (at n m : ℕ) (ys : List ℕ) → length ys ≡ m → ((i : ℕ) → i < m → get_or ys i 0 ≡ f (at + n + i)) → bytes_from f at n ++ ys ≡ bytes_from f at (n + m)
+more_bytes f at n m ys size each =
+    let first : length (bytes_from f at n) ≡ n = length-map-range_with_len f at n in
+    ext_get_or 0 (bytes_from f at n ++ ys) (bytes_from f at (n + m)) (length-append (bytes_from f at n) ys ∙ (λ i. first i + size i) ∙ sym (length-map-range_with_len f at (n + m))) (λ i low.
+    let inside : i < n + m = omega (arith, low, length-append (bytes_from f at n) ys, first, size) in
+    elim (leb_tells n i) [
+      | inl past ↦ let behind : n ≤ i = past.1 in get_or-append_right (bytes_from f at n) ys n i 0 first behind ∙ each (i - n) (omega (arith, behind, inside)) ∙ sym (get_or-map-range_with_len f at (n + m) i (at + n + (i - n)) 0 inside (omega (arith, behind)))
+      | inr less ↦ let before : i < n = less.1 in get_or_append_left (bytes_from f at n) ys 0 i (omega (arith, before, first)) ∙ get_or-map-range_with_len f at n i (at + i) 0 before refl ∙ sym (get_or-map-range_with_len f at (n + m) i (at + i) 0 inside refl)
     ])
 
--- what is read of a page is read of its space
-pub read-in : {A : Type 0} (read : (ℕ → ℕ) → A) (pages : List (List ℕ)) (space : ℕ) (page : List ℕ) (x : A) → 1 ≤ space → space ≤ length pages → page ≡ get_or pages (space - 1) page
-    → x ≡ read (byte_of page) → x ≡ read (byte_in pages space)
-read-in read pages space page x low high is value =
-    value ∙ ap (λ (ws : List ℕ). read (byte_of ws)) (sym (page_of pages space page low high is))
-
--- one byte more
-pub bytes_from-more : (bytes : ℕ → ℕ) (at count : ℕ) (text more : List ℕ) (byte : ℕ) → text ≡ bytes_from bytes at count → byte ≡ bytes (at + count) → more ≡ text ++ byte ∷ [] → more ≡ bytes_from bytes at (count + 1)
-bytes_from-more bytes at count text more byte so_far next is =
-    is ∙ (λ i. so_far i ++ next i ∷ []) ∙ sym (map-range_with_len_more bytes at count (at + count) refl)
+-- the bytes of a part of one word more
+pub bytes_from-part : (words : List ℕ) (at done width n from word : ℕ) (text part more : List ℕ) → text ≡ bytes_from (byte_of words) at done → word ≡ get_or words ((at + done) / 8) 0 → part ≡ to_le_bytes w64 word
+    → from ≡ (at + done) % 8 → from + width ≤ 8 → n ≡ width → more ≡ text ++ take n (drop from part) → more ≡ bytes_from (byte_of words) at (done + width)
+bytes_from-part words at done width n from word text part more so_far word_is part_is from_is low n_is is =
+    let whole : List ℕ = to_le_bytes w64 (get_or words ((at + done) / 8) 0) in
+    let eight : length whole ≡ 8 = refl in
+    let new : List ℕ = take width (drop from whole) in
+    let same : take n (drop from part) ≡ new = (λ i. take (n_is i) (drop from (part_is i))) ∙ ap (λ (w : ℕ). take width (drop from (to_le_bytes w64 w))) word_is in
+    let size : length new ≡ width = length-take-le width (drop from whole) (omega (arith, low, eight, length-drop from whole)) in
+    is ∙ (λ i. so_far i ++ same i)
+    ∙ more_bytes (byte_of words) at done width new size (λ i inside.
+    get_or-take width (drop from whole) i 0 inside ∙ get_or-drop from whole i 0 ∙ sym (byte_of-at words ((at + done) / 8) (from + i) (at + done + i) (omega (arith, inside, low)) (omega (arith, from_is))))

@@ -1,7 +1,7 @@
 ghost use Rattle.std.specs.Prelude.{◌≡◌, ℕ, ◌+◌, ◌%◌, ◌<◌, ◌≤◌, length, slice_index, IfOk};
 ghost use Rattle.std.specs.Int.{w64, to_le_bytes};
-ghost use Rattle.st_memory.specs.Memory.{byte_of};
-ghost use Rattle.st_model.specs.Memory.{bytes_after_put, bytes_after_store, word_of};
+ghost use Rattle.st_memory.specs.Memory.{byte_of, zeros};
+ghost use Rattle.st_model.specs.Memory.{bytes_after_put, bytes_after_store, bytes_from, word_of};
 
 use st_model::{SPACE_BYTES, SPACE_WORDS};
 use std::alloc::{AllocError, Global};
@@ -27,7 +27,7 @@ impl Model for Page {
 impl Page {
     /// A space of zeros.
     pub fn zeros(alloc: Global) -> Result<Self, AllocError>
-        ensures { IfOk result (λ page. (b : ℕ) → byte_of page b ≡ 0) }
+        ensures { IfOk result (λ page. page ≡ zeros) }
     {
         Ok(Page {
             words: vec![in alloc; 0; SPACE_WORDS as usize]?,
@@ -42,12 +42,30 @@ impl Page {
         self.words[place]
     }
 
-    /// The byte of this number.
-    pub fn byte(&self, at: usize) -> u8
-        requires { at < SPACE_BYTES }
-        ensures { result ≡ byte_of self.now at }
+    /// So many bytes from this one on, a word at a time into room that is made once.
+    pub fn bytes(&self, alloc: Global, at: usize, count: usize) -> Result<Vec<u8>, AllocError>
+        requires { 0 < count → at + count ≤ SPACE_BYTES }
+        ensures { IfOk result (λ bytes. bytes.items ≡ bytes_from (byte_of self.now) at count) }
     {
-        self.words[at / 8].to_le_bytes()[at % 8]
+        let mut bytes = Vec::with_capacity(alloc, count)?;
+        let mut done = 0;
+        while done < count {
+            let word = self.words[(at + done) / 8].to_le_bytes();
+            let from = (at + done) % 8;
+            let width = (8 - from).min(count - done);
+            bytes.extend_from_slice(&word[from..from + width])?;
+            done += width;
+        }
+        Ok(bytes)
+    }
+
+    /// An equal one in memory of its own.
+    pub fn copy(&self, alloc: Global) -> Result<Self, AllocError>
+        ensures { IfOk result (λ page. page ≡ self.now) }
+    {
+        Ok(Page {
+            words: Vec::from_slice(alloc, &self.words)?,
+        })
     }
 
     /// Stores a word at a place.

@@ -1,5 +1,5 @@
-ghost use Rattle.std.specs.Prelude.{◌≡◌, ℕ, ◌+◌, ◌-◌, ◌^◌, ◌<◌, ◌≤◌, ◌↔◌, [], length, IsTrue, IsNone, IsErr, IsErrOf, IfSome, IfOk, IfErr, OnOk, OnErr};
-ghost use Rattle.st_memory.specs.Memory.{byte_in, IsMade, IsOutside};
+ghost use Rattle.std.specs.Prelude.{◌≡◌, ℕ, suc, ◌-◌, ◌^◌, ◌<◌, ◌≤◌, ◌↔◌, ◌==◌, if◌then◌else◌, List, Option, Some, true, false, [], ◌∷◌, ◌++◌, length, IsTrue, IsNone, IsErr, IsErrOf, IfSome, IfOk, IfErr, OnOk, OnErr};
+ghost use Rattle.st_memory.specs.Memory.{byte_in, is_live, next_space, spaces_after_copy, spaces_after_give_up, spaces_after_make, words_at, ChangesLive, IsOutside, KeepsSpaces, Memories};
 ghost use Rattle.st_model.specs.Memory.{bytes_from, memory_after_put, memory_after_store, word_of};
 
 use crate::page::Page;
@@ -30,17 +30,18 @@ impl From<AllocError> for MemFault {
     }
 }
 
-/// The memories of processes: each space has 8,192 words, little-endian, and is named by its number, from 1.
+/// The memories of processes: each space has 8,192 words, little-endian, and is named by its number, from 1. A number is given
+/// once, unless its space is unmade.
 #[derive(Debug, Drop)]
 pub struct Spaces {
-    // Space s stands at s - 1.
-    pages: Vec<Page>,
+    // Space s stands at s - 1; where it was given up, nothing does.
+    pages: Vec<Option<Page>>,
 }
 
 impl Model for Spaces {
-    ghost use Rattle.std.specs.Prelude.{List, ℕ};
+    ghost use Rattle.st_memory.specs.Memory.{Memories};
 
-    ghost Value = { List (List ℕ) };
+    ghost Value = { Memories };
 
     ghost view = { λ s. s.pages.items };
 }
@@ -55,28 +56,82 @@ impl Spaces {
         }
     }
 
-    /// Makes a space of zeros; its number is one more than that of the space made before.
+    /// Makes a space of zeros; its number is one more than that of the space made before. Without memory nothing changes.
     pub fn make(&mut self, alloc: Global) -> Result<Space, AllocError>
-        requires { length self.old < 2 ^ 32 - 1 }
-        ensures number { IfOk result (λ space. space ≡ length self.old + 1) }
-        ensures made { OnOk result (length self.new ≡ length self.old + 1) }
+        requires { next_space self.old < 2 ^ 32 }
+        ensures number { IfOk result (λ space. space ≡ next_space self.old) }
+        ensures ok { OnOk result (self.new ≡ spaces_after_make self.old) }
+        ensures next { OnOk result (next_space self.new ≡ suc (next_space self.old)) }
+        ensures live { OnOk result (ChangesLive self.old (next_space self.old) true self.new) }
         ensures zeros { IfOk result (λ space. (b : ℕ) → byte_in self.new space b ≡ 0) }
         ensures others { (s b : ℕ) → byte_in self.new s b ≡ byte_in self.old s b }
         ensures err { OnErr result (self.new ≡ self.old) }
     {
         let page = Page::zeros(alloc)?;
-        self.pages.push(page)?;
+        self.pages.push(Some(page))?;
         Ok(self.pages.len() as Space)
+    }
+
+    /// Makes a space with the bytes of this one, as fork(2) does; its number is one more than that of the space made before.
+    /// Without memory nothing changes.
+    pub fn copy_space(&mut self, alloc: Global, from: Space) -> Result<Space, AllocError>
+        requires live { is_live self.old from ≡ true }
+        requires room { next_space self.old < 2 ^ 32 }
+        ensures number { IfOk result (λ space. space ≡ next_space self.old) }
+        ensures ok { OnOk result (self.new ≡ spaces_after_copy self.old from) }
+        ensures next { OnOk result (next_space self.new ≡ suc (next_space self.old)) }
+        ensures live { OnOk result (ChangesLive self.old (next_space self.old) true self.new) }
+        ensures bytes { OnOk result ((s b : ℕ) → byte_in self.new s b ≡ (if s == next_space self.old then byte_in self.old from b else byte_in self.old s b)) }
+        ensures err { OnErr result (self.new ≡ self.old) }
+    {
+        let page = self.page(from).copy(alloc)?;
+        self.pages.push(Some(page))?;
+        Ok(self.pages.len() as Space)
+    }
+
+    /// Frees the memory of a space, whose number names none from then on.
+    pub fn give_up(&mut self, space: Space)
+        requires { is_live self.old space ≡ true }
+        ensures spaces { self.new ≡ spaces_after_give_up self.old space }
+        ensures next { next_space self.new ≡ next_space self.old }
+        ensures live { ChangesLive self.old space false self.new }
+        ensures others { (s b : ℕ) → byte_in self.new s b ≡ (if s == space then 0 else byte_in self.old s b) }
+    {
+        self.pages[space as usize - 1] = None;
+    }
+
+    /// Takes back the space that was made last, where nothing was written since: all is then as before it was made, and its
+    /// number is the next one again.
+    pub fn unmake(&mut self, space: Space)
+        requires live { is_live self.old space ≡ true }
+        requires last { suc space ≡ next_space self.old }
+        ensures undoes { (before : Memories) (words : List ℕ) → self.old ≡ before ++ Some words ∷ [] → self.new ≡ before }
+        ensures next { next_space self.new ≡ space }
+        ensures live { ChangesLive self.old space false self.new }
+        ensures others { (s b : ℕ) → byte_in self.new s b ≡ (if s == space then 0 else byte_in self.old s b) }
+    {
+        self.pages.truncate(space as usize - 1);
+    }
+
+    // The words of a live space.
+    fn page(&self, space: Space) -> &Page
+        requires { is_live self.now space ≡ true }
+        ensures { words_at self.now space ≡ Some result.now }
+    {
+        match &self.pages[space as usize - 1] {
+            Some(page) => page,
+            None => unreachable!(),
+        }
     }
 
     /// The word at a place of a space.
     pub fn word(&self, space: Space, place: u32) -> Option<u64>
-        requires { IsMade self.now space }
+        requires { is_live self.now space ≡ true }
         ensures none { IsNone result ↔ (SPACE_WORDS ≤ place) }
         ensures value { IfSome result (λ word. word ≡ word_of (byte_in self.now space) place) }
     {
         if place < SPACE_WORDS {
-            Some(self.pages[space as usize - 1].word(place as usize))
+            Some(self.page(space).word(place as usize))
         } else {
             None
         }
@@ -84,9 +139,9 @@ impl Spaces {
 
     /// Stores a word at a place of a space, and changes nothing else.
     pub fn put_word(&mut self, space: Space, place: u32, word: u64) -> Result<(), MemFault>
-        requires { IsMade self.old space }
+        requires { is_live self.old space ≡ true }
         ensures ok { OnOk result ((s b : ℕ) → byte_in self.new s b ≡ memory_after_store (byte_in self.old) space place word s b) }
-        ensures made { length self.new ≡ length self.old }
+        ensures spaces { KeepsSpaces self.old self.new }
 
         ensures outside { IsErr result ↔ (SPACE_WORDS ≤ place) }
         ensures fault { IfErr result (λ fault. fault ≡ MemFault.Outside) }
@@ -95,15 +150,17 @@ impl Spaces {
         if place >= SPACE_WORDS {
             return Err(MemFault::Outside);
         }
-        self.pages[space as usize - 1].put_word(place as usize, word);
+        if let Some(page) = &mut self.pages[space as usize - 1] {
+            page.put_word(place as usize, word);
+        }
         Ok(())
     }
 
     /// Puts bytes into a space, from this byte on, and changes nothing else.
     pub fn put_bytes(&mut self, space: Space, at: u64, bytes: &[u8]) -> Result<(), MemFault>
-        requires { IsMade self.old space }
+        requires { is_live self.old space ≡ true }
         ensures ok { OnOk result ((s b : ℕ) → byte_in self.new s b ≡ memory_after_put (byte_in self.old) space at bytes.now s b) }
-        ensures made { length self.new ≡ length self.old }
+        ensures spaces { KeepsSpaces self.old self.new }
 
         ensures outside { IsErr result ↔ IsOutside at (length bytes.now) }
         ensures fault { IfErr result (λ fault. fault ≡ MemFault.Outside) }
@@ -112,25 +169,23 @@ impl Spaces {
         if is_outside(at, bytes.len() as u64) {
             return Err(MemFault::Outside);
         }
-        self.pages[space as usize - 1].put_bytes(at as usize, bytes);
+        if let Some(page) = &mut self.pages[space as usize - 1] {
+            page.put_bytes(at as usize, bytes);
+        }
         Ok(())
     }
 
     /// So many bytes of a space, from this one on.
     pub fn bytes(&self, alloc: Global, space: Space, at: u64, count: u64) -> Result<Text, MemFault>
-        requires { IsMade self.now space }
+        requires { is_live self.now space ≡ true }
         ensures ok { IfOk result (λ text. text ≡ bytes_from (byte_in self.now space) at count) }
         ensures outside { IsErrOf result MemFault.Outside ↔ IsOutside at count }
     {
         if is_outside(at, count) {
             return Err(MemFault::Outside);
         }
-        let page = &self.pages[space as usize - 1];
-        let mut text = Text::new(alloc);
-        for i in 0..count {
-            text.push(page.byte((at + i) as usize))?;
-        }
-        Ok(text)
+        let bytes = self.page(space).bytes(alloc, at as usize, count as usize)?;
+        Ok(Text::of(alloc, &bytes)?)
     }
 }
 

@@ -90,3 +90,59 @@ fn texts_cross_words(rt: HostRuntime) -> Result<(), Fail> {
     }
     Ok(())
 }
+
+#[test]
+fn a_copy_is_apart_from_its_origin(rt: HostRuntime) -> Result<(), Fail> {
+    let alloc = rt.alloc();
+    let mut spaces = Spaces::new(alloc);
+    let first = spaces.make(alloc)?;
+    spaces.put_word(first, 7, 9)?;
+    let second = spaces.copy_space(alloc, first)?;
+    assert_eq!(rt; second, 2);
+    spaces.put_word(first, 8, 10)?;
+    spaces.put_word(second, 7, 11)?;
+    let words = [
+        (first, 7, 9),
+        (first, 8, 10),
+        (second, 7, 11),
+        (second, 8, 0),
+    ];
+    for (space, place, word) in words {
+        assert_eq!(rt;
+            spaces.word(space, place),
+            Some(word),
+            "at {place} of {space}"
+        );
+    }
+    Ok(())
+}
+
+#[test]
+fn a_space_given_up_leaves_its_neighbours(rt: HostRuntime) -> Result<(), Fail> {
+    let alloc = rt.alloc();
+    let mut spaces = Spaces::new(alloc);
+    let first = spaces.make(alloc)?;
+    let second = spaces.copy_space(alloc, first)?;
+    let third = spaces.make(alloc)?;
+    spaces.put_word(first, 0, 1)?;
+    spaces.put_word(third, 0, 3)?;
+    spaces.give_up(second);
+    assert_eq!(rt; spaces.word(first, 0), Some(1));
+    assert_eq!(rt; spaces.word(third, 0), Some(3));
+    assert_eq!(rt; spaces.make(alloc)?, 4);
+    Ok(())
+}
+
+#[test]
+fn a_space_unmade_gives_its_number_back(rt: HostRuntime) -> Result<(), Fail> {
+    let alloc = rt.alloc();
+    let mut spaces = Spaces::new(alloc);
+    let first = spaces.make(alloc)?;
+    spaces.put_word(first, 0, 1)?;
+    let second = spaces.copy_space(alloc, first)?;
+    spaces.unmake(second);
+    assert_eq!(rt; spaces.make(alloc)?, 2);
+    assert_eq!(rt; spaces.word(second, 0), Some(0));
+    assert_eq!(rt; spaces.word(first, 0), Some(1));
+    Ok(())
+}
