@@ -1,0 +1,4 @@
+mod Lookups
+mod Ordered
+mod Runs
+mod Whole

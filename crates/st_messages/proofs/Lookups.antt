@@ -1,0 +1,121 @@
+-- Which message is found under a number, once one has another state, is taken out or is put in.
+use Rattle.std.proofs.Common.{zero, suc, ◌≡◌, ◌≢◌, ℕ, ◌<◌, ◌≤◌, Bool, true, false, cond, ◌==◌, List, [], ◌∷◌, ◌++◌, length, get_or, set, Option, Some, None, inl, inr, refl, ap, sym, ◌∙◌, subst, arith}
+use Rattle.std.proofs.lemmas.Bool.{cases_eq, eq-eqb, ne_eqb, eqb-true, ltb-false, true≢false}
+use Rattle.std.proofs.lemmas.List.Folds.{find-append, find_at}
+use Rattle.std.proofs.lemmas.List.Quantifiers.{position-Some}
+use Rattle.std.proofs.lemmas.Option.{none-some, slice_get_past}
+use Rattle.std.specs.List.{position, position_or_len}
+use Rattle.std.specs.Option.{option_map, option_or}
+use Rattle.std.specs.Prelude.{nat_lt}
+use Rattle.st_messages.specs.declared.message.MsgState.{MsgState}
+use Rattle.st_messages.specs.declared.message.Message.{Message}
+use Rattle.st_messages.specs.Messages.{has_number, message_in, waiting_message, with_state_in, without_number}
+
+cond_none : (b : Bool) → cond {A = Option Message} b None None ≡ None
+cond_none true = refl
+cond_none false = refl
+
+option_or_none : (o : Option Message) → option_or o None ≡ o
+option_or_none None = refl
+option_or_none (Some m) = refl
+
+-- ---- a message has another state
+
+abbrev pub moved : MsgState → Message → Message
+moved state message = record message { state = state }
+
+-- the state of the message at a place is changed
+pub set-at : (live : List Message) (seq : ℕ) (state : MsgState) (i : ℕ) (d : Message) → i < length live → has_number seq (get_or live i d) ≡ true → ((k : ℕ) → k < i → has_number seq (get_or live k d) ≡ false)
+    → set live i (record (get_or live i d) { state = state }) ≡ with_state_in live seq state
+set-at [] seq state i d inside here before = absurd (omega arith)
+set-at (m ∷ live) seq state zero d inside here before = rw here refl
+set-at (m ∷ live) seq state (suc i) d inside here before =
+    rw (before 0 (omega arith)) (ap (λ ms. m ∷ ms) (set-at live seq state i d (omega arith) here (λ k below. before (suc k) (omega arith))))
+
+found_moved-by : (m : Message) (live : List Message) (seq other : ℕ) (state : MsgState) (a b : Bool) → (m.seq == seq) ≡ a → (m.seq == other) ≡ b
+    → message_in (with_state_in live seq state) other ≡ cond (other == seq) (option_map (moved state) (message_in live seq)) (message_in live other)
+    → message_in (with_state_in (m ∷ live) seq state) other ≡ cond (other == seq) (option_map (moved state) (message_in (m ∷ live) seq)) (message_in (m ∷ live) other)
+found_moved-by m live seq other state true true is_seq is_other more =
+    let same : (other == seq) ≡ true = eq-eqb other seq (sym (eqb-true m.seq other is_other) ∙ eqb-true m.seq seq is_seq) in
+    rw (is_seq, same, is_other) refl
+found_moved-by m live seq other state true false is_seq is_other more =
+    let apart : (other == seq) ≡ false = ne_eqb other seq (λ e. true≢false (sym (eq-eqb m.seq other (eqb-true m.seq seq is_seq ∙ sym e)) ∙ is_other)) in
+    rw (is_seq, apart, is_other) refl
+found_moved-by m live seq other state false true is_seq is_other more =
+    let apart : (other == seq) ≡ false = ne_eqb other seq (λ e. true≢false (sym (eq-eqb m.seq seq (eqb-true m.seq other is_other ∙ e)) ∙ is_seq)) in
+    rw (is_seq, apart, is_other) refl
+found_moved-by m live seq other state false false is_seq is_other more = rw (is_seq, is_other) more
+
+-- the message of that number, changed, and each other as it was
+pub found_moved : (live : List Message) (seq other : ℕ) (state : MsgState) → message_in (with_state_in live seq state) other ≡ cond (other == seq) (option_map (moved state) (message_in live seq)) (message_in live other)
+found_moved [] seq other state = sym (cond_none (other == seq))
+found_moved (m ∷ live) seq other state = found_moved-by m live seq other state (m.seq == seq) (m.seq == other) refl refl (found_moved live seq other state)
+
+-- ---- where a message stands
+
+nowhere : (n count : ℕ) (b : Bool) → nat_lt n count ≡ b → cond b (Some n) None ≡ None → count ≤ n
+nowhere n count true is none = absurd (none-some n (sym none))
+nowhere n count false is none = ltb-false n count is
+
+-- a number that stands nowhere isn't live
+pub placed_nowhere : (live : List Message) (seq : ℕ) → position (has_number seq) live ≡ None → message_in live seq ≡ None
+placed_nowhere live seq none =
+    let n = position_or_len (has_number seq) live in
+    find_at (has_number seq) live ∙ slice_get_past live n (nowhere n (length live) (nat_lt n (length live)) refl none)
+
+-- the state of a message is changed where it stands
+pub set-placed : (live : List Message) (seq : ℕ) (state : MsgState) (i : ℕ) (m : Message) → position (has_number seq) live ≡ Some i → m ≡ get_or live i m → set live i (record m { state = state }) ≡ with_state_in live seq state
+set-placed live seq state i m is m_is =
+    let first = position-Some (has_number seq) live i m is in
+    subst (λ (x : Message). set live i (record x { state = state }) ≡ with_state_in live seq state) (sym m_is) (set-at live seq state i m first.0 first.1 first.2)
+
+-- ---- a message is taken out
+
+not_longer : (live : List Message) (seq : ℕ) → length (without_number live seq) ≤ length live
+not_longer [] seq = omega arith
+not_longer (m ∷ live) seq = elim (cases_eq m.seq seq) [
+  | inl e ↦ rw (eq-eqb m.seq seq e) (omega (arith, not_longer live seq))
+  | inr ne ↦ rw (ne_eqb m.seq seq ne) (omega (arith, not_longer live seq))
+]
+
+-- what is left of messages, once one is taken out
+pub shorter : (live : List Message) (seq : ℕ) (message : Message) → message_in live seq ≡ Some message → length (without_number live seq) < length live
+shorter [] seq message is = absurd (none-some message is)
+shorter (m ∷ live) seq message is = elim (cases_eq m.seq seq) [
+  | inl e ↦ rw (eq-eqb m.seq seq e) (omega (arith, not_longer live seq))
+  | inr ne ↦ let apart = ne_eqb m.seq seq ne in rw apart (omega (arith, shorter live seq message (rw apart at is)))
+]
+
+found_without-by : (m : Message) (live : List Message) (seq other : ℕ) (a b : Bool) → (m.seq == seq) ≡ a → (m.seq == other) ≡ b
+    → message_in (without_number live seq) other ≡ cond (other == seq) None (message_in live other)
+    → message_in (without_number (m ∷ live) seq) other ≡ cond (other == seq) None (message_in (m ∷ live) other)
+found_without-by m live seq other true true is_seq is_other more =
+    let same : (other == seq) ≡ true = eq-eqb other seq (sym (eqb-true m.seq other is_other) ∙ eqb-true m.seq seq is_seq) in
+    let none : message_in (without_number live seq) other ≡ None = more ∙ rw same refl in
+    rw (is_seq, same) none
+found_without-by m live seq other true false is_seq is_other more = rw (is_seq, is_other) more
+found_without-by m live seq other false true is_seq is_other more =
+    let apart : (other == seq) ≡ false = ne_eqb other seq (λ e. true≢false (sym (eq-eqb m.seq seq (eqb-true m.seq other is_other ∙ e)) ∙ is_seq)) in
+    rw (is_seq, apart, is_other) refl
+found_without-by m live seq other false false is_seq is_other more = rw (is_seq, is_other) more
+
+-- none under that number, and each other as it was
+pub found_without : (live : List Message) (seq other : ℕ) → message_in (without_number live seq) other ≡ cond (other == seq) None (message_in live other)
+found_without [] seq other = sym (cond_none (other == seq))
+found_without (m ∷ live) seq other = found_without-by m live seq other (m.seq == seq) (m.seq == other) refl refl (found_without live seq other)
+
+-- ---- a message is put in
+
+-- each other number as it was
+pub found_other : (live : List Message) (seq tid other : ℕ) → other ≢ seq → message_in (live ++ waiting_message seq tid ∷ []) other ≡ message_in live other
+found_other live seq tid other apart =
+    find-append (has_number other) live (waiting_message seq tid ∷ []) ∙ rw (ne_eqb seq other (λ e. apart (sym e))) (option_or_none (message_in live other))
+
+-- the message under its number, and each other as it was
+pub found_posted : (live : List Message) (seq tid other : ℕ) → message_in live seq ≡ None → message_in (live ++ waiting_message seq tid ∷ []) other ≡ cond (other == seq) (Some (waiting_message seq tid)) (message_in live other)
+found_posted live seq tid other none = elim (cases_eq other seq) [
+  | inl e ↦
+      let none_there : message_in live other ≡ None = ap (message_in live) e ∙ none in
+      find-append (has_number other) live (waiting_message seq tid ∷ []) ∙ rw (none_there, eq-eqb seq other (sym e), eq-eqb other seq e) refl
+  | inr ne ↦ found_other live seq tid other ne ∙ rw (ne_eqb other seq ne) refl
+]

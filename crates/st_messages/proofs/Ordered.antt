@@ -1,0 +1,131 @@
+-- Messages in the order of their numbers: between which numbers they are, and which waits first.
+use Rattle.std.proofs.Common.{suc, ◌≡◌, ◌≢◌, ℕ, ◌<◌, ◌≤◌, Bool, true, false, ◌==◌, List, [], ◌∷◌, ◌++◌, Option, Some, None, inl, inr, refl, ap, sym, ◌∙◌, subst, arith}
+use Rattle.std.proofs.lemmas.Bool.{cases_eq, eq-eqb, ne_eqb, true≢false}
+use Rattle.std.proofs.lemmas.Option.{none-some, same_Some}
+use Rattle.std.specs.List.{find}
+use Rattle.std.specs.Option.{option_map}
+use Rattle.st_messages.specs.declared.message.MsgState.{MsgState}
+use Rattle.st_messages.specs.declared.message.MsgState.TheVariants.{Waiting, Claimed, Answered, Faulted}
+use Rattle.st_messages.specs.declared.message.Message.{Message}
+use Rattle.st_messages.specs.Messages.{AreBetween, is_waiting, is_waiting_state, message_in, waiting_message, with_state_in, without_number}
+
+-- ---- the order stays
+
+pub between-weaken : (live : List Message) (low from to : ℕ) → low ≤ from → AreBetween from live to → AreBetween low live to
+between-weaken [] low from to le are = omega (arith, are)
+between-weaken (m ∷ live) low from to le are = (omega (arith, are.0), are.1)
+
+pub between-moved : (live : List Message) (seq : ℕ) (state : MsgState) (from to : ℕ) → AreBetween from live to → AreBetween from (with_state_in live seq state) to
+between-moved [] seq state from to are = are
+between-moved (m ∷ live) seq state from to are = elim (cases_eq m.seq seq) [
+  | inl e ↦ rw (eq-eqb m.seq seq e) are
+  | inr ne ↦ rw (ne_eqb m.seq seq ne) (are.0, between-moved live seq state (suc m.seq) to are.1)
+]
+
+pub between-without : (live : List Message) (seq from to : ℕ) → AreBetween from live to → AreBetween from (without_number live seq) to
+between-without [] seq from to are = are
+between-without (m ∷ live) seq from to are = elim (cases_eq m.seq seq) [
+  | inl e ↦ rw (eq-eqb m.seq seq e) (between-without live seq from to (between-weaken live from (suc m.seq) to (omega (arith, are.0)) are.1))
+  | inr ne ↦ rw (ne_eqb m.seq seq ne) (are.0, between-without live seq (suc m.seq) to are.1)
+]
+
+pub between-posted : (live : List Message) (tid from to : ℕ) → AreBetween from live to → AreBetween from (live ++ waiting_message to tid ∷ []) (suc to)
+between-posted [] tid from to are = (are, omega arith)
+between-posted (m ∷ live) tid from to are = (are.0, between-posted live tid (suc m.seq) to are.1)
+
+-- ---- which numbers are found
+
+pub none_before : (live : List Message) (from to seq : ℕ) → AreBetween from live to → seq < from → message_in live seq ≡ None
+none_before [] from to seq are below = refl
+none_before (m ∷ live) from to seq are below =
+    let apart : (m.seq == seq) ≡ false = ne_eqb m.seq seq (λ e. omega (arith, e, are.0)) in
+    rw apart (none_before live (suc m.seq) to seq are.1 (omega (arith, are.0)))
+
+pub upper : (live : List Message) (from to : ℕ) → AreBetween from live to → from ≤ to
+upper [] from to are = are
+upper (m ∷ live) from to are = omega (arith, are.0, upper live (suc m.seq) to are.1)
+
+pub none_behind : (live : List Message) (from to seq : ℕ) → AreBetween from live to → to ≤ seq → message_in live seq ≡ None
+none_behind [] from to seq are above = refl
+none_behind (m ∷ live) from to seq are above =
+    let apart : (m.seq == seq) ≡ false = ne_eqb m.seq seq (λ e. omega (arith, e, upper live (suc m.seq) to are.1)) in
+    rw apart (none_behind live (suc m.seq) to seq are.1 above)
+
+-- a number that is found is below the next one
+pub found_below : (live : List Message) (from to seq : ℕ) (m : Message) → AreBetween from live to → message_in live seq ≡ Some m → seq < to
+found_below [] from to seq m are is = absurd (none-some m is)
+found_below (x ∷ live) from to seq m are is = elim (cases_eq x.seq seq) [
+  | inl e ↦ omega (arith, e, upper live (suc x.seq) to are.1)
+  | inr ne ↦ found_below live (suc x.seq) to seq m are.1 (rw (ne_eqb x.seq seq ne) at is)
+]
+
+-- ---- which waits first
+
+-- the state of a message that waits
+waits : (state : MsgState) → is_waiting_state state ≡ true → state ≡ Waiting
+waits Waiting is = refl
+waits (Claimed worker) is = absurd cc
+waits (Answered verdict) is = absurd cc
+waits (Faulted errno) is = absurd cc
+
+abbrev pub state_in : List Message → ℕ → Option MsgState
+state_in live seq = option_map (λ (message : Message). message.state) (message_in live seq)
+
+-- a number that is found is not below the first
+found_above : (live : List Message) (from to seq : ℕ) (state : MsgState) → AreBetween from live to → state_in live seq ≡ Some state → from ≤ seq
+found_above [] from to seq state are is = absurd (none-some state is)
+found_above (m ∷ live) from to seq state are is = elim (cases_eq m.seq seq) [
+  | inl e ↦ omega (arith, e, are.0)
+  | inr ne ↦ omega (arith, are.0, found_above live (suc m.seq) to seq state are.1 (rw (ne_eqb m.seq seq ne) at is))
+]
+
+none_waits-by : (m : Message) (live : List Message) (seq : ℕ) (w b : Bool) → is_waiting m ≡ w → (m.seq == seq) ≡ b → find is_waiting (m ∷ live) ≡ None → state_in (m ∷ live) seq ≡ Some Waiting
+    → (find is_waiting live ≡ None → state_in live seq ≡ Some Waiting → ⊥) → ⊥
+none_waits-by m live seq true b w_is b_is none is more = none-some m (sym none ∙ rw w_is refl)
+none_waits-by m live seq false true w_is b_is none is more =
+    let state : m.state ≡ Waiting = same_Some m.state Waiting (rw b_is at is) in
+    true≢false (sym (ap is_waiting_state state) ∙ w_is)
+none_waits-by m live seq false false w_is b_is none is more = more (rw w_is at none) (rw b_is at is)
+
+pub none_waits : (live : List Message) (seq : ℕ) → find is_waiting live ≡ None → state_in live seq ≢ Some Waiting
+none_waits [] seq none is = none-some Waiting is
+none_waits (m ∷ live) seq none is = none_waits-by m live seq (is_waiting m) (m.seq == seq) refl refl none is (none_waits live seq)
+
+-- a message that waits, under its number, and no smaller number does
+pub record IsFirst (live : List Message) (first : Message) : Type 0 where
+  pub found : message_in live first.seq ≡ Some first
+  pub waits : first.state ≡ Waiting
+  pub least : (other : ℕ) → state_in live other ≡ Some Waiting → first.seq ≤ other
+
+first_waits-by : (m : Message) (live : List Message) (from to : ℕ) (first : Message) (w : Bool) → is_waiting m ≡ w → AreBetween from (m ∷ live) to → find is_waiting (m ∷ live) ≡ Some first
+    → (find is_waiting live ≡ Some first → (suc m.seq ≤ first.seq) × IsFirst live first) → (from ≤ first.seq) × IsFirst (m ∷ live) first
+first_waits-by m live from to first true w_is are is more =
+    let same : m ≡ first = same_Some m first (rw w_is at is) in
+    subst (λ (f : Message). (from ≤ f.seq) × IsFirst (m ∷ live) f) same (
+      are.0,
+      record {
+        found = rw (eq-eqb m.seq m.seq refl) refl;
+        waits = waits m.state w_is;
+        least = λ other waits. elim (cases_eq m.seq other) [
+          | inl e ↦ omega (arith, e)
+          | inr ne ↦ omega (arith, found_above live (suc m.seq) to other Waiting are.1 (rw (ne_eqb m.seq other ne) at waits))
+        ];
+      },
+    )
+first_waits-by m live from to first false w_is are is more =
+    let behind = more (rw w_is at is) in (
+      omega (arith, are.0, behind.0),
+      record {
+        found = rw (ne_eqb m.seq first.seq (λ e. omega (arith, e, behind.0))) behind.1.found;
+        waits = behind.1.waits;
+        least = λ other other_waits. elim (cases_eq m.seq other) [
+          | inl e ↦ absurd (true≢false (sym (ap is_waiting_state (same_Some m.state Waiting (rw (eq-eqb m.seq other e) at other_waits))) ∙ w_is))
+          | inr ne ↦ behind.1.least other (rw (ne_eqb m.seq other ne) at other_waits)
+        ];
+      },
+    )
+
+-- the first that waits has the least number of those that do
+pub first_waits : (live : List Message) (from to : ℕ) (first : Message) → AreBetween from live to → find is_waiting live ≡ Some first → (from ≤ first.seq) × IsFirst live first
+first_waits [] from to first are is = absurd (none-some first is)
+first_waits (m ∷ live) from to first are is = first_waits-by m live from to first (is_waiting m) refl are is (first_waits live (suc m.seq) to first are.1)

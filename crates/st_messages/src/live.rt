@@ -1,0 +1,48 @@
+ghost use Rattle.std.specs.Prelude.{◌≡◌, ◌<◌, Some, true, is_some, find, vec_len, vec_capacity};
+ghost use Rattle.std.specs.List.{position};
+ghost use Rattle.st_messages.specs.Messages.{has_number, is_waiting, message_in, without_number};
+
+use crate::message::{Message, MsgState};
+use st_base::Seq;
+
+/// Where the message of this number stands.
+pub fn place_of(live: &[Message], seq: Seq) -> Option<usize>
+    ensures { result ≡ position (has_number seq) live.now }
+{
+    live.iter().position(|message| message.seq == seq)
+}
+
+/// The message of this number, if it is live.
+pub fn message_of(live: &[Message], seq: Seq) -> Option<Message>
+    ensures { result ≡ message_in live.now seq }
+{
+    live.iter().copied().find(|message| message.seq == seq)
+}
+
+// Whether no worker has claimed a message.
+fn is_waiting(message: &Message) -> bool
+    ensures { result ≡ is_waiting message.now }
+{
+    matches!(message.state, MsgState::Waiting)
+}
+
+/// The first message that waits.
+pub fn first_waiting(live: &[Message]) -> Option<Message>
+    ensures { result ≡ find is_waiting live.now }
+{
+    live.iter().copied().find(|message| is_waiting(message))
+}
+
+/// Takes a live message out and gives it, which leaves room for another.
+pub fn take(live: &mut Vec<Message>, seq: Seq) -> Message
+    requires { is_some (message_in live.old.items seq) ≡ true }
+    ensures message { message_in live.old.items seq ≡ Some result }
+    ensures others { live.new.items ≡ without_number live.old.items seq }
+    ensures room { vec_len live.new < vec_capacity live.new }
+{
+    let Some(message) = message_of(live, seq) else {
+        unreachable!()
+    };
+    live.retain(|message| message.seq != seq);
+    message
+}

@@ -1,0 +1,181 @@
+ghost use Rattle.std.specs.Prelude.{◌≡◌, ◌≢◌, ℕ, ◌-◌, ◌^◌, ◌<◌, ◌↔◌, [], Some, None, true, IsNone, IfSome, IfOk, OnOk, OnErr};
+ghost use Rattle.st_messages.specs.declared.message.Delivered.TheVariants.{Applied, Stale};
+ghost use Rattle.st_messages.specs.declared.message.MsgState.TheVariants.{Waiting, Claimed, Answered, Faulted};
+ghost use Rattle.st_messages.specs.Messages.{is_claimed, is_live, state_at, thread_at, with_state, calls_after_post, calls_after_cancel, calls_after_renew, ChangesState, HasNoNumber, IsLeastWaiting, IsWorker, RenewsState};
+
+use crate::live;
+use crate::message::{Delivered, Message, MsgState};
+use st_base::{Errno, Seq, Tid, Worker};
+use st_calls::Verdict;
+use std::alloc::{AllocError, Global};
+use std::marker::Model;
+
+/// The messages of held calls. Each has a number, from 1 in the order of posting, that is used once; the least that waits is
+/// claimed first.
+#[derive(Debug, Drop)]
+pub struct Messages {
+    workers: u32,
+    next: Seq,
+    // In the order of their numbers. A thread has one at most, so they are few however long the run.
+    live: Vec<Message>,
+}
+
+impl Model for Messages {
+    ghost use Rattle.st_messages.specs.Messages.{HeldCalls};
+
+    ghost Value = { HeldCalls };
+
+    ghost view = { λ m. record { workers = m.workers; next = m.next; live = m.live.items } };
+
+    ghost use Rattle.st_messages.specs.Messages.{IsWhole};
+
+    ghost invariant = { λ m. IsWhole (record { workers = m.workers; next = m.next; live = m.live.items }) };
+}
+
+impl Messages {
+    /// No messages, for so many workers, which takes no memory.
+    pub fn new(alloc: Global, workers: u32) -> Self
+        ensures workers { result.workers ≡ workers }
+        ensures next { result.next ≡ 1 }
+        ensures live { result.live ≡ [] }
+    {
+        Messages {
+            workers,
+            next: 1,
+            live: Vec::new(alloc),
+        }
+    }
+
+    /// How many workers there are; their numbers begin at 1.
+    pub fn workers(&self) -> u32
+        ensures { result ≡ self.now.workers }
+    {
+        self.workers
+    }
+
+    /// The number that the next posting or renewal gives.
+    pub fn next_seq(&self) -> Seq
+        ensures { result ≡ self.now.next }
+    {
+        self.next
+    }
+
+    /// How far a message has come; none exactly where the number isn't live.
+    pub fn state(&self, seq: Seq) -> Option<MsgState>
+        ensures state { result ≡ state_at self.now seq }
+        ensures given { IfSome result (λ _. seq < self.now.next) }
+        ensures worker { IfSome result (λ state. (worker : ℕ) → state ≡ Claimed worker → IsWorker self.now worker) }
+    {
+        Some(live::message_of(&self.live, seq)?.state)
+    }
+
+    // Gives a live message another state.
+    fn set_state(&mut self, seq: Seq, state: MsgState)
+        requires live { is_live self.old seq ≡ true }
+        requires worker { (worker : ℕ) → state ≡ Claimed worker → IsWorker self.old worker }
+        ensures calls { self.new ≡ with_state self.old seq state }
+        ensures states { ChangesState self.old seq (Some state) self.new }
+    {
+        if let Some(i) = live::place_of(&self.live, seq) {
+            self.live[i].state = state;
+        }
+    }
+
+    /// Posts the held call of a thread that has none, and gives its number. Without memory nothing changes.
+    pub fn post(&mut self, tid: Tid) -> Result<Seq, AllocError>
+        requires thread { HasNoNumber self.old tid }
+        requires room { self.old.next < 2 ^ 64 - 1 }
+        ensures seq { IfOk result (λ seq. seq ≡ self.old.next) }
+        ensures fresh { state_at self.old self.old.next ≡ None }
+        ensures ok { OnOk result (self.new ≡ calls_after_post self.old tid) }
+        ensures thread { OnOk result (thread_at self.new self.old.next ≡ Some tid) }
+        ensures states { OnOk result (ChangesState self.old self.old.next (Some Waiting) self.new) }
+        ensures err { OnErr result (self.new ≡ self.old) }
+    {
+        let seq = self.next;
+        self.live.push(Message {
+            seq,
+            tid,
+            state: MsgState::Waiting,
+        })?;
+        self.next = seq + 1;
+        Ok(seq)
+    }
+
+    /// Claims the least number that waits for a worker; none exactly where no number waits. It takes no memory.
+    pub fn claim(&mut self, worker: Worker) -> Option<Seq>
+        requires { IsWorker self.old worker }
+        ensures none { IsNone result ↔ ((seq : ℕ) → state_at self.old seq ≢ Some Waiting) }
+        ensures least { IfSome result (λ seq. IsLeastWaiting self.old seq) }
+        ensures ok { IfSome result (λ seq. self.new ≡ with_state self.old seq (Claimed worker)) }
+        ensures states { IfSome result (λ seq. ChangesState self.old seq (Some (Claimed worker)) self.new) }
+        ensures unchanged { result ≡ None → self.new ≡ self.old }
+    {
+        let seq = self.least_waiting()?;
+        self.set_state(seq, MsgState::Claimed(worker));
+        Some(seq)
+    }
+
+    // The least number that waits.
+    fn least_waiting(&self) -> Option<Seq>
+        ensures none { IsNone result ↔ ((seq : ℕ) → state_at self.now seq ≢ Some Waiting) }
+        ensures least { IfSome result (λ seq. IsLeastWaiting self.now seq) }
+        ensures live { IfSome result (λ seq. is_live self.now seq ≡ true) }
+    {
+        Some(live::first_waiting(&self.live)?.seq)
+    }
+
+    /// Notes the error that copying or looking met for a claimed message. It takes no memory.
+    pub fn fault(&mut self, seq: Seq, errno: Errno)
+        requires { is_claimed self.old seq ≡ true }
+        ensures calls { self.new ≡ with_state self.old seq (Faulted errno) }
+        ensures states { ChangesState self.old seq (Some (Faulted errno)) self.new }
+    {
+        self.set_state(seq, MsgState::Faulted(errno));
+    }
+
+    /// Gives a message its answer. Stale exactly where the number isn't live, claimed, unanswered and not faulted, and then
+    /// nothing changes. It takes no memory.
+    pub fn answer(&mut self, seq: Seq, verdict: Verdict) -> Delivered
+        ensures applied { (result ≡ Applied) ↔ (is_claimed self.old seq ≡ true) }
+        ensures ok { result ≡ Applied → self.new ≡ with_state self.old seq (Answered verdict) }
+        ensures states { result ≡ Applied → ChangesState self.old seq (Some (Answered verdict)) self.new }
+        ensures stale { result ≡ Stale → self.new ≡ self.old }
+    {
+        let Some(MsgState::Claimed(_)) = self.state(seq) else {
+            return Delivered::Stale;
+        };
+        self.set_state(seq, MsgState::Answered(verdict));
+        Delivered::Applied
+    }
+
+    /// Ends a live number, and posts its call again under the next one, which it gives. It takes no memory.
+    pub fn renew(&mut self, seq: Seq) -> Seq
+        requires live { is_live self.old seq ≡ true }
+        requires room { self.old.next < 2 ^ 64 - 1 }
+        ensures seq { result ≡ self.old.next }
+        ensures calls { self.new ≡ calls_after_renew self.old seq }
+        ensures thread { thread_at self.new result ≡ thread_at self.old seq }
+        ensures fresh { state_at self.old self.old.next ≡ None }
+        ensures states { RenewsState self.old seq self.old.next self.new }
+    {
+        let message = live::take(&mut self.live, seq);
+        let fresh = self.next;
+        self.next = fresh + 1;
+        self.live.push_reserved(Message {
+            seq: fresh,
+            tid: message.tid,
+            state: MsgState::Waiting,
+        });
+        fresh
+    }
+
+    /// Ends a live number, as its call is made or denied, or its thread is dying. It takes no memory.
+    pub fn cancel(&mut self, seq: Seq)
+        requires { is_live self.old seq ≡ true }
+        ensures calls { self.new ≡ calls_after_cancel self.old seq }
+        ensures states { ChangesState self.old seq None self.new }
+    {
+        let _ = live::take(&mut self.live, seq);
+    }
+}
