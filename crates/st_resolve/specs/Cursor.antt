@@ -1,0 +1,17 @@
+-- Where the components of a text begin and end.
+use Rattle.std.specs.Prelude.{◌≡◌, ℕ, ◌<◌, ◌≤◌, true, List, length, take, drop}
+use Rattle.std.specs.List.{position_or_len}
+use Rattle.st_names.specs.Name.{is_component, is_slash}
+
+-- how long the part is that a text begins with
+abbrev pub first_part_len : List ℕ → ℕ
+first_part_len text = position_or_len is_slash text
+
+-- the part that a text begins with
+abbrev pub first_part : List ℕ → List ℕ
+first_part text = take (first_part_len text) text
+
+-- a component begins here, or the text ends
+pub record IsAtComponent (text : List ℕ) (at : ℕ) : Type 0 where
+  pub within : at ≤ length text
+  pub begins : at < length text → is_component (first_part (drop at text)) ≡ true

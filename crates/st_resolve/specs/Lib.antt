@@ -1,0 +1,3 @@
+pub mod Cursor
+pub mod Remaining
+pub mod Walk

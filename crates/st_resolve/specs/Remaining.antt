@@ -1,0 +1,12 @@
+-- Components that stand in several texts.
+use Rattle.std.specs.Prelude.{◌<◌, List, [], ◌∷◌, ◌++◌, length, All}
+use Rattle.st_names.specs.Name.{Components}
+
+-- the components of some texts, those of the last one first
+abbrev pub joined : List Components → Components
+joined [] = []
+joined (text ∷ texts) = joined texts ++ text
+
+-- each of the texts has a component left
+abbrev pub AreUnfinished : List Components → Type 0
+AreUnfinished texts = All (λ text. 0 < length text) texts

@@ -1,0 +1,124 @@
+// The components of one text, taken from its front.
+ghost use Rattle.std.specs.Prelude.{◌≡◌, ◌↔◌, ◌+◌, ◌<◌, ◌≤◌, false, [], ◌∷◌, drop, length, IsTrue, IfOk};
+ghost use Rattle.st_names.specs.Name.{components_of, has_slash};
+ghost use Rattle.st_model.specs.Walk.{is_last};
+ghost use Rattle.st_resolve.specs.Cursor.{first_part_len, IsAtComponent};
+
+use st_base::Text;
+use st_names::is_component;
+use std::alloc::{AllocError, Global};
+use std::marker::Model;
+
+/// The components of a text that are left to go through.
+#[derive(Debug, Drop)]
+pub struct Cursor {
+    text: Text,
+    // Where the next component begins, or the text's length.
+    at: usize,
+}
+
+impl Model for Cursor {
+    ghost use Rattle.std.specs.Prelude.{List, ℕ, drop};
+    ghost use Rattle.st_names.specs.Name.{components_of};
+    ghost use Rattle.st_resolve.specs.Cursor.{IsAtComponent};
+
+    ghost Value = { List (List ℕ) };
+
+    ghost view = { λ c. components_of (drop c.at c.text) };
+
+    ghost invariant = { λ c. IsAtComponent c.text c.at };
+}
+
+// How long the part is that a text begins with.
+fn first_part_len(text: &[u8]) -> usize
+    ensures len { result ≡ first_part_len text.now }
+    ensures within { result ≤ length text.now }
+{
+    text.iter()
+        .position(|byte| *byte == b'/')
+        .unwrap_or(text.len())
+}
+
+// Where the part ends that begins at this place.
+fn part_end(text: &[u8], at: usize) -> usize
+    requires { at ≤ length text.now }
+    ensures place { result ≡ at + first_part_len (drop at text.now) }
+    ensures within { result ≤ length text.now }
+{
+    at + first_part_len(&text[at..])
+}
+
+// Where the first component begins from this place on, or the text's length where none does.
+fn component_from(text: &[u8], from: usize) -> usize
+    requires { from ≤ length text.now }
+    ensures at { IsAtComponent text.now result }
+    ensures same { components_of (drop result text.now) ≡ components_of (drop from text.now) }
+{
+    let mut at = from;
+    while at < text.len() {
+        let end = part_end(text, at);
+        if is_component(&text[at..end]) {
+            return at;
+        }
+        at = (end + 1).min(text.len());
+    }
+    at
+}
+
+// Where the next component begins behind the one at this place, or the text's length where none does.
+fn component_behind(text: &[u8], at: usize) -> usize
+    requires at { IsAtComponent text.now at }
+    requires within { at < length text.now }
+    ensures at { IsAtComponent text.now result }
+    ensures rest { components_of (drop result text.now) ≡ drop 1 (components_of (drop at text.now)) }
+{
+    let end = part_end(text, at);
+    component_from(text, (end + 1).min(text.len()))
+}
+
+impl Cursor {
+    /// All components of a text.
+    pub fn of(alloc: Global, text: &[u8]) -> Result<Self, AllocError>
+        ensures { IfOk result (λ cursor. cursor ≡ components_of text.now) }
+    {
+        let at = component_from(text, 0);
+        Ok(Cursor {
+            text: Text::of(alloc, text)?,
+            at,
+        })
+    }
+
+    /// Whether no component is left.
+    pub fn is_empty(&self) -> bool
+        ensures { IsTrue result ↔ (self.now ≡ []) }
+    {
+        self.at == self.text.len()
+    }
+
+    /// The next component.
+    pub fn first(&self) -> &[u8]
+        requires { 0 < length self.now }
+        ensures first { self.now ≡ result.now ∷ drop 1 self.now }
+        ensures plain { has_slash result.now ≡ false }
+    {
+        let text = self.text.bytes();
+        &text[self.at..part_end(text, self.at)]
+    }
+
+    /// Whether the next component is the only one.
+    pub fn is_last(&self) -> bool
+        requires { 0 < length self.now }
+        ensures { result ≡ is_last (drop 1 self.now) }
+    {
+        let text = self.text.bytes();
+        component_behind(text, self.at) == text.len()
+    }
+
+    /// Goes on behind the next component.
+    pub fn drop_first(&mut self)
+        requires { 0 < length self.old }
+        ensures { self.new ≡ drop 1 self.old }
+    {
+        self.at = component_behind(self.text.bytes(), self.at);
+    }
+}
