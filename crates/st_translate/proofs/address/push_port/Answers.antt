@@ -1,0 +1,11 @@
+use Rattle.std.proofs.Common.{◌≤◌, length, decimal, arith}
+use Rattle.std.proofs.lemmas.Fmt.{length-decimal-le}
+use Rattle.st_translate.proofs.address.push_port.Goals as goal
+
+pub push_number-requires : goal.push_number-requires
+push_number-requires c =
+    let fits = c.ranges.port.fits in
+    let same = c.from.ensures in
+    let digits : length (decimal c.from.result) ≤ 5 = length-decimal-le 5 c.from.result (omega arith) (omega (arith, fits, same)) (omega (arith, fits, same)) in
+    let room = c.requires in
+    omega (arith, digits, room)

@@ -1,0 +1,4 @@
+pub mod Bytes
+pub mod Copied
+pub mod Stage
+pub mod Taken

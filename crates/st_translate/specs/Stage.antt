@@ -1,0 +1,121 @@
+-- How far a part is copied, and what its words have spelled so far.
+use Rattle.std.specs.Prelude.{ℕ, ◌≡◌, ◌+◌, ◌/◌, ◌%◌, ◌<◌, ◌≤◌, ◌==◌, ◌||◌, if◌then◌else◌, true, List, [], ◌∷◌, ◌++◌, length, take, IsSome}
+use Rattle.std.specs.List.{concat, join_with_byte, prefix_len}
+use Rattle.std.specs.Int.{w64, to_le_bytes}
+use Rattle.st_calls.specs.declared.argument.PartKind.{PartKind}
+use Rattle.st_calls.specs.declared.argument.PartKind.TheVariants as part_kind
+use Rattle.st_model.specs.Spelling as spelling
+use Rattle.st_model.specs.Spelling.{Spelled, address_text, blank, bytes_before_part, bytes_of_words, spell, spell_parts, spell_text}
+use Rattle.st_model.specs.declared.limits.TheConstants.{SPACE_WORDS, ARGV_PARTS, ARGV_BYTES}
+use Rattle.st_names.specs.declared.limits.TheConstants.{LONGEST_NAME}
+use Rattle.st_translate.specs.Bytes.{is_letter, letters_at}
+use Rattle.st_translate.specs.Copied.{asked_word, lies_in_memory}
+use Rattle.st_translate.specs.declared.stage.TheConstants.{MOST_TEXT, MOST_WORDS}
+use Rattle.st_translate.specs.declared.stage.Vector.{Vector}
+use Rattle.st_translate.specs.declared.stage.Stage.{Stage}
+use Rattle.st_translate.specs.declared.stage.Stage.TheVariants.{Text, Address, Pointer, Part, Fault, Done}
+
+-- what is spelled at a stage where this text was read
+abbrev pub spelled_at : Stage → List ℕ → Spelled
+spelled_at (Text next read longest) text = spelling.More (next / 8)
+spelled_at (Address next) text = spelling.More (next / 8)
+spelled_at (Pointer vector) text = spelling.More (vector.pointer / 8)
+spelled_at (Part next vector) text = spelling.More (next / 8)
+spelled_at (Fault errno) text = spelling.Fault errno
+spelled_at Done text = spelling.Text text
+
+-- what a word adds to the text
+abbrev pub text_added : Stage → ℕ → List ℕ
+text_added (Text next read longest) word = letters_at next word
+text_added (Address next) word = address_text (to_le_bytes w64 word)
+text_added (Pointer vector) word = if word == 0 || vector.parts == 0 then [] else blank ∷ []
+text_added (Part next vector) word = letters_at next word
+text_added (Fault errno) word = []
+text_added Done word = []
+
+-- what was read is within the limits
+abbrev pub IsWithin : Stage → Type 0
+IsWithin (Text next read longest) = (read ≤ longest) × (longest ≤ LONGEST_NAME)
+IsWithin (Address next) = Unit {0}
+IsWithin (Pointer vector) = (vector.parts ≤ ARGV_PARTS) × (vector.bytes ≤ ARGV_BYTES)
+IsWithin (Part next vector) = (vector.parts < ARGV_PARTS) × (vector.pointer / 8 ≤ SPACE_WORDS) × (vector.bytes ≤ ARGV_BYTES)
+IsWithin (Fault errno) = Unit {0}
+IsWithin Done = Unit {0}
+
+-- a further word is needed, and lies in memory
+abbrev pub AsksWord : Stage → Type 0
+AsksWord (Text next read longest) = (next / 8 < SPACE_WORDS) × IsWithin (Text next read longest)
+AsksWord (Address next) = next / 8 < SPACE_WORDS
+AsksWord (Pointer vector) = (vector.pointer / 8 < SPACE_WORDS) × IsWithin (Pointer vector)
+AsksWord (Part next vector) = (next / 8 < SPACE_WORDS) × IsWithin (Part next vector)
+AsksWord (Fault errno) = ⊥
+AsksWord Done = ⊥
+
+-- words have spelled the front of a text, up to this byte of memory, and no byte of it is zero
+pub record ReadsText (kind : PartKind) (at : ℕ) (words text : List ℕ) (next read longest : ℕ) : Type 0 where
+  pub is_text : (all : List ℕ) → spell kind at all ≡ spell_text longest at all
+  pub bytes : (rest : List ℕ) → bytes_of_words at (words ++ rest) ≡ text ++ bytes_of_words next rest
+  pub place : next / 8 ≡ at / 8 + length words
+  pub letters : prefix_len is_letter text ≡ length text
+  pub count : read ≡ length text
+
+-- no word of an address was read
+pub record ReadsAddress (kind : PartKind) (at : ℕ) (words text : List ℕ) (next : ℕ) : Type 0 where
+  pub is_address : kind ≡ part_kind.Addr
+  pub place : next ≡ at
+  pub aligned : at % 8 ≡ 0
+  pub no_words : words ≡ []
+  pub no_text : text ≡ []
+
+-- words have spelled parts of an argument vector, and its next pointer follows
+pub record ReadsPointer (kind : PartKind) (at : ℕ) (words text : List ℕ) (vector : Vector) : Type 0 where
+  pub parts : List (List ℕ)
+  pub onward : (rest : List ℕ) → spell kind at (words ++ rest) ≡ spell_parts (at / 8) parts spelling.Pointer rest
+  pub place : vector.pointer / 8 ≡ at / 8 + length parts
+  pub joined : text ≡ join_with_byte blank parts
+  pub count : vector.parts ≡ length parts
+  pub bytes : vector.bytes ≡ length (concat parts)
+
+-- words have spelled parts of an argument vector and the front of one more, up to this byte of memory
+pub record ReadsPart (kind : PartKind) (at : ℕ) (words text : List ℕ) (next : ℕ) (vector : Vector) : Type 0 where
+  pub parts : List (List ℕ)
+  pub pointer : ℕ
+  pub count_of_words : ℕ
+  pub part : List ℕ
+  pub onward : (rest : List ℕ) → spell kind at (words ++ rest) ≡ spell_parts (at / 8) parts (spelling.Part pointer count_of_words part) rest
+  pub here : next / 8 ≡ pointer / 8 + count_of_words
+  pub offset : next % 8 ≡ bytes_before_part pointer count_of_words
+  pub place : vector.pointer / 8 ≡ at / 8 + length parts + 1
+  pub joined : text ≡ join_with_byte blank (parts ++ part ∷ [])
+  pub count : vector.parts ≡ length parts
+  pub bytes : vector.bytes ≡ length (concat parts) + length part
+
+-- what words of a part have spelled at a stage, with this text
+abbrev pub Reads : PartKind → ℕ → List ℕ → List ℕ → Stage → Type 0
+Reads kind at words text (Text next read longest) = ReadsText kind at words text next read longest
+Reads kind at words text (Address next) = ReadsAddress kind at words text next
+Reads kind at words text (Pointer vector) = ReadsPointer kind at words text vector
+Reads kind at words text (Part next vector) = ReadsPart kind at words text next vector
+Reads kind at words text (Fault errno) = spell kind at words ≡ spelling.Fault errno
+Reads kind at words text Done = spell kind at words ≡ spelling.Text text
+
+-- the same, and where a further word is needed it lies in memory
+abbrev pub Reaches : PartKind → ℕ → List ℕ → List ℕ → Stage → Type 0
+Reaches kind at words text (Text next read longest) = AsksWord (Text next read longest) × Reads kind at words text (Text next read longest)
+Reaches kind at words text (Address next) = AsksWord (Address next) × Reads kind at words text (Address next)
+Reaches kind at words text (Pointer vector) = AsksWord (Pointer vector) × Reads kind at words text (Pointer vector)
+Reaches kind at words text (Part next vector) = AsksWord (Part next vector) × Reads kind at words text (Part next vector)
+Reaches kind at words text (Fault errno) = Reads kind at words text (Fault errno)
+Reaches kind at words text Done = Reads kind at words text Done
+
+-- each word was asked for by those before it
+abbrev pub AreAsked : PartKind → ℕ → List ℕ → Type 0
+AreAsked kind at words = (count : ℕ) → count < length words → IsSome (asked_word (spell kind at (take count words)))
+
+-- what the copying of a part keeps: its text so far and its stage, and room for every word and byte
+pub record IsCopied (kind : PartKind) (at : ℕ) (words text : List ℕ) (stage : Stage) (room text_room : ℕ) : Type 0 where
+  pub lies : lies_in_memory kind ≡ true
+  pub asked : AreAsked kind at words
+  pub reached : Reaches kind at words text stage
+  pub has_room : MOST_WORDS ≤ room
+  pub has_text_room : MOST_TEXT ≤ text_room

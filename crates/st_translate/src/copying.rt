@@ -1,0 +1,146 @@
+ghost use Rattle.std.specs.Prelude.{◌≡◌, ℕ, ◌<◌, ◌≤◌, true, List, [], length, IsSome, IfSome, IfOk, vec_capacity};
+ghost use Rattle.st_calls.specs.declared.argument.PartKind.{PartKind};
+ghost use Rattle.st_model.specs.Spelling as spelling;
+ghost use Rattle.st_model.specs.declared.limits.TheConstants.{SPACE_WORDS};
+ghost use Rattle.st_translate.specs.Copied.{Copied, IsDone, asked_word, fault_of, lies_in_memory, spelled, with_word};
+ghost use Rattle.st_translate.specs.Stage.{AreAsked, Reaches, spelled_at};
+ghost use Rattle.st_translate.specs.declared.stage.TheConstants.{MOST_TEXT};
+ghost use Rattle.st_translate.specs.Taken.{took_of};
+
+use crate::stage::{MOST_TEXT, MOST_WORDS, Stage};
+use st_base::Errno;
+use st_calls::PartKind;
+use std::alloc::{AllocError, Global};
+use std::marker::Model;
+
+/// What a copied word led to.
+#[derive(Clone, Copy, Debug, PartialEq, Eq)]
+pub enum Took {
+    /// A further word is needed.
+    More,
+    /// The part is all there.
+    Part,
+    Fault(Errno),
+}
+
+/// A part of a call that is copied from memory word by word. A further word costs only itself, and takes no memory; the text is there
+/// with the last one.
+#[derive(Debug, Drop)]
+pub struct Copying {
+    kind: PartKind,
+    at: u64,
+    // With room for every word of the part.
+    words: Vec<u64>,
+    // What the words spell so far, with room for every byte.
+    text: Vec<u8>,
+    stage: Stage,
+}
+
+impl Model for Copying {
+    ghost use Rattle.std.specs.Prelude.{vec_capacity};
+    ghost use Rattle.st_translate.specs.Copied.{Copied};
+    ghost use Rattle.st_translate.specs.Stage.{IsCopied};
+
+    ghost Value = { Copied };
+
+    ghost view = { λ c. record { kind = c.kind; at = c.at; words = c.words.items } };
+
+    ghost invariant = { λ c. IsCopied c.kind c.at c.words.items c.text.items c.stage (vec_capacity c.words) (vec_capacity c.text) };
+}
+
+// What the word led to behind which a part stands so.
+fn took_at(stage: Stage) -> Took
+    ensures { (text : List ℕ) → result ≡ took_of (spelled_at stage text) }
+{
+    match stage {
+        Stage::Done => Took::Part,
+        Stage::Fault(errno) => Took::Fault(errno),
+        _ => Took::More,
+    }
+}
+
+// Reads a part again from its first word on: its text, and where it stands then.
+fn read_again(kind: PartKind, at: u64, words: &[u64], text: &mut Vec<u8>) -> Stage
+    requires kind { lies_in_memory kind ≡ true }
+    requires asked { AreAsked kind at words.now }
+    requires room { MOST_TEXT ≤ vec_capacity text.old }
+    ensures stage { Reaches kind at words.now text.new.items result }
+    ensures capacity { vec_capacity text.new ≡ vec_capacity text.old }
+{
+    text.clear();
+    let mut stage = Stage::start(kind, at);
+    for word in words {
+        stage.push(text, *word);
+        stage = stage.after(*word);
+    }
+    stage
+}
+
+impl Copying {
+    /// A part that lies in memory from this byte on, before its first word. It takes the room for every word and for the text at once.
+    pub fn begin(alloc: Global, kind: PartKind, at: u64) -> Result<Self, AllocError>
+        requires { lies_in_memory kind ≡ true }
+        ensures { IfOk result (λ copying. copying ≡ record { kind = kind; at = at; words = [] }) }
+    {
+        Ok(Copying {
+            kind,
+            at,
+            words: Vec::with_capacity(alloc, MOST_WORDS)?,
+            text: Vec::with_capacity(alloc, MOST_TEXT)?,
+            stage: Stage::start(kind, at),
+        })
+    }
+
+    /// The place of the word that is copied next; none where the part is all there or came to a fault.
+    pub fn next_word(&self) -> Option<u32>
+        ensures value { result ≡ asked_word (spelled self.now) }
+        ensures inside { IfSome result (λ place. place < SPACE_WORDS) }
+    {
+        self.stage.place()
+    }
+
+    /// The fault that the words came to, or the place of the part already.
+    pub fn fault(&self) -> Option<Errno>
+        ensures { result ≡ fault_of (spelled self.now) }
+    {
+        self.stage.fault()
+    }
+
+    /// Takes the word at the place that `next_word` gives.
+    pub fn take(&mut self, word: u64) -> Took
+        requires { IsSome (asked_word (spelled self.old)) }
+        ensures words { self.new ≡ with_word self.old word }
+        ensures took { result ≡ took_of (spelled self.new) }
+    {
+        self.stage.push(&mut self.text, word);
+        self.words.push_reserved(word);
+        self.stage = self.stage.after(word);
+        took_at(self.stage)
+    }
+
+    /// Undoes the last `take`, at the cost of the words before it.
+    pub fn take_back(&mut self)
+        requires { 0 < length self.old.words }
+        ensures { (before : Copied) (word : ℕ) → self.old ≡ with_word before word → self.new ≡ before }
+    {
+        let _ = self.words.pop();
+        self.stage = read_again(self.kind, self.at, self.words.as_slice(), &mut self.text);
+    }
+
+    /// Begins the part again, in the room that it has.
+    pub fn restart(&mut self)
+        ensures { self.new ≡ record { kind = self.old.kind; at = self.old.at; words = [] } }
+    {
+        self.words.clear();
+        self.text.clear();
+        self.stage = Stage::start(self.kind, self.at);
+    }
+
+    /// The text of a part that is all there.
+    pub fn text(&self) -> &[u8]
+        requires { IsDone (spelled self.now) }
+        ensures { spelled self.now ≡ spelling.Text result.now }
+    {
+        &self.text
+    }
+}

@@ -1,0 +1,280 @@
+ghost use Rattle.std.specs.Prelude.{◌≡◌, ℕ, ◌+◌, ◌/◌, ◌<◌, ◌≤◌, true, List, [], ◌∷◌, ◌++◌, position, vec_capacity, vec_len};
+ghost use Rattle.st_model.specs.Spelling.{is_zero};
+ghost use Rattle.st_translate.specs.Bytes.{ends_at, letter_count, letters_at, next_word_byte};
+ghost use Rattle.st_translate.specs.Copied.{asked_word, fault_of, lies_in_memory};
+ghost use Rattle.st_translate.specs.Stage.{AsksWord, IsWithin, Reaches, Reads, spelled_at, text_added};
+ghost use Rattle.st_calls.specs.declared.argument.PartKind.{PartKind};
+ghost use Rattle.st_model.specs.declared.limits.TheConstants.{SPACE_WORDS};
+
+use crate::address::{is_internet, push_address};
+use crate::buffer::push_all;
+use st_base::Errno;
+use st_calls::PartKind;
+use st_model::{ARGV_BYTES, ARGV_PARTS, LONGEST_TEXT, SPACE_BYTES, SPACE_WORDS};
+use st_names::LONGEST_NAME;
+
+/// No part takes more words.
+pub const MOST_WORDS: usize = 193;
+
+/// The room that every text of a part fits in, with what one more word may add to it.
+pub const MOST_TEXT: usize = 1_072;
+
+/// How far an argument vector is read.
+#[derive(Clone, Copy, Debug, PartialEq, Eq)]
+pub struct Vector {
+    /// The byte of memory where its next pointer stands.
+    pub pointer: u32,
+    /// How many of its parts are wholly read.
+    pub parts: usize,
+    /// How many bytes were read of all its parts.
+    pub bytes: usize,
+}
+
+/// What the next word of a part is needed for, or how the part ended. Its `next` is the byte of memory that is read next.
+#[derive(Clone, Copy, Debug, PartialEq, Eq)]
+pub enum Stage {
+    /// The next bytes of a text, of which so many were read, and which may have so many.
+    Text {
+        next: u32,
+        read: usize,
+        longest: usize,
+    },
+    /// An address.
+    Address {
+        next: u32,
+    },
+    /// The next pointer of an argument vector.
+    Pointer {
+        vector: Vector,
+    },
+    /// The next bytes of a part of an argument vector.
+    Part {
+        next: u32,
+        vector: Vector,
+    },
+    Fault(Errno),
+    Done,
+}
+
+// The first byte of the word behind the one that has this byte.
+fn next_word_byte(next: u32) -> u32
+    requires { next / 8 < SPACE_WORDS }
+    ensures { result ≡ next_word_byte next }
+{
+    8 * (next / 8 + 1)
+}
+
+// Where the first zero byte stands.
+fn first_zero(bytes: &[u8]) -> Option<usize>
+    ensures { result ≡ position is_zero bytes.now }
+{
+    bytes.iter().position(|byte| *byte == 0)
+}
+
+// How many bytes of a word, from this byte of memory on, stand before the first zero one, and whether one is zero.
+fn letters_in(next: u32, word: u64) -> (usize, bool)
+    ensures count { result.0 ≡ letter_count next word }
+    ensures ended { result.1 ≡ ends_at next word }
+{
+    let bytes = word.to_le_bytes();
+    let rest = &bytes[(next % 8) as usize..];
+    match first_zero(rest) {
+        Some(end) => (end, true),
+        None => (rest.len(), false),
+    }
+}
+
+// Adds the bytes of a word, from this byte of memory on, that stand before the first zero one.
+fn push_letters(text: &mut Vec<u8>, next: u32, word: u64)
+    requires { vec_len text.old + 8 ≤ vec_capacity text.old }
+    ensures bytes { text.new.items ≡ text.old.items ++ letters_at next word }
+    ensures capacity { vec_capacity text.new ≡ vec_capacity text.old }
+{
+    let bytes = word.to_le_bytes();
+    let rest = &bytes[(next % 8) as usize..];
+    let (count, _) = letters_in(next, word);
+    push_all(text, &rest[..count]);
+}
+
+// The stage of a text after one more word.
+fn after_text(next: u32, read: usize, longest: usize, word: u64) -> Stage
+    requires { AsksWord (Stage.Text next read longest) }
+    ensures { (kind : PartKind) (at : ℕ) (words text : List ℕ) → Reads kind at words text (Stage.Text next read longest) → Reaches kind at (words ++ word ∷ []) (text ++ letters_at next word) result }
+{
+    let (letters, ended) = letters_in(next, word);
+    let read = read + letters;
+    if read > longest {
+        Stage::Fault(Errno::ENAMETOOLONG)
+    } else if ended {
+        Stage::Done
+    } else {
+        let next = next_word_byte(next);
+        Stage::Text {
+            next,
+            read,
+            longest,
+        }
+        .inside()
+    }
+}
+
+// The stage of an address after its word.
+fn after_address(next: u32, word: u64) -> Stage
+    requires { AsksWord (Stage.Address next) }
+    ensures { (kind : PartKind) (at : ℕ) (words text : List ℕ) → Reads kind at words text (Stage.Address next) → Reaches kind at (words ++ word ∷ []) (text ++ text_added (Stage.Address next) word) result }
+{
+    if is_internet(word) {
+        Stage::Done
+    } else {
+        Stage::Fault(Errno::EINVAL)
+    }
+}
+
+// The stage of an argument vector after one more pointer.
+fn after_pointer(vector: Vector, word: u64) -> Stage
+    requires { AsksWord (Stage.Pointer vector) }
+    ensures { (kind : PartKind) (at : ℕ) (words text : List ℕ) → Reads kind at words text (Stage.Pointer vector) → Reaches kind at (words ++ word ∷ []) (text ++ text_added (Stage.Pointer vector) word) result }
+{
+    if word == 0 {
+        Stage::Done
+    } else if vector.parts >= ARGV_PARTS {
+        Stage::Fault(Errno::E2BIG)
+    } else if word >= SPACE_BYTES {
+        Stage::Fault(Errno::EFAULT)
+    } else {
+        let pointer = vector.pointer + 8;
+        Stage::Part {
+            next: word as u32,
+            vector: Vector { pointer, ..vector },
+        }
+    }
+}
+
+// The stage of an argument vector after one more word of a part.
+fn after_part(next: u32, vector: Vector, word: u64) -> Stage
+    requires { AsksWord (Stage.Part next vector) }
+    ensures { (kind : PartKind) (at : ℕ) (words text : List ℕ) → Reads kind at words text (Stage.Part next vector) → Reaches kind at (words ++ word ∷ []) (text ++ letters_at next word) result }
+{
+    let (letters, ended) = letters_in(next, word);
+    let bytes = vector.bytes + letters;
+    if bytes > ARGV_BYTES {
+        Stage::Fault(Errno::E2BIG)
+    } else if ended {
+        let parts = vector.parts + 1;
+        let vector = Vector {
+            parts,
+            bytes,
+            ..vector
+        };
+        Stage::Pointer { vector }.inside()
+    } else {
+        let next = next_word_byte(next);
+        let vector = Vector { bytes, ..vector };
+        Stage::Part { next, vector }.inside()
+    }
+}
+
+impl Stage {
+    /// Where a part stands before its first word, which lies in memory from this byte on.
+    pub fn start(kind: PartKind, at: u64) -> Self
+        requires { lies_in_memory kind ≡ true }
+        ensures { Reaches kind at [] [] result }
+    {
+        if at >= SPACE_BYTES {
+            return Stage::Fault(Errno::EFAULT);
+        }
+        let next = at as u32;
+        match kind {
+            PartKind::Name => Stage::Text {
+                next,
+                read: 0,
+                longest: LONGEST_NAME,
+            },
+            PartKind::Plain => Stage::Text {
+                next,
+                read: 0,
+                longest: LONGEST_TEXT,
+            },
+            PartKind::Addr if at % 8 == 0 => Stage::Address { next },
+            PartKind::Argv if at % 8 == 0 => Stage::Pointer {
+                vector: Vector {
+                    pointer: next,
+                    parts: 0,
+                    bytes: 0,
+                },
+            },
+            _ => Stage::Fault(Errno::EFAULT),
+        }
+    }
+
+    /// The place of the word that is needed next.
+    pub fn place(self) -> Option<u32>
+        ensures { (text : List ℕ) → result ≡ asked_word (spelled_at self text) }
+    {
+        match self {
+            Stage::Text { next, .. } | Stage::Address { next } | Stage::Part { next, .. } => Some(
+                next / 8,
+            ),
+            Stage::Pointer { vector } => Some(vector.pointer / 8),
+            Stage::Fault(_) | Stage::Done => None,
+        }
+    }
+
+    /// The fault that the part came to.
+    pub fn fault(self) -> Option<Errno>
+        ensures { (text : List ℕ) → result ≡ fault_of (spelled_at self text) }
+    {
+        if let Stage::Fault(errno) = self {
+            Some(errno)
+        } else {
+            None
+        }
+    }
+
+    // The stage itself, or a fault where the next word lies past the end of memory.
+    fn inside(self) -> Self
+        requires { IsWithin self }
+        ensures { (kind : PartKind) (at : ℕ) (words text : List ℕ) → Reads kind at words text self → Reaches kind at words text result }
+    {
+        let Some(place) = self.place() else {
+            return self;
+        };
+        if place < SPACE_WORDS {
+            self
+        } else {
+            Stage::Fault(Errno::EFAULT)
+        }
+    }
+
+    /// Where the part stands after one more word.
+    pub fn after(self, word: u64) -> Self
+        requires { AsksWord self }
+        ensures { (kind : PartKind) (at : ℕ) (words text : List ℕ) → Reaches kind at words text self → Reaches kind at (words ++ word ∷ []) (text ++ text_added self word) result }
+    {
+        match self {
+            Stage::Text {
+                next,
+                read,
+                longest,
+            } => after_text(next, read, longest, word),
+            Stage::Address { next } => after_address(next, word),
+            Stage::Pointer { vector } => after_pointer(vector, word),
+            Stage::Part { next, vector } => after_part(next, vector, word),
+            Stage::Fault(_) | Stage::Done => self,
+        }
+    }
+
+    /// Adds to a text what one more word adds to it, which takes 28 bytes of the room at most.
+    pub fn push(self, text: &mut Vec<u8>, word: u64)
+        requires { vec_len text.old + 28 ≤ vec_capacity text.old }
+        ensures bytes { text.new.items ≡ text.old.items ++ text_added self word }
+        ensures capacity { vec_capacity text.new ≡ vec_capacity text.old }
+    {
+        match self {
+            Stage::Text { next, .. } | Stage::Part { next, .. } => push_letters(text, next, word),
+            Stage::Address { .. } => push_address(text, word),
+            Stage::Pointer { vector } if word != 0 && vector.parts != 0 => text.push_reserved(b' '),
+            _ => {}
+        }
+    }
+}
