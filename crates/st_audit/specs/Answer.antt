@@ -8,7 +8,7 @@ use Rattle.st_calls.specs.declared.judged.Verdict.{Verdict}
 use Rattle.st_calls.specs.declared.judged.Verdict.TheVariants.{Permit, Refuse, Unmatched}
 use Rattle.st_trace.specs.declared.entry.Entry.{Entry}
 use Rattle.st_trace.specs.declared.entry.Entry.TheVariants.{Answered}
-use Rattle.st_law.specs.History.{History}
+use Rattle.st_served.specs.History.{History}
 
 -- an answer: the held call that was judged, and what the filters say of it
 pub record Answer : Type 0 where

@@ -6,13 +6,13 @@ use Rattle.st_calls.specs.declared.argument.ArgText.{ArgText}
 use Rattle.st_calls.specs.declared.call.SysCall.{SysCall}
 use Rattle.st_calls.specs.Call.{name_of_rule}
 use Rattle.st_lex.specs.Quote.{quoted}
-use Rattle.st_law.specs.Served.{machine_rule}
+use Rattle.st_served.specs.Served.{machine_rule}
 use Rattle.st_trace.specs.declared.entry.Entry.{Entry}
 use Rattle.st_trace.specs.declared.entry.Entry.TheVariants.{Used, Denied}
 use Rattle.st_trace.specs.declared.entry.CallResult.{CallResult}
 use Rattle.st_trace.specs.declared.entry.CallResult.TheVariants.{Value, Failed}
-use Rattle.st_law.specs.declared.input.Input.{Input}
-use Rattle.st_law.specs.History.{History, Process, process_of, owner_of, PendingCall, pending_call}
+use Rattle.st_served.specs.declared.input.Input.{Input}
+use Rattle.st_served.specs.History.{History, Process, process_of, owner_of, PendingCall, pending_call}
 use Rattle.st_audit.specs.declared.how.How.{How}
 use Rattle.st_audit.specs.Answer.{answer_of}
 use Rattle.st_audit.specs.Argument.{args_text, args_used, args_denied}

@@ -5,7 +5,7 @@ use Rattle.std.specs.Ordering.{nat_cmp}
 use Rattle.st_calls.specs.declared.call.SysCall.{SysCall}
 use Rattle.st_trace.specs.declared.entry.Entry.{Entry}
 use Rattle.st_trace.specs.declared.entry.Entry.TheVariants.{Entered, Used, Denied}
-use Rattle.st_law.specs.History.{History, pending_call}
+use Rattle.st_served.specs.History.{History, pending_call}
 
 -- the call that a thread has entered, and that is neither made nor denied yet
 abbrev pub entered_call : History → ℕ → Option SysCall

@@ -1,6 +1,6 @@
 use Rattle.std.specs.Prelude.{◌≡◌, ℕ, List, ◌++◌}
 use Rattle.st_trace.specs.declared.entry.Entry.{Entry}
-use Rattle.st_law.specs.declared.input.Input.{Input}
+use Rattle.st_served.specs.declared.input.Input.{Input}
 use Rattle.st_audit.specs.Audit.{audit}
 
 -- a text begins with another

@@ -1,5 +1,5 @@
 ghost use Rattle.std.specs.Prelude.{◌≡◌, ℕ, ◌∷◌, ◌++◌, IfOk, OnOk};
-ghost use Rattle.st_law.specs.History.{History};
+ghost use Rattle.st_served.specs.History.{History};
 ghost use Rattle.st_audit.specs.Answer.{HasAnswers};
 ghost use Rattle.st_audit.specs.Audit.{audit, line_of};
 ghost use Rattle.st_audit.specs.Entered.{entered_after, entered_in, HasEnteredCalls};
@@ -11,7 +11,7 @@ use crate::how::How;
 use crate::line::{CallLine, append_traced_line};
 use st_base::{Seq, Text, Tid};
 use st_calls::SysCall;
-use st_law::Input;
+use st_served::Input;
 use st_trace::{CallResult, Entry};
 use std::alloc::{AllocError, Global};
 use std::collections::BTreeMap;

@@ -1,5 +1,5 @@
 ghost use Rattle.std.specs.Prelude.{◌≡◌, ◌++◌, option_copied, OnOk};
-ghost use Rattle.st_law.specs.History.{owner_of};
+ghost use Rattle.st_served.specs.History.{owner_of};
 ghost use Rattle.st_base.specs.Numbered.{item_at_number};
 ghost use Rattle.st_audit.specs.Audit.{result_text, caller_text, line_text, call_line};
 
@@ -7,8 +7,8 @@ use crate::argument::append_args;
 use crate::how::{How, append_how};
 use st_base::{Pid, Text, Tid};
 use st_calls::{ArgText, Rule, SysCall};
-use st_law::Input;
 use st_lex::quote;
+use st_served::Input;
 use st_trace::CallResult;
 use std::alloc::AllocError;
 

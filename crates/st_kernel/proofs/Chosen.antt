@@ -2,6 +2,7 @@
 use native.Mathlib.Omega.{arith}
 use Rattle.std.proofs.Common.{◌≡◌, ◌≢◌, ◌≤◌, ◌<◌, ℕ, zero, suc, ◌+◌, Bool, true, false, cond, not, ◌||◌, ◌&&◌, ◌==◌, List, [], ◌∷◌, unwrap_or, option_map, is_some, Option, Some, None, refl, sym, ap, subst, ◌∙◌}
 use Rattle.std.proofs.lemmas.Bool.{true_from_ne_false, and_parts}
+use Rattle.st_memory.specs.Memory.{Memories}
 use Rattle.st_base.specs.declared.errno.Errno.{Errno}
 use Rattle.st_calls.specs.declared.argument.ArgText.{ArgText}
 use Rattle.st_calls.specs.declared.call.SysCall.{SysCall}
@@ -15,10 +16,10 @@ use Rattle.st_names.specs.Name.{Components}
 use Rattle.st_model.specs.Tree.{look}
 use Rattle.st_names.specs.declared.seen.SeenText.{SeenText}
 use Rattle.st_model.specs.Memory.{word_of}
-use Rattle.st_law.specs.Served.{MachineSetting}
+use Rattle.st_served.specs.Served.{MachineSetting}
 use Rattle.st_effects.specs.Progress.{Progress, Word, Look, Stuck, Ready}
-use Rattle.st_law.specs.Served.{machine_progress}
-use Rattle.st_law.specs.Served.{is_open}
+use Rattle.st_served.specs.Served.{machine_progress}
+use Rattle.st_served.specs.Served.{is_open}
 use Rattle.st_trace.specs.declared.entry.Choice.TheVariants as choices
 use Rattle.st_trace.specs.declared.entry.Cause.TheVariants as cause
 use Rattle.st_trace.specs.declared.entry.Entry.{Entry}
@@ -26,13 +27,13 @@ use Rattle.st_trace.specs.declared.entry.Entry.TheVariants as entry
 use Rattle.st_trace.specs.declared.entry.Way.TheVariants.{Fast, Barred, Held}
 use Rattle.st_trace.specs.declared.start.Instr.{Instr}
 use Rattle.st_trace.specs.declared.start.Instr.TheVariants.{Store, Call, Fork}
-use Rattle.st_law.specs.declared.input.Input.{Input}
-use Rattle.st_law.specs.History.{History, Head, PendingCall, process_of, process_of_row, owner_of, pid_of_row, instructions_left, pending_call, has_ended, is_dying, byte_at, descriptors_at, posted_count, head_of, new_head, is_claimed, is_answered, fault_of, copied_words, lookups, turn_of, progress, progress_of_head, snapshot_of_progress, verdict_of, is_live, seq_at_work, is_ready, worker_at, is_worker, tree_of, message_at, space_of_head}
+use Rattle.st_served.specs.declared.input.Input.{Input}
+use Rattle.st_served.specs.History.{History, Head, PendingCall, process_of, process_of_row, owner_of, pid_of_row, instructions_left, pending_call, has_ended, is_dying, byte_at, descriptors_at, posted_count, head_of, new_head, is_claimed, is_answered, fault_of, copied_words, lookups, turn_of, progress, progress_of_head, snapshot_of_progress, verdict_of, is_live, seq_at_work, is_ready, worker_at, is_worker, tree_of, message_at, space_of_head}
 use Rattle.st_base.specs.Numbered.{item_at_number}
-use Rattle.st_law.specs.Machine.{State, state_at, entry_of, thread_entry, live_thread_entry, next_instruction_entry, entered_entry, pending_call_entry, held_call_entry, decided_entry, entry_of_verdict, barred_entry, used_entry, answer_for, way_of_answer, turn_entry, claimed_entry, least_waiting, is_waiting, progress_entry, answered_entry}
-use Rattle.st_law.specs.Lawful.{IsLawfulBack}
-use Rattle.st_law.proofs.Ties.{state_seen, state-is}
-use Rattle.st_law.proofs.Held.{IsOpen, IfPending, Fine, invariant-holds}
+use Rattle.st_served.specs.Machine.{State, state_at, entry_of, thread_entry, live_thread_entry, next_instruction_entry, entered_entry, pending_call_entry, held_call_entry, decided_entry, entry_of_verdict, barred_entry, used_entry, answer_for, way_of_answer, turn_entry, claimed_entry, least_waiting, is_waiting, progress_entry, answered_entry}
+use Rattle.st_served.specs.Lawful.{IsLawfulBack}
+use Rattle.st_served.proofs.Ties.{state_seen, state-is}
+use Rattle.st_served.proofs.Held.{IsOpen, IfPending, Fine, invariant-holds}
 use Rattle.st_kernel.specs.Copies.{Copies, parts_in, progress_of}
 use Rattle.st_kernel.specs.Held as held
 use Rattle.st_kernel.specs.Kept.{HasHeld, has_held_call, IsStage, AreCopies, IsKept}
@@ -44,7 +45,7 @@ use Rattle.st_kernel.specs.declared.process_state.ProcessState.{ProcessState}
 use Rattle.st_kernel.proofs.One.{owner_other, held_same, not_held, one_run, one_worker}
 use Rattle.st_kernel.proofs.Lowering.{live_held}
 use Rattle.st_kernel.proofs.Fresh.{held_high}
-use Rattle.st_law.specs.Machine as machine
+use Rattle.st_served.specs.Machine as machine
 
 pub owner_one : (i : Input) → IsOneThread i → owner_of i 1 ≡ 1
 owner_one i one = (λ k. pid_of_row (item_at_number (one.threads k) 1)) ∙ (λ k. unwrap_or (one.starts k) 0)
@@ -141,7 +142,7 @@ module _ (i : Input) (one : IsOneThread i) (h : History) (lawful : IsLawfulBack 
       (λ k. turn_entry i (state_seen i h) 1 (seq_at_work (is_live i h) (progress i h) (at k))) ∙
       (λ k. turn_entry i (state_seen i h) 1 (cond (live_held i one h lawful q x k || is_ready (progress i h q)) (Some q) None))
 
-  module _ (spaces : List (List ℕ)) (thread : machine.ThreadState) (process_state : ProcessState) (kept : held.Held) (k : IsKept i h spaces thread process_state kept) where
+  module _ (spaces : Memories) (thread : machine.ThreadState) (process_state : ProcessState) (kept : held.Held) (k : IsKept i h spaces thread process_state kept) where
     ended-is : has_ended h 1 ≡ thread.ended
     ended-is = λ j. (sym k.thread_is j).ended
 

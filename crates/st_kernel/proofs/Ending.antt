@@ -13,13 +13,13 @@ use Rattle.st_names.specs.Name.{Components}
 use Rattle.st_model.specs.Walk as walk
 use Rattle.st_names.specs.declared.seen.SeenText.{SeenText}
 use Rattle.st_model.specs.Tree.{Tree, root_only, add_object, node_of_kind, node_of_new}
-use Rattle.st_model.proofs.Endings.{AreWithin, AreWithin-push, link_length}
+use Rattle.st_model.proofs.Endings.{AreWithin, AreWithin-push, link_parts}
 use Rattle.st_model.proofs.Looks.{AreNoLinks, AreNoLinks-push, is_link, look-no_link, few_looks}
 use Rattle.st_effects.specs.Progress.{Progress, Word, Look, Stuck, Ready}
-use Rattle.st_law.specs.Served.{machine_progress, machine_spelling_progress, machine_walk_progress}
+use Rattle.st_served.specs.Served.{machine_progress, machine_spelling_progress, machine_walk_progress}
 use Rattle.st_calls.specs.declared.call.SysCall.{SysCall}
 use Rattle.st_trace.specs.Instructions.{IsCallOf}
-use Rattle.st_law.specs.Served.{is_open, is_link_row, HaveNoLinks}
+use Rattle.st_served.specs.Served.{is_open, is_link_row, HaveNoLinks}
 use Rattle.st_trace.specs.declared.entry.Entry.TheVariants.{Stored, Entered, Claimed, Copied, Looked, Faulted, Answered, Used, Denied, Ended, Replied, Learned}
 use Rattle.st_trace.specs.declared.entry.Way.{Way}
 use Rattle.st_trace.specs.declared.entry.Way.TheVariants.{Fast, Barred, Held, Untraced}
@@ -28,9 +28,9 @@ use Rattle.st_trace.specs.declared.start.Instr.TheVariants.{Store, Call, Fork}
 use Rattle.st_model.specs.declared.object.NewKind.{NewKind}
 use Rattle.st_model.specs.declared.object.NewKind.TheVariants as row_kind
 use Rattle.st_trace.specs.declared.start.TreeRow.{TreeRow}
-use Rattle.st_law.specs.declared.input.Input.{Input}
-use Rattle.st_law.specs.History.{History, Head, PendingCall, head_of, copied_words, lookups, progress, progress_of_head, tree_from, tree_of, instructions_left, pending_call, has_ended, is_claimed, is_answered, fault_of}
-use Rattle.st_law.specs.Lawful.{IsLawfulBack}
+use Rattle.st_served.specs.declared.input.Input.{Input}
+use Rattle.st_served.specs.History.{History, Head, PendingCall, head_of, copied_words, lookups, progress, progress_of_head, tree_from, tree_of, instructions_left, pending_call, has_ended, is_claimed, is_answered, fault_of}
+use Rattle.st_served.specs.Lawful.{IsLawfulBack}
 
 abbrev name_spec : ArgSpec
 name_spec = record { label = Filename; index = 0; register = 0; kind = Name }
@@ -75,7 +75,7 @@ tree_from-no_links tree (row ∷ rows) plain all =
     tree_from-no_links (add_object tree row.name (node_of_new row.new)) rows plain.1
     (AreNoLinks-push tree.objects (node_of_new row.new) all (row_kind-no_link row.new.kind row.new.uid row.new.gid row.new.mode plain.0))
 
-grow_within : (b : Bool) (before : List SeenText) (seen : SeenText) → AreWithin 0 before → link_length seen ≤ 0 → AreWithin 0 (cond b (before ++ seen ∷ []) before)
+grow_within : (b : Bool) (before : List SeenText) (seen : SeenText) → AreWithin 0 before → link_parts seen ≤ 0 → AreWithin 0 (cond b (before ++ seen ∷ []) before)
 grow_within true before seen all here = AreWithin-push 0 before seen all here
 grow_within false before seen all here = all
 
@@ -87,7 +87,7 @@ lookups-within i plain (Claimed w p ∷ h) q j l = lookups-within i plain h q j 
 lookups-within i plain (Copied p part place word ∷ h) q j l = lookups-within i plain h q j l.1
 lookups-within i plain (Looked p part name seen ∷ h) q j l =
     grow_within (p == q && part == j) (lookups h q j) seen (lookups-within i plain h q j l.1)
-    (subst (λ s. link_length s ≤ 0) (sym l.0.seen_is) (look-no_link (tree_of i) name (tree_from-no_links root_only i.start.tree plain (refl, tt))))
+    (subst (λ s. link_parts s ≤ 0) (sym l.0.seen_is) (look-no_link (tree_of i) name (tree_from-no_links root_only i.start.tree plain (refl, tt))))
 lookups-within i plain (Faulted p errno ∷ h) q j l = lookups-within i plain h q j l.1
 lookups-within i plain (Answered w s v applied ∷ h) q j l = lookups-within i plain h q j l.1
 lookups-within i plain (Used t seq call regs args ids result changes ∷ h) q j l = lookups-within i plain h q j l.1

@@ -7,13 +7,13 @@ use Rattle.st_trace.specs.declared.entry.Entry.{Entry}
 use Rattle.st_trace.specs.declared.entry.Entry.TheVariants.{Stored, Entered, Claimed, Copied, Looked, Faulted, Answered, Used, Denied, Ended, Replied, Learned}
 use Rattle.st_trace.specs.declared.start.Instr.{Instr}
 use Rattle.st_trace.specs.declared.start.Instr.TheVariants.{Store, Call, Fork}
-use Rattle.st_law.specs.declared.input.Input.{Input}
-use Rattle.st_law.specs.History.{History, body_of, body_of_row, instructions_left, pending_call, has_ended}
+use Rattle.st_served.specs.declared.input.Input.{Input}
+use Rattle.st_served.specs.History.{History, body_of, body_of_row, instructions_left, pending_call, has_ended}
 use Rattle.st_base.specs.Numbered.{item_at_number}
-use Rattle.st_law.specs.Machine.{State, state_after, state_at, entry_of, EnabledChoice, choice_or, first_enabled_from, first_enabled, rest_from, most_steps}
-use Rattle.st_law.specs.Lawful.{IsLawful, IsLawfulBack}
-use Rattle.st_law.proofs.Laws.{lawful_choice}
-use Rattle.st_law.proofs.Steps.{Says}
+use Rattle.st_served.specs.Machine.{State, state_after, state_at, entry_of, EnabledChoice, choice_or, first_enabled_from, first_enabled, rest_from, most_steps}
+use Rattle.st_served.specs.Lawful.{IsLawful, IsLawfulBack}
+use Rattle.st_served.proofs.Laws.{lawful_choice}
+use Rattle.st_served.proofs.Steps.{Says}
 use Rattle.st_kernel.specs.Runs.{IsOneThread}
 use Rattle.st_kernel.proofs.Ending.{cost, cost_of, left_cost, pending_cost, pending_small}
 use Rattle.st_kernel.proofs.Lowering.{lowers}
@@ -83,8 +83,8 @@ first_says i h lawful =
     from_says i h lawful (length i.start.threads) 1 _
     (or_says (IsLawful i h) (Worker 1) (entry_of i (state_at i h) (Worker 1)) None (lawful_choice i h (Worker 1) lawful) tt)
 
-first_lawful : (i : Input) (h : History) → IsLawfulBack i h → (m : EnabledChoice) → first_enabled i (state_at i h) ≡ Some m → IsLawful i h m.entry
-first_lawful i h lawful m is = subst (MoveSays (IsLawful i h)) is (first_says i h lawful)
+first_servedful : (i : Input) (h : History) → IsLawfulBack i h → (m : EnabledChoice) → first_enabled i (state_at i h) ≡ Some m → IsLawful i h m.entry
+first_servedful i h lawful m is = subst (MoveSays (IsLawful i h)) is (first_says i h lawful)
 
 -- with one thread, its step comes first, and then the worker's
 pub first_is : (i : Input) (st : State) → IsOneThread i → first_enabled i st ≡ choice_or (Thread 1) (entry_of i st (Thread 1)) (choice_or (Worker 1) (entry_of i st (Worker 1)) None)
@@ -108,9 +108,9 @@ rest_none (suc n) i st e = rest_by n i st None e
 rest_more : (i : Input) → IsOneThread i → (n : ℕ) (h : History) → IsLawfulBack i h → cost i h ≤ n → (o : Option EnabledChoice) → first_enabled i (state_at i h) ≡ o → rest_from (suc n) i (state_at i h) ≡ rest_from n i (state_at i h)
 rest_more i one n h lawful enough None is = rest_none (suc n) i (state_at i h) is ∙ sym (rest_none n i (state_at i h) is)
 rest_more i one zero h lawful enough (Some m) is =
-    let less = lowers i one h lawful m.entry (first_lawful i h lawful m is) in absurd (omega (arith, less, enough))
+    let less = lowers i one h lawful m.entry (first_servedful i h lawful m is) in absurd (omega (arith, less, enough))
 rest_more i one (suc n) h lawful enough (Some m) is =
-    let law = first_lawful i h lawful m is in
+    let law = first_servedful i h lawful m is in
     let less = lowers i one h lawful m.entry law in
     rest_by (suc n) i (state_at i h) (Some m) is ∙
     ap (λ (cs : List Choice). m.choice ∷ cs) (rest_more i one n (m.entry ∷ h) (law, lawful) (omega (arith, less, enough)) (first_enabled i (state_at i (m.entry ∷ h))) refl) ∙

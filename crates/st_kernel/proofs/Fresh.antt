@@ -10,10 +10,10 @@ use Rattle.st_trace.specs.declared.entry.Entry.{Entry}
 use Rattle.st_trace.specs.declared.entry.Entry.TheVariants.{Stored, Entered, Claimed, Copied, Looked, Faulted, Answered, Used, Denied, Ended, Replied, Learned}
 use Rattle.st_trace.specs.declared.entry.Way.{Way}
 use Rattle.st_trace.specs.declared.entry.Way.TheVariants.{Fast, Barred, Held, Untraced}
-use Rattle.st_law.specs.declared.input.Input.{Input}
-use Rattle.st_law.specs.History.{History, PendingCall, owner_of, pending_call, posted_count, is_claimed, copied_words, lookups, descriptors_at, opened_count}
-use Rattle.st_law.specs.Lawful.{IsServed, IsLawful, IsLawfulBack}
-use Rattle.st_law.proofs.Held.{IsOpen, IfPending, Fine, invariant-holds}
+use Rattle.st_served.specs.declared.input.Input.{Input}
+use Rattle.st_served.specs.History.{History, PendingCall, owner_of, pending_call, posted_count, is_claimed, copied_words, lookups, descriptors_at, opened_count}
+use Rattle.st_served.specs.Lawful.{IsServed, IsLawful, IsLawfulBack}
+use Rattle.st_served.proofs.Held.{IsOpen, IfPending, Fine, invariant-holds}
 use Rattle.st_kernel.specs.Kept.{HasHeld}
 use Rattle.st_kernel.specs.Runs.{IsOneThread}
 use Rattle.st_kernel.proofs.One.{one_run, at_turn}

@@ -3,8 +3,7 @@ pub mod Keys
 pub mod Looks
 pub mod Opens
 pub mod Trees
-pub mod Places
-pub mod Zeros
+pub mod Walked
 pub mod One
 pub mod Quiet
 pub mod Ending

@@ -18,10 +18,10 @@ use Rattle.st_trace.specs.declared.entry.Entry.TheVariants.{Stored, Entered, Cla
 use Rattle.st_trace.specs.declared.entry.Way.{Way}
 use Rattle.st_trace.specs.declared.start.Instr.{Instr}
 use Rattle.st_trace.specs.declared.start.Instr.TheVariants.{Store}
-use Rattle.st_law.specs.declared.input.Input.{Input}
-use Rattle.st_law.specs.History.{History, PendingCall, owner_of, instructions_left, pending_call, has_ended, is_dying, is_live, is_live_by, is_claimed, is_answered, fault_of, copied_words, lookups, turn_of}
-use Rattle.st_law.specs.Lawful.{IsRunning, IsStored, IsEntered, IsClaimed, IsCopied, IsLooked, IsFaulted, IsAnswered, IsUsed, IsDenied, IsEnded, IsLawful, IsLawfulBack}
-use Rattle.st_law.proofs.Held.{IsOpen, IfPending, Fine, invariant-holds}
+use Rattle.st_served.specs.declared.input.Input.{Input}
+use Rattle.st_served.specs.History.{History, PendingCall, owner_of, instructions_left, pending_call, has_ended, is_dying, is_live, is_live_by, is_claimed, is_answered, fault_of, copied_words, lookups, turn_of}
+use Rattle.st_served.specs.Lawful.{IsRunning, IsStored, IsEntered, IsClaimed, IsCopied, IsLooked, IsFaulted, IsAnswered, IsUsed, IsDenied, IsEnded, IsLawful, IsLawfulBack}
+use Rattle.st_served.proofs.Held.{IsOpen, IfPending, Fine, invariant-holds}
 use Rattle.st_kernel.specs.Runs.{IsOneThread}
 use Rattle.st_kernel.specs.Kept.{has_held_call, HasHeld}
 use Rattle.st_kernel.proofs.One.{first_thread, at_turn, one_run}

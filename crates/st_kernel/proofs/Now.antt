@@ -6,7 +6,7 @@ use Rattle.st_base.specs.declared.errno.Errno.{Errno}
 use Rattle.st_calls.specs.declared.argument.ArgText.{ArgText}
 use Rattle.st_calls.specs.declared.call.SysCall.{SysCall}
 use Rattle.st_calls.specs.declared.judged.Verdict.{Verdict}
-use Rattle.st_memory.specs.Memory.{byte_in}
+use Rattle.st_memory.specs.Memory.{byte_in, is_live, KeepsSpaces, Memories}
 use Rattle.st_model.specs.Memory.{memory_after_store, word_of}
 use Rattle.st_memory.specs.declared.spaces.MemFault.{MemFault}
 use Rattle.st_names.specs.Name.{Components}
@@ -20,15 +20,15 @@ use Rattle.st_trace.specs.declared.entry.Entry.{Entry}
 use Rattle.st_trace.specs.declared.entry.Entry.TheVariants as entry
 use Rattle.st_trace.specs.declared.entry.Way.{Way}
 use Rattle.st_trace.specs.declared.entry.Way.TheVariants.{Fast, Barred, Held}
-use Rattle.st_law.specs.declared.input.Input.{Input}
-use Rattle.st_law.specs.History.{PendingCall, process_of, pending_call, posted_count, turn_of, byte_at, descriptors_at, tree_of, verdict_of, instructions_left, body_of_row}
+use Rattle.st_served.specs.declared.input.Input.{Input}
+use Rattle.st_served.specs.History.{PendingCall, process_of, pending_call, posted_count, turn_of, byte_at, descriptors_at, tree_of, verdict_of, instructions_left, body_of_row}
 use Rattle.st_base.specs.Numbered.{item_at_number}
-use Rattle.st_law.specs.Lawful.{Lawful, IsLawful, IsLawfulBack}
-use Rattle.st_law.specs.Machine.{state_at, history, history_with, run, thread_after, entry_of, pending_call_entry, next_instruction_entry, used_entry, barred_entry, entry_of_verdict, answer_for}
-use Rattle.st_law.specs.Machine as machine
-use Rattle.st_law.proofs.Laws.{run_lawful, lawful_choice}
-use Rattle.st_law.proofs.Steps.{Says}
-use Rattle.st_law.proofs.Ties.{state_seen, state-is}
+use Rattle.st_served.specs.Lawful.{Lawful, IsLawful, IsLawfulBack}
+use Rattle.st_served.specs.Machine.{state_at, history, history_with, run, thread_after, entry_of, pending_call_entry, next_instruction_entry, used_entry, barred_entry, entry_of_verdict, answer_for}
+use Rattle.st_served.specs.Machine as machine
+use Rattle.st_served.proofs.Laws.{run_lawful, lawful_choice}
+use Rattle.st_served.proofs.Steps.{Says}
+use Rattle.st_served.proofs.Ties.{state_seen, state-is}
 use Rattle.st_kernel.specs.Copies.{parts_in, progress_of}
 use Rattle.st_kernel.specs.Held.{IsDue, needs_worker, held_after}
 use Rattle.st_kernel.specs.Held as held
@@ -198,13 +198,13 @@ module _ (x : Inside) (now : Run) (view : run_in x ≡ now) (inv : Holds x) wher
 
 -- ---- a kernel at its start
 
-pub begun : (i : Input) (spaces : List (List ℕ)) (thread : machine.ThreadState) (process_state : ProcessState) (kept : held.Held) (trace : List Entry) (schedule : List Choice) → (one : IsOneThread i) → length spaces ≡ 1 → ((b : ℕ) → byte_in spaces 1 b ≡ 0) → thread ≡ record { owner = 1; left = one.thread.body; pending = None; ended = false } → process_state ≡ record { dying = false; descriptors = 3 } → kept ≡ record { posted = 0; stage = stage.Closed; copies = kept.copies } → trace ≡ [] → schedule ≡ [] → IsKernel i spaces thread process_state kept trace schedule
-begun i spaces thread process_state kept trace schedule one size zeros t s k none empty =
+pub begun : (i : Input) (spaces : Memories) (thread : machine.ThreadState) (process_state : ProcessState) (kept : held.Held) (trace : List Entry) (schedule : List Choice) → (one : IsOneThread i) → is_live spaces 1 ≡ true → ((b : ℕ) → byte_in spaces 1 b ≡ 0) → thread ≡ record { owner = 1; left = one.thread.body; pending = None; ended = false } → process_state ≡ record { dying = false; descriptors = 3 } → kept ≡ record { posted = 0; stage = stage.Closed; copies = kept.copies } → trace ≡ [] → schedule ≡ [] → IsKernel i spaces thread process_state kept trace schedule
+begun i spaces thread process_state kept trace schedule one live zeros t s k none empty =
     subst (λ es. IsKernel i spaces thread process_state kept es schedule) (sym none)
     (subst (λ cs. IsKernel i spaces thread process_state kept [] cs) (sym empty) (record {
       one = one;
       kept_is = record {
-        memory_is = record { one = size; bytes = λ b inside. zeros b };
+        memory_is = record { live = live; bytes = λ b inside. zeros b };
         thread_is = t ∙ (λ j. record { owner = sym (chosen.owner_one i one) j; left = its_body j; pending = None; ended = false });
         process_state_is = s;
         posted_is = λ j. (k j).posted;
@@ -218,9 +218,9 @@ begun i spaces thread process_state kept trace schedule one size zeros t s k non
 
 -- ---- a store
 
-pub stored_now : {A : Type 0} (before after : List (List ℕ)) (e : Entry) (t place word : ℕ) (r : Result A MemFault) → e ≡ entry.Stored t place word → place < 8192 → length before ≡ 1 → length after ≡ length before → OnOk r ((s b : ℕ) → byte_in after s b ≡ memory_after_store (byte_in before) 1 place word s b) → (IsErr r → 8192 ≤ place) → StoresIn before e after
-stored_now before after e t place word (Ok u) is inside one same ok err = subst (λ (x : Entry). StoresIn before x after) (sym is) (same ∙ one, λ b small. ok 1 b)
-stored_now before after e t place word (Err fault) is inside one same ok err = let out : 8192 ≤ place = err refl in absurd (omega (arith, out, inside))
+pub stored_now : {A : Type 0} (before after : Memories) (e : Entry) (t place word : ℕ) (r : Result A MemFault) → e ≡ entry.Stored t place word → place < 8192 → is_live before 1 ≡ true → KeepsSpaces before after → OnOk r ((s b : ℕ) → byte_in after s b ≡ memory_after_store (byte_in before) 1 place word s b) → (IsErr r → 8192 ≤ place) → StoresIn before e after
+stored_now before after e t place word (Ok u) is inside live same ok err = subst (λ (x : Entry). StoresIn before x after) (sym is) (same.1 1 ∙ live, λ b small. ok 1 b)
+stored_now before after e t place word (Err fault) is inside live same ok err = let out : 8192 ≤ place = err refl in absurd (omega (arith, out, inside))
 
 -- ---- one choice and its entry on
 
@@ -243,7 +243,7 @@ module _ (x : Inside) (now : Run) (view : run_in x ≡ now) (inv : Holds x) (c :
   pub due_now : IsDue x.held.copies e
   due_now = is_due x.setup inv.one (reverse x.trace.items) (law x now view inv) e lawful_here x.spaces x.thread x.process_state x.held inv.kept_is
 
-  pub committed : (spaces : List (List ℕ)) (thread : machine.ThreadState) (process_state : ProcessState) (kept : held.Held) (trace : List Entry) (schedule : List Choice) → StoresIn x.spaces e spaces → thread ≡ thread_after e 1 x.thread → process_state ≡ process_state_after e x.process_state → kept ≡ held_after e x.held → trace ≡ x.trace.items ++ e ∷ [] → schedule ≡ x.schedule.items ++ c ∷ [] → IsKernel x.setup spaces thread process_state kept trace schedule
+  pub committed : (spaces : Memories) (thread : machine.ThreadState) (process_state : ProcessState) (kept : held.Held) (trace : List Entry) (schedule : List Choice) → StoresIn x.spaces e spaces → thread ≡ thread_after e 1 x.thread → process_state ≡ process_state_after e x.process_state → kept ≡ held_after e x.held → trace ≡ x.trace.items ++ e ∷ [] → schedule ≡ x.schedule.items ++ c ∷ [] → IsKernel x.setup spaces thread process_state kept trace schedule
   committed spaces thread process_state kept trace schedule stores t s k longer more =
       subst (λ es. IsKernel x.setup spaces thread process_state kept es schedule) (sym longer)
       (subst (λ cs. IsKernel x.setup spaces thread process_state kept (x.trace.items ++ e ∷ []) cs) (sym more) (record {

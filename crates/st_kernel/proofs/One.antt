@@ -18,10 +18,10 @@ use Rattle.st_trace.specs.declared.entry.Entry.TheVariants.{Stored, Entered, Cla
 use Rattle.st_trace.specs.declared.entry.Way.{Way}
 use Rattle.st_trace.specs.declared.entry.Way.TheVariants.{Fast, Barred, Held, Untraced}
 use Rattle.st_trace.specs.declared.start.ThreadRow.{ThreadRow}
-use Rattle.st_law.specs.declared.input.Input.{Input}
-use Rattle.st_law.specs.History.{History, PendingCall, Head, owner_of, pid_of_row, pending_call, head_of, is_closed, is_dying, is_live, is_live_by, is_claimed, is_answered, fault_of, turn_of, worker_at, seq_at_work, is_ready, progress, is_worker, unless_same, new_head, ends_process}
+use Rattle.st_served.specs.declared.input.Input.{Input}
+use Rattle.st_served.specs.History.{History, PendingCall, Head, owner_of, pid_of_row, pending_call, head_of, is_closed, is_dying, is_live, is_live_by, is_claimed, is_answered, fault_of, turn_of, worker_at, seq_at_work, is_ready, progress, is_worker, unless_same, new_head, ends_process}
 use Rattle.st_base.specs.Numbered.{item_at_number}
-use Rattle.st_law.specs.Lawful.{IsRunning, IsClaimed, IsFaulted, IsAnswered, IsCause, IsUsed, IsDenied, IsLawful, IsLawfulBack}
+use Rattle.st_served.specs.Lawful.{IsRunning, IsClaimed, IsFaulted, IsAnswered, IsCause, IsUsed, IsDenied, IsLawful, IsLawfulBack}
 use Rattle.st_kernel.specs.Kept.{HasHeld, has_held_call}
 use Rattle.st_kernel.specs.Runs.{IsOneThread}
 

@@ -10,9 +10,9 @@ use Rattle.st_trace.specs.declared.entry.Cause.{Cause}
 use Rattle.st_trace.specs.declared.entry.Change.{Change}
 use Rattle.st_trace.specs.declared.entry.Entry.{Entry}
 use Rattle.st_trace.specs.declared.entry.Entry.TheVariants.{Stored, Entered, Claimed, Copied, Looked, Faulted, Answered, Used, Denied, Ended, Replied, Learned}
-use Rattle.st_law.specs.declared.input.Input.{Input}
-use Rattle.st_law.specs.History.{History, PendingCall, owner_of, instructions_left, pending_call, has_ended, is_dying}
-use Rattle.st_law.specs.Lawful.{IsRunning, IsUsed, IsDenied, IsEnded, IsLawful, IsLawfulBack}
+use Rattle.st_served.specs.declared.input.Input.{Input}
+use Rattle.st_served.specs.History.{History, PendingCall, owner_of, instructions_left, pending_call, has_ended, is_dying}
+use Rattle.st_served.specs.Lawful.{IsRunning, IsUsed, IsDenied, IsEnded, IsLawful, IsLawfulBack}
 use Rattle.st_kernel.specs.Runs.{IsOneThread}
 use Rattle.st_kernel.specs.Kept.{has_held_call}
 use Rattle.st_kernel.proofs.One.{first_thread}

@@ -17,9 +17,9 @@ use Rattle.st_trace.specs.declared.entry.Entry.{Entry}
 use Rattle.st_trace.specs.declared.entry.Entry.TheVariants.{Stored, Entered, Claimed, Copied, Looked, Faulted, Answered, Used, Denied, Ended, Replied, Learned}
 use Rattle.st_trace.specs.declared.entry.Way.{Way}
 use Rattle.st_trace.specs.declared.entry.Way.TheVariants.{Fast, Barred, Held, Untraced}
-use Rattle.st_law.specs.declared.input.Input.{Input}
-use Rattle.st_law.specs.History.{History, PendingCall, pending_call, posted_count, is_claimed, is_answered, fault_of, copied_words, lookups, turn_of, snapshot_of}
-use Rattle.st_law.specs.Lawful.{IsRunning, IsEntered, IsUsed, IsDenied, IsLawful, IsLawfulBack}
+use Rattle.st_served.specs.declared.input.Input.{Input}
+use Rattle.st_served.specs.History.{History, PendingCall, pending_call, posted_count, is_claimed, is_answered, fault_of, copied_words, lookups, turn_of, snapshot_of}
+use Rattle.st_served.specs.Lawful.{IsRunning, IsEntered, IsUsed, IsDenied, IsLawful, IsLawfulBack}
 use Rattle.st_kernel.specs.Copies.{Copies, with_word, with_lookup}
 use Rattle.st_kernel.specs.Held.{stage_after, copies_after}
 use Rattle.st_kernel.specs.Kept.{HasHeld, has_held_call, IsStage, WayCopies, AreCopies}

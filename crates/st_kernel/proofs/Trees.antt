@@ -5,7 +5,7 @@ use Rattle.st_names.specs.Name.{Components}
 use Rattle.st_model.specs.Tree.{Tree, Node, root_node, root_only, is_same_name, number_of_name, node_at, node_of, add_object, node_of_new}
 use Rattle.st_model.specs.declared.object.NewNode.{NewNode}
 use Rattle.st_trace.specs.declared.start.TreeRow.{TreeRow}
-use Rattle.st_law.specs.History.{tree_from}
+use Rattle.st_served.specs.History.{tree_from}
 use Rattle.st_kernel.specs.Files.{node_in, last_row_of}
 
 -- ---- each number that a name has is an object's

@@ -4,10 +4,10 @@ use Rattle.std.proofs.lemmas.List.{append-nil, reverse-append}
 use Rattle.st_trace.specs.declared.entry.Choice.{Choice}
 use Rattle.st_trace.specs.declared.entry.Choice.TheVariants.{Thread, Worker}
 use Rattle.st_trace.specs.declared.entry.Entry.{Entry}
-use Rattle.st_law.specs.Lawful.{Lawful, IsLawful}
-use Rattle.st_law.specs.Machine.{EnabledChoice, state_at, first_enabled, choice_or, rest_from, most_steps}
-use Rattle.st_law.proofs.Laws.{lawful_choice}
-use Rattle.st_law.proofs.Steps.{Says}
+use Rattle.st_served.specs.Lawful.{Lawful, IsLawful}
+use Rattle.st_served.specs.Machine.{EnabledChoice, state_at, first_enabled, choice_or, rest_from, most_steps}
+use Rattle.st_served.proofs.Laws.{lawful_choice}
+use Rattle.st_served.proofs.Steps.{Says}
 use Rattle.st_kernel.specs.Runs.{Run, IsOneThread, IsAdvanced, choice_in, first_choice, state_after_run, entry_at, choices_left}
 use Rattle.st_kernel.proofs.Ending.{cost}
 use Rattle.st_kernel.proofs.Lowering.{lowers}

@@ -8,13 +8,14 @@ use Rattle.st_calls.specs.declared.call.SysCall.{SysCall}
 use Rattle.st_model.specs.Spelling.{Spelled, Text, spell_name}
 use Rattle.st_names.specs.declared.seen.SeenText.{SeenText}
 use Rattle.st_effects.specs.Progress.{Progress, Word, Look, Stuck, Ready}
-use Rattle.st_law.specs.Served.{machine_progress, machine_spelling_progress}
-use Rattle.st_law.specs.Served.{machine_args}
+use Rattle.st_served.specs.Served.{machine_progress, machine_spelling_progress}
+use Rattle.st_served.specs.Served.{machine_args}
 use Rattle.st_kernel.specs.declared.copies.Need.{Need}
 use Rattle.st_kernel.specs.declared.copies.Need.TheVariants as need
-use Rattle.st_kernel.specs.Copying.{Copied}
-use Rattle.st_kernel.specs.Walking.{Walk}
+use Rattle.st_model.specs.Walk.{start_walk}
+use Rattle.st_resolve.specs.Walk.{Walk, walk_from}
 use Rattle.st_model.specs.declared.limits.TheConstants.{SPACE_WORDS}
+use Rattle.st_translate.specs.Copied.{Copied}
 
 -- a held call, the words that were copied for its name, and what was seen on the name's walk
 pub record Copies : Type 0 where
@@ -86,28 +87,23 @@ NeedsLookup (Look part name) = Unit {0}
 NeedsLookup (Stuck errno) = ⊥
 NeedsLookup (Ready args) = ⊥
 
--- the walk of the name that the words spell, from the root, after these looks
+-- the walk of the name that the words spell, from the root, behind what was seen
 pub record IsWalk (copies : Copies) (walk : Walk) : Type 0 where
-  pub text_is : name_of copies ≡ Text walk.text
-  pub from_root : walk.cwd ≡ []
-  pub follows : walk.follow ≡ true
-  pub lookups_are : walk.lookups ≡ copies.lookups
+  pub text : List ℕ
+  pub text_is : name_of copies ≡ Text text
+  pub goes_on : (more : List SeenText) → walk_from walk more ≡ start_walk text [] true (copies.lookups ++ more)
 
--- what was seen on a walk; nothing where none has begun
-abbrev pub lookups_of : Option Walk → List SeenText
-lookups_of None = []
-lookups_of (Some walk) = walk.lookups
+-- a walk that has begun is that of the copies, and nothing was seen before
+abbrev pub IsBegun : Copies → Option Walk → Type 0
+IsBegun copies None = copies.lookups ≡ []
+IsBegun copies (Some walk) = IsWalk copies walk
 
--- the copies of a call, by the words of its name and by the name's walk, if one has begun
-abbrev pub copies_of_walking : SysCall → List ℕ → Copied → Option Walk → Copies
-copies_of_walking call regs copied walking = record { call = call; regs = regs; words = copied.words; lookups = lookups_of walking }
-
--- a walk that has begun is the walk of the name that the copies spell
-abbrev pub IsBegun : SysCall → List ℕ → Copied → Option Walk → Type 0
-IsBegun call regs copied None = Unit {0}
-IsBegun call regs copied (Some walk) = IsWalk (copies_of_walking call regs copied (Some walk)) walk
+-- the copies of a call, by the words of its name and by what was seen on the name's walk
+abbrev pub copies_of : SysCall → List ℕ → Copied → List SeenText → Copies
+copies_of call regs copied lookups = record { call = call; regs = regs; words = copied.words; lookups = lookups }
 
 -- the name that is copied is that of the first register, and its walk is of it
-pub record IsCopying (call : SysCall) (regs : List ℕ) (copied : Copied) (walking : Option Walk) : Type 0 where
+pub record IsCopying (call : SysCall) (regs : List ℕ) (copied : Copied) (lookups : List SeenText) (walk : Option Walk) : Type 0 where
+  pub kind : copied.kind ≡ kind.Name
   pub at : copied.at ≡ slice_index regs 0
-  pub begun : IsBegun call regs copied walking
+  pub begun : IsBegun (copies_of call regs copied lookups) walk

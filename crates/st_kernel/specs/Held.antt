@@ -4,7 +4,7 @@ use Rattle.st_effects.specs.Progress.{Word, Look}
 use Rattle.st_trace.specs.declared.entry.Entry.{Entry}
 use Rattle.st_trace.specs.declared.entry.Entry.TheVariants.{Entered, Claimed, Copied, Looked, Faulted, Answered, Used, Denied}
 use Rattle.st_trace.specs.declared.entry.Way.TheVariants as way
-use Rattle.st_law.specs.History.{posted_after}
+use Rattle.st_served.specs.History.{posted_after}
 use Rattle.st_kernel.specs.Copies.{Copies, no_copies, with_word, with_lookup, progress_of}
 use Rattle.st_kernel.specs.declared.held.Stage.{Stage}
 use Rattle.st_kernel.specs.declared.held.Stage.TheVariants as stage

@@ -1,17 +1,17 @@
 -- What the kernel keeps is what the machine keeps.
-use Rattle.std.specs.Prelude.{◌≡◌, ℕ, ◌<◌, Bool, true, false, List, length, reverse, Option, Some, None}
+use Rattle.std.specs.Prelude.{◌≡◌, ℕ, ◌<◌, Bool, true, false, List, reverse, Option, Some, None}
 use Rattle.st_calls.specs.declared.call.SysCall.{SysCall}
 use Rattle.st_calls.specs.declared.judged.Snapshot.{Snapshot}
-use Rattle.st_memory.specs.Memory.{byte_in}
+use Rattle.st_memory.specs.Memory.{byte_in, is_live, Memories}
 use Rattle.st_model.specs.Memory.{bytes_after_store}
 use Rattle.st_trace.specs.declared.entry.Choice.{Choice}
 use Rattle.st_trace.specs.declared.entry.Entry.{Entry}
 use Rattle.st_trace.specs.declared.entry.Entry.TheVariants.{Stored}
 use Rattle.st_trace.specs.declared.entry.Way.{Way}
 use Rattle.st_trace.specs.declared.entry.Way.TheVariants.{Fast, Barred, Held, Untraced}
-use Rattle.st_law.specs.declared.input.Input.{Input}
-use Rattle.st_law.specs.History.{History, PendingCall, owner_of, instructions_left, pending_call, has_ended, is_dying, byte_at, descriptors_at, posted_count, is_claimed, is_answered, fault_of, copied_words, lookups, turn_of, snapshot_of, verdict_of}
-use Rattle.st_law.specs.Machine.{ThreadState, run}
+use Rattle.st_served.specs.declared.input.Input.{Input}
+use Rattle.st_served.specs.History.{History, PendingCall, owner_of, instructions_left, pending_call, has_ended, is_dying, byte_at, descriptors_at, posted_count, is_claimed, is_answered, fault_of, copied_words, lookups, turn_of, snapshot_of, verdict_of}
+use Rattle.st_served.specs.Machine.{ThreadState, run}
 use Rattle.st_kernel.specs.Copies.{Copies}
 use Rattle.st_kernel.specs.Held as held
 use Rattle.st_kernel.specs.Runs.{IsOneThread}
@@ -59,18 +59,18 @@ AreCopies h None copies = Unit {0}
 AreCopies h (Some p) copies = WayCopies h p.call p.regs p.way copies
 
 -- the one space is the memory of the process
-pub record IsMemory (i : Input) (h : History) (spaces : List (List ℕ)) : Type 0 where
-  pub one : length spaces ≡ 1
+pub record IsMemory (i : Input) (h : History) (spaces : Memories) : Type 0 where
+  pub live : is_live spaces 1 ≡ true
   pub bytes : (b : ℕ) → b < SPACE_BYTES → byte_in spaces 1 b ≡ byte_at i h 1 b
 
 -- what an entry makes of the space
-abbrev pub StoresIn : List (List ℕ) → Entry → List (List ℕ) → Type 0
+abbrev pub StoresIn : Memories → Entry → Memories → Type 0
 StoresIn before (Stored t place word) after =
-    (length after ≡ 1) × ((b : ℕ) → b < SPACE_BYTES → byte_in after 1 b ≡ bytes_after_store (byte_in before 1) place word b)
+    (is_live after 1 ≡ true) × ((b : ℕ) → b < SPACE_BYTES → byte_in after 1 b ≡ bytes_after_store (byte_in before 1) place word b)
 StoresIn before _ after = after ≡ before
 
 -- what is kept of memory, thread, process and newest held call is what the entries so far say of them
-pub record IsKept (i : Input) (h : History) (spaces : List (List ℕ)) (thread : ThreadState) (process_state : ProcessState) (kept : held.Held) : Type 0 where
+pub record IsKept (i : Input) (h : History) (spaces : Memories) (thread : ThreadState) (process_state : ProcessState) (kept : held.Held) : Type 0 where
   pub memory_is : IsMemory i h spaces
   pub thread_is : thread ≡ record { owner = owner_of i 1; left = instructions_left i h 1; pending = pending_call h 1; ended = has_ended h 1 }
   pub process_state_is : process_state ≡ record { dying = is_dying h 1; descriptors = descriptors_at i h 1 }
@@ -79,7 +79,7 @@ pub record IsKept (i : Input) (h : History) (spaces : List (List ℕ)) (thread :
   pub copies_are : AreCopies h (pending_call h 1) kept.copies
 
 -- the trace is that of the schedule, and what is kept is what the machine keeps behind it
-pub record IsKernel (i : Input) (spaces : List (List ℕ)) (thread : ThreadState) (process_state : ProcessState) (kept : held.Held) (trace : List Entry) (schedule : List Choice) : Type 0 where
+pub record IsKernel (i : Input) (spaces : Memories) (thread : ThreadState) (process_state : ProcessState) (kept : held.Held) (trace : List Entry) (schedule : List Choice) : Type 0 where
   pub one : IsOneThread i
   pub kept_is : IsKept i (reverse trace) spaces thread process_state kept
   pub run_is : trace ≡ run i schedule

@@ -1,6 +1,5 @@
 pub mod Answers
 pub mod Copies
-pub mod Copying
 pub mod Files
 pub mod Held
 pub mod Index
@@ -9,4 +8,3 @@ pub mod Opening
 pub mod Runs
 pub mod Setup
 pub mod ProcessState
-pub mod Walking

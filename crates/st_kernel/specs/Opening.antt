@@ -3,7 +3,7 @@ use Rattle.std.specs.Prelude.{nat_le, if◌then◌else◌}
 use Rattle.st_base.specs.declared.errno.Errno.TheVariants.{EMFILE}
 use Rattle.st_base.specs.declared.ids.Ids.{Ids}
 use Rattle.st_names.specs.Name.{Components}
-use Rattle.st_law.specs.Served.{MachineOutcome, MachineSetting, error_outcome, machine_open_walk_outcome}
+use Rattle.st_served.specs.Served.{MachineOutcome, MachineSetting, error_outcome, machine_open_walk_outcome}
 use Rattle.st_effects.specs.NameTests.{walk_error}
 use Rattle.st_model.specs.declared.open_file.TheConstants.{DESCRIPTORS}
 

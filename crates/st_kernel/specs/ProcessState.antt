@@ -2,7 +2,7 @@
 use Rattle.std.specs.Prelude.{ℕ, ◌+◌}
 use Rattle.st_trace.specs.declared.entry.Entry.{Entry}
 use Rattle.st_trace.specs.declared.entry.Entry.TheVariants.{Used}
-use Rattle.st_law.specs.History.{dying_after, opened_count}
+use Rattle.st_served.specs.History.{dying_after, opened_count}
 use Rattle.st_kernel.specs.declared.process_state.ProcessState.{ProcessState}
 
 -- how many descriptors an entry opens

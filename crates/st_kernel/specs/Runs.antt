@@ -1,13 +1,13 @@
 -- A run of one traced thread: what it is of, its trace, and the schedule that gave it.
 use Rattle.std.specs.Prelude.{◌≡◌, true, List, [], ◌∷◌, ◌++◌, reverse, Option, Some, option_map}
-use Rattle.st_law.specs.Served.{HaveNoLinks}
+use Rattle.st_served.specs.Served.{HaveNoLinks}
 use Rattle.st_trace.specs.declared.entry.Choice.{Choice}
 use Rattle.st_trace.specs.declared.entry.Entry.{Entry}
 use Rattle.st_trace.specs.declared.start.ProcessRow.{ProcessRow}
 use Rattle.st_trace.specs.declared.start.ThreadRow.{ThreadRow}
-use Rattle.st_law.specs.declared.input.Input.{Input}
-use Rattle.st_law.specs.History.{Process, process_of}
-use Rattle.st_law.specs.Machine.{State, EnabledChoice, state_at, entry_of, first_enabled, rest_from, most_steps}
+use Rattle.st_served.specs.declared.input.Input.{Input}
+use Rattle.st_served.specs.History.{Process, process_of}
+use Rattle.st_served.specs.Machine.{State, EnabledChoice, state_at, entry_of, first_enabled, rest_from, most_steps}
 
 -- what a run is of, what it did, and by which choices
 pub record Run : Type 0 where

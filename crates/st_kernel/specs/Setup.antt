@@ -8,12 +8,12 @@ use Rattle.st_calls.specs.declared.rule.FastAnswer.{FastAnswer}
 use Rattle.st_model.specs.Tree.{Tree}
 use Rattle.st_filter.specs.Formula.{FilterValue}
 use Rattle.st_filter.specs.Policies.{policy_of}
-use Rattle.st_law.specs.Served.{MachineSetting}
+use Rattle.st_served.specs.Served.{MachineSetting}
 use Rattle.st_trace.specs.declared.entry.Change.{Change}
 use Rattle.st_trace.specs.declared.entry.Change.TheVariants.{Dying}
 use Rattle.st_trace.specs.declared.start.ProcessRow.{ProcessRow}
-use Rattle.st_law.specs.declared.input.Input.{Input}
-use Rattle.st_law.specs.History.{tree_of, new_head, snapshot_with}
+use Rattle.st_served.specs.declared.input.Input.{Input}
+use Rattle.st_served.specs.History.{tree_of, new_head, snapshot_with}
 use Rattle.st_kernel.specs.Answers.{fast_answers}
 use Rattle.st_kernel.specs.Runs.{IsOneThread}
 use Rattle.st_filter.specs.declared.set.TheConstants.{MOST_FILTERS}

@@ -2,7 +2,7 @@ ghost use Rattle.std.specs.Prelude.{◌≡◌, ℕ, List, IfOk};
 ghost use Rattle.st_base.specs.declared.ids.Ids.{Ids};
 ghost use Rattle.st_calls.specs.declared.argument.ArgText.{ArgText};
 ghost use Rattle.st_names.specs.Name.{components_of};
-ghost use Rattle.st_law.specs.Served.{MachineSetting, machine_effect, machine_open_outcome};
+ghost use Rattle.st_served.specs.Served.{MachineSetting, machine_effect, machine_open_outcome};
 ghost use Rattle.st_kernel.specs.Setup.{changes_made};
 
 use crate::files::Files;

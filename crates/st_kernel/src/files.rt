@@ -1,6 +1,6 @@
 ghost use Rattle.std.specs.Prelude.{◌≡◌, ◌≤◌, Some, None, length, take, option_copied, IfOk};
 ghost use Rattle.st_model.specs.Tree.{is_directory, look, node_of, root_only, seen_of, node_of_new};
-ghost use Rattle.st_law.specs.History.{tree_from};
+ghost use Rattle.st_served.specs.History.{tree_from};
 ghost use Rattle.st_kernel.specs.Files.{node_in};
 
 use crate::index::Index;
@@ -19,7 +19,7 @@ pub struct Files<'a> {
 impl<'a> Model for Files<'a> {
     ghost use Rattle.std.specs.Prelude.{◌≡◌};
     ghost use Rattle.st_model.specs.Tree.{Tree, root_node, root_only, node_of_new};
-    ghost use Rattle.st_law.specs.History.{tree_from};
+    ghost use Rattle.st_served.specs.History.{tree_from};
 
     ghost Value = { Tree };
 

@@ -72,14 +72,14 @@ fn stage_after(entry: &Entry, before: Stage) -> Stage
 
 impl Held {
     /// Before the first message.
-    pub fn new(alloc: Global) -> Self
-        ensures { result ≡ record { posted = 0; stage = Stage.Closed; copies = no_copies SysCall.Exit (0 ∷ 0 ∷ 0 ∷ 0 ∷ 0 ∷ 0 ∷ []) } }
+    pub fn new(alloc: Global) -> Result<Self, AllocError>
+        ensures { IfOk result (λ held. held ≡ record { posted = 0; stage = Stage.Closed; copies = no_copies SysCall.Exit (0 ∷ 0 ∷ 0 ∷ 0 ∷ 0 ∷ 0 ∷ []) }) }
     {
-        Held {
+        Ok(Held {
             posted: 0,
             stage: Stage::Closed,
-            copies: Copies::new(alloc, SysCall::Exit, [0; 6]),
-        }
+            copies: Copies::new(alloc, SysCall::Exit, [0; 6])?,
+        })
     }
 
     /// The newest message's number, 0 before the first.
@@ -140,10 +140,13 @@ impl Held {
                 way: Way::Held(_),
                 ..
             } => {
-                self.copies = Copies::new(alloc, *call, *regs);
+                self.copies = Copies::new(alloc, *call, *regs)?;
                 Ok(())
             }
-            Entry::Copied { word, .. } => self.copies.push_word(*word),
+            Entry::Copied { word, .. } => {
+                self.copies.push_word(*word);
+                Ok(())
+            }
             Entry::Looked { seen, .. } => self.copies.push_lookup(alloc, seen.copy(alloc)?),
             _ => Ok(()),
         }

@@ -1,10 +1,11 @@
-ghost use Rattle.std.specs.Prelude.{◌≡◌, ◌↔◌, ◌<◌, [], ◌++◌, is_some, IsSome, IfOk, OnOk, OnErr, None, Some, take, length, reverse};
+ghost use Rattle.std.specs.Prelude.{◌≡◌, ◌↔◌, ◌<◌, [], ◌++◌, is_some, IsSome, IfOk, OnOk, OnErr, None, Some, true, take, length, reverse};
+ghost use Rattle.st_memory.specs.Memory.{is_live};
 ghost use Rattle.st_model.specs.Memory.{word_of};
 ghost use Rattle.st_trace.specs.declared.entry.Choice.TheVariants as choices;
 ghost use Rattle.st_trace.specs.declared.entry.Way.TheVariants as ways;
-ghost use Rattle.st_law.specs.History.{byte_at, pending_call, posted_count, turn_of};
-ghost use Rattle.st_law.specs.Lawful.{Lawful};
-ghost use Rattle.st_law.specs.Machine.{run, first_enabled, pending_call_entry};
+ghost use Rattle.st_served.specs.History.{byte_at, pending_call, posted_count, turn_of};
+ghost use Rattle.st_served.specs.Lawful.{Lawful};
+ghost use Rattle.st_served.specs.Machine.{run, first_enabled, pending_call_entry};
 ghost use Rattle.st_kernel.specs.Kept.{StoresIn};
 ghost use Rattle.st_kernel.specs.Runs.{IsOneThread, IsAdvanced, first_choice, state_after_run, entry_at, choices_left};
 ghost use Rattle.st_model.specs.declared.limits.TheConstants.{SPACE_WORDS};
@@ -15,8 +16,8 @@ use crate::process_state::ProcessState;
 use crate::setup::{PROCESS, Setup, THREAD, WORKER};
 use crate::thread::{PendingCall, Thread};
 use st_base::{Seq, Sequence, Space};
-use st_law::Input;
 use st_memory::{SPACE_WORDS, Spaces};
+use st_served::Input;
 use st_trace::{Cause, Choice, Entry, Way};
 use std::alloc::{AllocError, Global};
 use std::marker::Model;
@@ -75,7 +76,7 @@ impl<'a> Model for Kernel<'a> {
 
 // What an entry makes of memory; a place past its end is none.
 fn store(spaces: &mut Spaces, entry: &Entry)
-    requires { length spaces.old ≡ 1 }
+    requires { is_live spaces.old 1 ≡ true }
     ensures { StoresIn spaces.old entry.now spaces.new }
 {
     if let Entry::Stored { place, word, .. } = entry {
@@ -92,6 +93,7 @@ impl<'a> Kernel<'a> {
         ensures { IfOk result (λ kernel. kernel ≡ record { input = input.now; trace = []; schedule = [] }) }
     {
         let thread = &input.start.threads.as_slice()[0];
+        let held = Held::new(alloc)?;
         let setup = Setup::of(alloc, input)?;
         let mut spaces = Spaces::new(alloc);
         spaces.make(alloc)?;
@@ -100,7 +102,7 @@ impl<'a> Kernel<'a> {
             spaces,
             thread: Thread::new(PROCESS, thread.body.as_slice()),
             process_state: ProcessState::new(),
-            held: Held::new(alloc),
+            held,
             trace: Vec::new(alloc),
             schedule: Vec::new(alloc),
         })

@@ -2,7 +2,6 @@
 #![tactic(auto)]
 
 mod copies;
-mod copying;
 mod effects;
 mod files;
 mod held;
@@ -15,6 +14,5 @@ mod table;
 #[cfg(test)]
 mod tests;
 mod thread;
-mod walking;
 
 pub use kernel::{Kernel, StepFault};

@@ -1,5 +1,5 @@
 ghost use Rattle.std.specs.Prelude.{◌≡◌, None, option_copied, IfOk};
-ghost use Rattle.st_law.specs.Served.{machine_open_node_outcome};
+ghost use Rattle.st_served.specs.Served.{machine_open_node_outcome};
 ghost use Rattle.st_model.specs.Permission.{allowed};
 ghost use Rattle.st_effects.specs.NameTests.{search_error, walk_error};
 ghost use Rattle.st_model.specs.Tree.{node_of_new};

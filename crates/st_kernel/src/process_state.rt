@@ -1,5 +1,5 @@
 ghost use Rattle.std.specs.Prelude.{◌≡◌, ◌<◌, ◌-◌, ◌^◌, false};
-ghost use Rattle.st_law.specs.History.{changes_of, ends_process, opened_count};
+ghost use Rattle.st_served.specs.History.{changes_of, ends_process, opened_count};
 ghost use Rattle.st_kernel.specs.ProcessState.{opened_count_of, process_state_after};
 
 use crate::setup::PROCESS;

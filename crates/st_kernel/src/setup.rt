@@ -1,7 +1,7 @@
 ghost use Rattle.std.specs.Prelude.{◌≡◌, ◌==◌, ℕ, true, is_some, Some, IfOk};
 ghost use Rattle.st_model.specs.Tree.{look};
-ghost use Rattle.st_law.specs.History.{verdict_of, process_of, tree_of};
-ghost use Rattle.st_law.specs.Machine.{answer_for, entry_of_verdict, barred_entry, entered_entry, next_instruction_entry, used_entry, way_for};
+ghost use Rattle.st_served.specs.History.{verdict_of, process_of, tree_of};
+ghost use Rattle.st_served.specs.Machine.{answer_for, entry_of_verdict, barred_entry, entered_entry, next_instruction_entry, used_entry, way_for};
 ghost use Rattle.st_kernel.specs.Runs.{IsOneThread};
 ghost use Rattle.st_kernel.specs.Setup.{snapshot_of_copies, setting_of};
 ghost use Rattle.st_trace.specs.declared.entry.Entry.TheVariants.{Answered};
@@ -13,8 +13,8 @@ use crate::thread::PendingCall;
 use st_base::{Errno, Ids, Pid, Seq, Sequence, Tid, Worker};
 use st_calls::{ArgText, FastAnswer, Rule, Snapshot, SysCall, Verdict};
 use st_filter::{Policy, decide};
-use st_law::Input;
 use st_names::{AbsName, SeenText};
+use st_served::Input;
 use st_trace::{Cause, Entry, Instr, ProcessRow, Way};
 use std::alloc::{AllocError, Global};
 use std::marker::Model;
@@ -41,7 +41,7 @@ pub struct Setup<'a> {
 impl<'a> Model for Setup<'a> {
     ghost use Rattle.std.specs.Coded.{codes};
     ghost use Rattle.st_filter.specs.FormulaCode.{formula_code};
-    ghost use Rattle.st_law.specs.declared.input.Input.{Input};
+    ghost use Rattle.st_served.specs.declared.input.Input.{Input};
     ghost use Rattle.st_kernel.specs.Setup.{IsSetup};
 
     ghost Value = { Input };

@@ -1,13 +1,13 @@
 ghost use Rattle.std.specs.Prelude.{IfOk, ◌≡◌};
-ghost use Rattle.st_law.specs.Served.{HaveNoLinks};
+ghost use Rattle.st_served.specs.Served.{HaveNoLinks};
 ghost use Rattle.st_kernel.specs.Runs.{IsOneThread};
 
 use crate::{Kernel, StepFault};
 use st_base::{Errno, Sequence, Text};
 use st_calls::{Rule, SysCall};
 use st_filter::{Action, Expr, Filter, FilterName, MOST_FILTERS, Op, PolicySet};
-use st_law::{Input, Mode, Options};
 use st_names::AbsName;
+use st_served::{Input, Mode, Options};
 use st_trace::{Choice, Instr, NewKind, NewNode, ProcessRow, Start, ThreadRow, TreeRow};
 use std::alloc::{AllocError, Global};
 use std::test::Fail;

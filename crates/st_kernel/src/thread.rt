@@ -1,5 +1,5 @@
 ghost use Rattle.std.specs.Prelude.{◌≡◌, cond, drop, false, None};
-ghost use Rattle.st_law.specs.Machine.{thread_after};
+ghost use Rattle.st_served.specs.Machine.{thread_after};
 
 use st_base::{Pid, Tid};
 use st_calls::SysCall;
@@ -15,7 +15,7 @@ pub struct PendingCall {
 }
 
 impl Model for PendingCall {
-    ghost use Rattle.st_law.specs.History as history;
+    ghost use Rattle.st_served.specs.History as history;
 
     ghost Value = { history.PendingCall };
 
@@ -34,7 +34,7 @@ pub struct Thread<'a> {
 }
 
 impl<'a> Model for Thread<'a> {
-    ghost use Rattle.st_law.specs.Machine as machine;
+    ghost use Rattle.st_served.specs.Machine as machine;
 
     ghost Value = { machine.ThreadState };
 

@@ -15,7 +15,7 @@ use Rattle.st_script.specs.declared.tree.Owner.{Owner}
 use Rattle.st_script.specs.declared.tree.TreeBuilder.{TreeBuilder}
 use Rattle.st_script.specs.Tree.{root_tree, is_tree_row, tree_with_row, tree_with_place, with_row, new_row, dir_row, file_row, file_of, owned_row, owner_at, content_at, path_at, is_free_place}
 use Rattle.st_model.specs.declared.object.NewKind.TheVariants.{Dir, File}
-use Rattle.st_law.specs.Served.{HaveNoLinks, is_link_row}
+use Rattle.st_served.specs.Served.{HaveNoLinks, is_link_row}
 use Rattle.st_model.specs.declared.object.NewNode.{NewNode}
 use Rattle.st_trace.specs.declared.start.Start.{Start}
 use Rattle.st_trace.specs.declared.start.TreeRow.{TreeRow}

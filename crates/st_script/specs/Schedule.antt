@@ -4,8 +4,8 @@ use Rattle.st_lex.specs.declared.token.Token.{Token}
 use Rattle.st_lex.specs.Text.{is_keyword}
 use Rattle.st_lex.specs.Rows.{rows}
 use Rattle.st_lex.specs.Plain.{plain_tokens}
-use Rattle.st_law.specs.declared.input.Schedule.{Schedule}
-use Rattle.st_law.specs.declared.input.Schedule.TheVariants.{Rest}
+use Rattle.st_served.specs.declared.input.Schedule.{Schedule}
+use Rattle.st_served.specs.declared.input.Schedule.TheVariants.{Rest}
 
 -- the schedule that a row spells
 abbrev pub schedule_row : List ℕ → List Token → Option Schedule

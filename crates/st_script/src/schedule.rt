@@ -2,8 +2,8 @@ ghost use Rattle.std.specs.Prelude.{◌≡◌, ◌^◌, ◌<◌, length, IfOk};
 ghost use Rattle.st_lex.specs.Rows.{rows};
 ghost use Rattle.st_script.specs.Schedule.{schedule_row, schedule_rows, schedule_in};
 
-use st_law::Schedule;
 use st_lex::{Token, next_row, plain_tokens};
+use st_served::Schedule;
 use std::alloc::{AllocError, Global};
 
 /// The schedule of a row: `rest`.

@@ -1,7 +1,7 @@
 ghost use Rattle.std.specs.Prelude.{◌≡◌, ◌≢◌, ◌^◌, ◌<◌, length, true, IfOk, IfSome};
 ghost use Rattle.st_lex.specs.Rows.{rows};
 ghost use Rattle.st_script.specs.Tree.{root_tree};
-ghost use Rattle.st_law.specs.Served.{HaveNoLinks};
+ghost use Rattle.st_served.specs.Served.{HaveNoLinks};
 ghost use Rattle.st_script.specs.Script.{is_root_token, traced_process, process_row, is_thread_row, one_thread, thread_rows, process_rows, script_rows, script_in, StartsOneThread};
 
 use crate::body::body_rows;

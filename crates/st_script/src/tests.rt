@@ -1,7 +1,7 @@
 use crate::path::is_absolute;
 use crate::{ScriptFault, read_schedule, read_script};
 use st_calls::SysCall;
-use st_law::Schedule;
+use st_served::Schedule;
 use st_trace::{Instr, NewKind, Start};
 use std::process::Abort;
 use std::test::Fail;

@@ -12,10 +12,10 @@ use Rattle.st_policy.specs.Diagram.{fault_in}
 use Rattle.st_trace.specs.declared.start.Start.{Start}
 use Rattle.st_script.specs.Script.{script_in}
 use Rattle.st_script.specs.Schedule.{schedule_in}
-use Rattle.st_law.specs.declared.input.Input.{Input}
-use Rattle.st_law.specs.declared.input.Schedule.{Schedule}
-use Rattle.st_law.specs.Machine.{run, played}
-use Rattle.st_law.proofs.Laws.{run_lawful}
+use Rattle.st_served.specs.declared.input.Input.{Input}
+use Rattle.st_served.specs.declared.input.Schedule.{Schedule}
+use Rattle.st_served.specs.Machine.{run, played}
+use Rattle.st_served.proofs.Laws.{run_lawful}
 use Rattle.st_audit.specs.Audit.{audit}
 use Rattle.st_top.specs.declared.status.Status.{Status}
 use Rattle.st_top.specs.declared.status.Which.{Which}

@@ -11,8 +11,8 @@ use Rattle.st_policy.proofs.Complete.{reads-once, reads-faultless}
 use Rattle.st_trace.specs.declared.start.Start.{Start}
 use Rattle.st_script.specs.Script.{script_in}
 use Rattle.st_script.specs.Schedule.{schedule_in}
-use Rattle.st_law.specs.declared.input.Input.{Input}
-use Rattle.st_law.specs.declared.input.Schedule.{Schedule}
+use Rattle.st_served.specs.declared.input.Input.{Input}
+use Rattle.st_served.specs.declared.input.Schedule.{Schedule}
 use Rattle.st_top.specs.declared.status.Which.{Which}
 use Rattle.st_top.specs.declared.status.Which.TheVariants as which
 use Rattle.st_top.specs.declared.status.Status.TheVariants.{Policy}

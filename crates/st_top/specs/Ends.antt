@@ -5,9 +5,9 @@ use Rattle.st_outside.specs.Count.{HasRisen}
 use Rattle.st_outside.specs.Files.{FileView, Unknown, Absent, FileBytes, CanLack, CanExceed}
 use Rattle.st_outside.specs.Sink.{Appends, AppendsFront}
 use Rattle.st_trace.specs.declared.entry.Choice.{Choice}
-use Rattle.st_law.specs.declared.input.Input.{Input}
-use Rattle.st_law.specs.Lawful.{Lawful}
-use Rattle.st_law.specs.Machine.{run}
+use Rattle.st_served.specs.declared.input.Input.{Input}
+use Rattle.st_served.specs.Lawful.{Lawful}
+use Rattle.st_served.specs.Machine.{run}
 use Rattle.st_top.specs.declared.status.Status.{Status}
 use Rattle.st_top.specs.declared.status.Status.TheVariants.{Done, Missing, Usage, Policy, ReadFault, WriteFault, NoMemory, TooLong, NotBuilt}
 use Rattle.st_top.specs.declared.status.Which.{Which}

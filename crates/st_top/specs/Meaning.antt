@@ -13,11 +13,11 @@ use Rattle.st_policy.specs.Form.{is_in_form}
 use Rattle.st_policy.specs.Grammar as policy
 use Rattle.st_script.specs.Script.{script_in}
 use Rattle.st_script.specs.Schedule.{schedule_in}
-use Rattle.st_law.specs.declared.input.Input.{Input}
-use Rattle.st_law.specs.declared.input.Options.{Options}
-use Rattle.st_law.specs.declared.input.Mode.TheVariants.{Enforce}
-use Rattle.st_law.specs.declared.input.Schedule.{Schedule}
-use Rattle.st_law.specs.Machine.{run, played}
+use Rattle.st_served.specs.declared.input.Input.{Input}
+use Rattle.st_served.specs.declared.input.Options.{Options}
+use Rattle.st_served.specs.declared.input.Mode.TheVariants.{Enforce}
+use Rattle.st_served.specs.declared.input.Schedule.{Schedule}
+use Rattle.st_served.specs.Machine.{run, played}
 use Rattle.st_audit.specs.Audit.{audit}
 use Rattle.st_top.specs.declared.status.Status.{Status}
 use Rattle.st_top.specs.declared.status.Status.TheVariants.{Missing, Usage, Policy, TooLong, NotBuilt}

@@ -1,5 +1,5 @@
 use Rattle.std.proofs.Common.{◌≡◌, drop}
-use Rattle.st_law.specs.History.{ends_process}
+use Rattle.st_served.specs.History.{ends_process}
 use Rattle.st_kernel.proofs.process_state.ends_process.Given as goal
 
 -- what is left says whether it ends

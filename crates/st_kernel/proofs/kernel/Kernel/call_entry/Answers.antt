@@ -1,6 +1,6 @@
 use Rattle.std.proofs.Common.{None, sym, ◌∙◌}
-use Rattle.st_law.specs.History.{process_of}
-use Rattle.st_law.specs.Machine.{used_entry, barred_entry, answer_for}
+use Rattle.st_served.specs.History.{process_of}
+use Rattle.st_served.specs.Machine.{used_entry, barred_entry, answer_for}
 use Rattle.st_kernel.specs.Setup.{setting_of}
 use Rattle.st_kernel.proofs.Now.{fast_now, barred_now}
 use Rattle.st_kernel.proofs.kernel.Kernel.call_entry.Goals as goal

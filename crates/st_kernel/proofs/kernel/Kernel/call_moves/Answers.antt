@@ -1,6 +1,6 @@
 use Rattle.std.proofs.Common.{Some, refl, sym, ap, ◌∙◌, is_some}
-use Rattle.st_law.specs.History.{process_of}
-use Rattle.st_law.specs.Machine.{answer_for, barred_entry, pending_call_entry}
+use Rattle.st_served.specs.History.{process_of}
+use Rattle.st_served.specs.Machine.{answer_for, barred_entry, pending_call_entry}
 use Rattle.st_kernel.specs.Runs.{state_after_run}
 use Rattle.st_kernel.proofs.Now.{barred_now, faulted_now, waits_now, answered_moves_now}
 use Rattle.st_kernel.proofs.kernel.Kernel.call_moves.Goals as goal

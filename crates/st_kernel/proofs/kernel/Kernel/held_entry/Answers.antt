@@ -1,5 +1,5 @@
 use Rattle.std.proofs.Common.{refl, ◌∙◌, sym}
-use Rattle.st_law.specs.Machine.{entry_of_verdict}
+use Rattle.st_served.specs.Machine.{entry_of_verdict}
 use Rattle.st_kernel.specs.Setup.{snapshot_of_copies, setting_of}
 use Rattle.st_kernel.proofs.Now.{faulted_now, answered_now, unready_now, waits_now}
 use Rattle.st_kernel.proofs.kernel.Kernel.held_entry.Goals as goal

@@ -1,9 +1,9 @@
 use Rattle.std.proofs.Common.{Some, sym, ◌∙◌, true}
 use Rattle.st_trace.specs.declared.entry.Entry.TheVariants.{Copied, Looked, Faulted, Answered}
-use Rattle.st_law.specs.History.{verdict_of}
+use Rattle.st_served.specs.History.{verdict_of}
 use Rattle.st_kernel.specs.Copies.{progress_of_need}
 use Rattle.st_kernel.specs.Setup.{snapshot_of_copies}
-use Rattle.st_kernel.proofs.Places.{if_ok_map}
+use Rattle.std.proofs.lemmas.Result.{IfOk-weaker}
 use Rattle.st_kernel.proofs.Now.{copied_now, looked_now, stuck_now, answer_now}
 use Rattle.st_kernel.proofs.kernel.Kernel.serve.Goals as goal
 
@@ -24,7 +24,7 @@ returns-in-Fault-clause-value c =
 
 pub returns-in-Parts-clause-value : goal.returns-in-Parts-clause-value
 returns-in-Parts-clause-value c =
-    if_ok_map c.answered.result
+    IfOk-weaker c.answered.result _ _
     (λ y is. answer_now c.self.inside c.args.self.now c.self.view_is c.self.invariant c.requires c.in-Parts.args ((λ k. progress_of_need (sym c.in-Parts.is k)) ∙ c.in_ok-place.ensures.value) y
     (is ∙ (λ k. Answered 1 (snapshot_of_copies c.self.inside.setup (c.posted-seq.ensures k) ((c.call-call.ensures ∙ (λ j. (c.need.ensures.kept j).copies.call)) k) ((c.regs-regs.ensures ∙ (λ j. (c.need.ensures.kept j).copies.regs)) k) c.in-Parts.args) (verdict_of c.self.inside.setup (snapshot_of_copies c.self.inside.setup (c.posted-seq.ensures k) ((c.call-call.ensures ∙ (λ j. (c.need.ensures.kept j).copies.call)) k) ((c.regs-regs.ensures ∙ (λ j. (c.need.ensures.kept j).copies.regs)) k) c.in-Parts.args)) true)))
     c.answered.ensures

@@ -1,7 +1,7 @@
 use Rattle.std.proofs.Common.{◌+◌, sym, ◌∙◌, arith}
-use Rattle.st_law.specs.History.{process_of}
-use Rattle.st_law.specs.Machine.{next_instruction_entry}
-use Rattle.st_kernel.proofs.Places.{if_ok_map}
+use Rattle.st_served.specs.History.{process_of}
+use Rattle.st_served.specs.Machine.{next_instruction_entry}
+use Rattle.std.proofs.lemmas.Result.{IfOk-weaker}
 use Rattle.st_kernel.proofs.Now.{ended_now, dying_now, finishing_now, pending_now, going_now, posted_fits}
 use Rattle.st_kernel.proofs.kernel.Kernel.thread_entry.Goals as goal
 
@@ -19,7 +19,7 @@ call_entry-requires c = pending_now c.self.inside c.args.self.now c.self.view_is
 
 pub returns-in-Some-clause-value : goal.returns-in-Some-clause-value
 returns-in-Some-clause-value c =
-    if_ok_map c.call_entry.result
+    IfOk-weaker c.call_entry.result _ _
     (λ o is. finishing_now c.self.inside c.args.self.now c.self.view_is c.self.invariant (sym c.has_ended.ensures ∙ c.if-has_ended.false) (sym c.is_dying.ensures ∙ c.if-is_dying.false) c.in-Some.entered (sym c.pending.ensures ∙ c.in-Some.is) o is)
     c.call_entry.ensures.value
 

@@ -1,4 +1,4 @@
-use Rattle.st_law.proofs.Laws.{run_lawful}
+use Rattle.st_served.proofs.Laws.{run_lawful}
 use Rattle.st_kernel.proofs.kernel.Kernel.trace.Goals as goal
 
 pub returns-clause-lawful : goal.returns-clause-lawful

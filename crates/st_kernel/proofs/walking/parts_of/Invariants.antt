@@ -1,7 +1,0 @@
-use Rattle.std.proofs.Common.{◌≡◌, map}
-use Rattle.std.specs.List.{filter}
-use Rattle.st_names.specs.Name.{is_component}
-use Rattle.st_kernel.proofs.walking.parts_of.Given as goal
-
-abbrev pub invariant-loop-part : goal.invariant-loop-part
-invariant-loop-part l = l.parts.items ≡ filter is_component (map (λ x. x.now) l.yielded)
