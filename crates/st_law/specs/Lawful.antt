@@ -1,7 +1,7 @@
--- The law of whole traces, entry by entry, in what looking back says.
+-- The law of whole traces, entry by entry: what has to hold of an entry by what the entries before it say.
 use Rattle.std.specs.Prelude.{◌≡◌, ◌≢◌, ◌≤◌, ◌<◌, ℕ, suc, Bool, true, false, ◌⊎◌, List, [], ◌∷◌, reverse, Option, Some, None}
 use Rattle.st_base.specs.declared.errno.Errno.{Errno}
-use Rattle.st_base.specs.declared.errno.Errno.TheVariants.{EPERM}
+use Rattle.st_base.specs.declared.errno.Errno.TheVariants.{EPERM, ELOOP}
 use Rattle.st_base.specs.declared.ids.Ids.{Ids}
 use Rattle.st_calls.specs.declared.argument.ArgText.{ArgText}
 use Rattle.st_calls.specs.declared.call.SysCall.{SysCall}
@@ -10,202 +10,275 @@ use Rattle.st_calls.specs.declared.judged.Verdict.{Verdict}
 use Rattle.st_calls.specs.declared.judged.Verdict.TheVariants.{Permit, Refuse, Unmatched}
 use Rattle.st_calls.specs.declared.rule.FastAnswer.{FastAnswer}
 use Rattle.st_calls.specs.declared.rule.FastAnswer.TheVariants as answer
+use Rattle.st_filter.specs.Judging.{verdict}
 use Rattle.st_names.specs.Name.{Components}
-use Rattle.st_model.specs.Tree.{look}
 use Rattle.st_names.specs.declared.seen.SeenText.{SeenText}
-use Rattle.st_filter.specs.Fast.{fast}
-use Rattle.st_filter.specs.Policies.{read_filters}
+use Rattle.st_model.specs.Tree.{look}
+use Rattle.st_effects.specs.Effect.{effect}
+use Rattle.st_effects.specs.Progress.{Progress, Word, Look, Stuck, Ready}
 use Rattle.st_trace.specs.Instructions.{IsCallOf}
-use Rattle.st_law.specs.Served.{machine_effect}
-use Rattle.st_effects.specs.Progress.{Word, Look, Stuck}
-use Rattle.st_law.specs.Served.{machine_rule}
+use Rattle.st_trace.specs.declared.entry.CallResult.{CallResult}
+use Rattle.st_trace.specs.declared.entry.CallResult.TheVariants.{Failed}
+use Rattle.st_trace.specs.declared.entry.Cause.{Cause}
+use Rattle.st_trace.specs.declared.entry.Cause.TheVariants.{Filter, NoFilter, Fault, Link}
+use Rattle.st_trace.specs.declared.entry.Change.{Change}
 use Rattle.st_trace.specs.declared.entry.Entry.{Entry}
 use Rattle.st_trace.specs.declared.entry.Entry.TheVariants.{Stored, Entered, Claimed, Copied, Looked, Faulted, Answered, Used, Denied, Ended, Replied, Learned}
 use Rattle.st_trace.specs.declared.entry.Way.{Way}
 use Rattle.st_trace.specs.declared.entry.Way.TheVariants.{Fast, Barred, Held, Untraced}
-use Rattle.st_trace.specs.declared.entry.Cause.{Cause}
-use Rattle.st_trace.specs.declared.entry.Cause.TheVariants.{Filter, NoFilter, Fault, Link}
-use Rattle.st_trace.specs.declared.entry.CallResult.{CallResult}
-use Rattle.st_trace.specs.declared.entry.Change.{Change}
 use Rattle.st_trace.specs.declared.start.Instr.{Instr}
 use Rattle.st_trace.specs.declared.start.Instr.TheVariants.{Store}
 use Rattle.st_law.specs.declared.input.Input.{Input}
-use Rattle.st_law.specs.History.{History, process_of, owner_of, instructions_left, pending_call, has_ended, is_dying, posted_count, is_claimed, is_live, is_answered, fault_of, progress, snapshot_of, space_of_message, word_at, worker_at, is_worker, verdict_of, tree_of, setting_at}
+use Rattle.st_law.specs.declared.input.Mode.TheVariants.{Learn, AskText}
+use Rattle.st_law.specs.History.{looking_back}
+use Rattle.st_law.specs.Machine.{word_for}
+use Rattle.st_law.specs.State.{State, process_in, is_live, progress_in, snapshot_in, is_worker, worker_at, read_for, decision_in, answer_in, filter_count, is_reply_left, is_question, system_of, request_of, arguments_now, link_now}
+use Rattle.st_law.specs.Threads.{History}
 
--- a thread that has started and not ended, of a process that isn't dying
-pub record IsRunning (i : Input) (h : History) (t : ℕ) : Type 0 where
-  pub started : owner_of i t ≢ 0
-  pub unended : has_ended h t ≡ false
-  pub undying : is_dying h (owner_of i t) ≡ false
+-- ---- entries of threads
 
--- the kernel's own answer for a call of a thread, by the filters that were read for its process's policy
-abbrev pub kernel_answer_at : Input → ℕ → SysCall → FastAnswer
-kernel_answer_at i t call = fast (read_filters i.policies (process_of i (owner_of i t)).policy (machine_rule call))
-
--- a call goes fast exactly where the kernel permits it by itself, is barred exactly where it refuses it, and is held, by the
--- message with the next number, exactly where the filters have to be asked
-abbrev pub IsWay : ℕ → Way → FastAnswer → Type 0
-IsWay next Fast given = given ≡ answer.Permit
-IsWay next (Barred n) given = (n ≡ 1) × (errno : Errno) × (given ≡ answer.Refuse errno)
-IsWay next (Held q) given = (q ≡ next) × (given ≡ answer.Ask)
-IsWay next Untraced given = ⊥
+-- a thread that has started and not ended, and isn't dying
+pub record IsRunning (st : State) (t : ℕ) : Type 0 where
+  pub started : (st.threads t).owner ≢ 0
+  pub unended : (st.threads t).ended ≡ false
+  pub undying : (st.threads t).dying ≡ false
 
 -- a thread stores what its next instruction says, while no call is pending
-pub record IsStored (i : Input) (h : History) (t place word : ℕ) : Type 0 where
-  pub running : IsRunning i h t
-  pub idle : pending_call h t ≡ None
+pub record IsStored (st : State) (t place word : ℕ) : Type 0 where
+  pub running : IsRunning st t
+  pub idle : (st.threads t).pending ≡ None
   pub later : List Instr
-  pub next : instructions_left i h t ≡ Store place word ∷ later
+  pub next : (st.threads t).left ≡ Store place word ∷ later
+
+-- a call is untraced exactly where its process is; else it goes fast exactly where the kernel permits it by itself, is barred
+-- exactly where it refuses it, and is held, under the next number, exactly where the filters have to be asked
+abbrev pub IsWay : Bool → ℕ → Way → FastAnswer → Type 0
+IsWay traced next Untraced given = traced ≡ false
+IsWay traced next Fast given = (traced ≡ true) × (given ≡ answer.Permit)
+IsWay traced next (Barred n) given = (traced ≡ true) × (n ≡ 1) × (errno : Errno) × (given ≡ answer.Refuse errno)
+IsWay traced next (Held q) given = (traced ≡ true) × (q ≡ next) × (given ≡ answer.Ask)
 
 -- a thread enters its next instruction's call, while none is pending, the way that its policy says
-pub record IsEntered (i : Input) (h : History) (t : ℕ) (call : SysCall) (regs : List ℕ) (way : Way) : Type 0 where
-  pub running : IsRunning i h t
-  pub idle : pending_call h t ≡ None
+pub record IsEntered (i : Input) (st : State) (t : ℕ) (call : SysCall) (regs : List ℕ) (way : Way) : Type 0 where
+  pub running : IsRunning st t
+  pub idle : (st.threads t).pending ≡ None
   pub instruction : Instr
   pub later : List Instr
-  pub next : instructions_left i h t ≡ instruction ∷ later
+  pub next : (st.threads t).left ≡ instruction ∷ later
   pub makes : IsCallOf instruction call regs
-  pub traced : (process_of i (owner_of i t)).traced ≡ true
-  pub way_is : IsWay (suc (posted_count h)) way (kernel_answer_at i t call)
+  pub way_is : IsWay (process_in st t).traced (suc st.posted) way (answer_in i st (process_in st t) call regs)
+
+-- a thread ends where it is dying, or where nothing is left of its body and no call is pending
+pub record IsEnded (st : State) (t : ℕ) : Type 0 where
+  pub started : (st.threads t).owner ≢ 0
+  pub unended : (st.threads t).ended ≡ false
+  pub over : ((st.threads t).dying ≡ true) ⊎ (((st.threads t).left ≡ []) × ((st.threads t).pending ≡ None))
+
+-- ---- entries of workers
 
 -- an idle worker claims the least number that lives and was not claimed
-pub record IsClaimed (i : Input) (h : History) (w q : ℕ) : Type 0 where
-  pub worker : is_worker w ≡ true
-  pub idle : worker_at i h w ≡ None
-  pub live : is_live i h q ≡ true
-  pub unclaimed : is_claimed h q ≡ false
-  pub least : (p : ℕ) → 1 ≤ p → p < q → is_live i h p ≡ true → is_claimed h p ≡ true
+pub record IsClaimed (i : Input) (st : State) (w q : ℕ) : Type 0 where
+  pub worker : is_worker i w ≡ true
+  pub idle : worker_at st w ≡ None
+  pub live : is_live st q ≡ true
+  pub unclaimed : (st.messages q).claimed ≡ false
+  pub least : (p : ℕ) → 1 ≤ p → p < q → is_live st p ≡ true → (st.messages p).claimed ≡ true
 
 -- some worker is at this number
-pub record IsServed (i : Input) (h : History) (q : ℕ) : Type 0 where
+pub record IsServed (i : Input) (st : State) (q : ℕ) : Type 0 where
   pub number : ℕ
-  pub worker : is_worker number ≡ true
-  pub at : worker_at i h number ≡ Some q
+  pub worker : is_worker i number ≡ true
+  pub at : worker_at st number ≡ Some q
 
 -- the word that the number's arguments need next is copied, as the memory of its process has it at this step
-pub record IsCopied (i : Input) (h : History) (q part place word : ℕ) : Type 0 where
-  pub served : IsServed i h q
-  pub due : progress i h q ≡ Word part place
-  pub word_is : word ≡ word_at i h (space_of_message i h q) place
+pub record IsCopied (i : Input) (st : State) (q part place word : ℕ) : Type 0 where
+  pub served : IsServed i st q
+  pub due : progress_in st q ≡ Word part place
+  pub word_is : word ≡ word_for st q place
 
--- the name that the number's arguments need next is looked up in the tree
-pub record IsLooked (i : Input) (h : History) (q part : ℕ) (name : Components) (seen : SeenText) : Type 0 where
-  pub served : IsServed i h q
-  pub due : progress i h q ≡ Look part name
-  pub seen_is : seen ≡ look (tree_of i) name
+-- the name that the number's arguments need next is looked up in the tree of this step
+pub record IsLooked (i : Input) (st : State) (q part : ℕ) (name : Components) (seen : SeenText) : Type 0 where
+  pub served : IsServed i st q
+  pub due : progress_in st q ≡ Look part name
+  pub seen_is : seen ≡ look st.tree name
 
 -- the number's arguments came to a fault
-pub record IsFaulted (i : Input) (h : History) (q : ℕ) (errno : Errno) : Type 0 where
-  pub served : IsServed i h q
-  pub due : progress i h q ≡ Stuck errno
+pub record IsFaulted (i : Input) (st : State) (q : ℕ) (errno : Errno) : Type 0 where
+  pub served : IsServed i st q
+  pub due : progress_in st q ≡ Stuck errno
 
--- a worker answers with what the filters say of the copies of its number, and the answer counts where the number lives
-pub record IsAnswered (i : Input) (h : History) (w : ℕ) (s : Snapshot) (v : Verdict) (applied : Bool) : Type 0 where
-  pub worker : is_worker w ≡ true
-  pub at : worker_at i h w ≡ Some s.seq
-  pub snapshot_is : snapshot_of i h s.seq ≡ Some s
-  pub verdict_is : v ≡ verdict_of i s
-  pub applied_is : applied ≡ is_live i h s.seq
+-- a worker answers with what the filters that were read say of the copies of its number, and the answer counts where the number lives
+pub record IsAnswered (i : Input) (st : State) (w : ℕ) (s : Snapshot) (v : Verdict) (applied : Bool) : Type 0 where
+  pub worker : is_worker i w ≡ true
+  pub at : worker_at st w ≡ Some s.seq
+  pub copies : snapshot_in st s.seq ≡ Some s
+  pub verdict_is : v ≡ verdict (read_for i s.policy s.rule) s
+  pub applied_is : applied ≡ is_live st s.seq
 
--- the pending call, which goes fast, is made under the process's own ids, with the result and changes of its effect
-pub record IsUsedFast (i : Input) (h : History) (t : ℕ) (call : SysCall) (regs : List ℕ) (args : List ArgText) (ids : Ids) (result : CallResult) (changes : List Change) : Type 0 where
-  pub running : IsRunning i h t
-  pub entered : pending_call h t ≡ Some (record { call = call; regs = regs; way = Fast })
-  pub permitted : kernel_answer_at i t call ≡ answer.Permit
-  pub plain : args ≡ []
-  pub identity : ids ≡ (process_of i (owner_of i t)).ids
-  pub result_is : result ≡ (machine_effect (setting_at i h (owner_of i t)) call (owner_of i t) ids args).result
-  pub changes_are : changes ≡ (machine_effect (setting_at i h (owner_of i t)) call (owner_of i t) ids args).changes
+-- ---- calls that aren't held
 
--- a pending call of this number that is held and lives
-pub record IsHeld (i : Input) (h : History) (t q : ℕ) (call : SysCall) (regs : List ℕ) : Type 0 where
-  pub entered : pending_call h t ≡ Some (record { call = call; regs = regs; way = Held q })
-  pub live : is_live i h q ≡ true
+-- a way on which a call is made at once
+abbrev pub IsUnheld : Way → Type 0
+IsUnheld Fast = Unit {0}
+IsUnheld Untraced = Unit {0}
+IsUnheld (Barred n) = ⊥
+IsUnheld (Held q) = ⊥
 
--- a number was answered: its copies are this snapshot, and copying met no fault
-pub record IsDecided (i : Input) (h : History) (q : ℕ) (s : Snapshot) : Type 0 where
-  pub answered : is_answered h q ≡ true
-  pub unfaulted : fault_of h q ≡ None
-  pub snapshot_is : snapshot_of i h q ≡ Some s
+-- what a call shows that fails before it is made: no arguments, an error, and no changes
+pub record IsFailure (errno : Errno) (args : List ArgText) (result : CallResult) (changes : List Change) : Type 0 where
+  pub args_are : args ≡ []
+  pub result_is : result ≡ Failed errno
+  pub changes_are : changes ≡ []
 
--- the pending call, which is held, is made with exactly the copies that its filters permitted, under the ids that they grant
-pub record IsUsedHeld (i : Input) (h : History) (t q : ℕ) (call : SysCall) (regs : List ℕ) (args : List ArgText) (ids : Ids) (result : CallResult) (changes : List Change) : Type 0 where
-  pub running : IsRunning i h t
-  pub held : IsHeld i h t q call regs
+-- what a call shows that is made: its arguments, and the result and the changes of its effect
+pub record IsEffect (i : Input) (st : State) (t : ℕ) (call : SysCall) (regs : List ℕ) (ids : Ids) (args : List ArgText) (result : CallResult) (changes : List Change) : Type 0 where
+  pub result_is : result ≡ (effect (system_of i st) call (request_of i st t regs args ids)).result
+  pub changes_are : changes ≡ (effect (system_of i st) call (request_of i st t regs args ids)).changes
+
+-- a call with these arguments fails where one of its names meets a link, and is made where none does
+abbrev pub IsUnlinkedOutcome : Input → State → ℕ → SysCall → List ℕ → Ids → List ArgText → Option Components → List ArgText → CallResult → List Change → Type 0
+IsUnlinkedOutcome i st t call regs ids found (Some name) args result changes = IsFailure ELOOP args result changes
+IsUnlinkedOutcome i st t call regs ids found None args result changes = (args ≡ found) × IsEffect i st t call regs ids args result changes
+
+-- a call that copies and looks in one step fails where that meets a fault, and goes on where all arguments are there
+abbrev pub IsUnheldOutcome : Input → State → ℕ → SysCall → List ℕ → Ids → Progress → List ArgText → CallResult → List Change → Type 0
+IsUnheldOutcome i st t call regs ids (Word part place) args result changes = ⊥
+IsUnheldOutcome i st t call regs ids (Look part name) args result changes = ⊥
+IsUnheldOutcome i st t call regs ids (Stuck errno) args result changes = IsFailure errno args result changes
+IsUnheldOutcome i st t call regs ids (Ready found) args result changes =
+    IsUnlinkedOutcome i st t call regs ids found (link_now i st call regs found) args result changes
+
+-- the pending call of a thread
+abbrev pub IsPending : State → ℕ → SysCall → List ℕ → Way → Type 0
+IsPending st t call regs way =
+    (child : ℕ) × ((st.threads t).pending ≡ Some (record { call = call; regs = regs; way = way; child = child }))
+
+-- the pending call, which is fast or untraced, is made under the process's own ids
+pub record IsUsedUnheld (i : Input) (st : State) (t : ℕ) (call : SysCall) (regs : List ℕ) (args : List ArgText) (ids : Ids) (result : CallResult) (changes : List Change) : Type 0 where
+  pub running : IsRunning st t
+  pub way : Way
+  pub entered : IsPending st t call regs way
+  pub unheld : IsUnheld way
+  pub identity : ids ≡ (process_in st t).ids
+  pub outcome : IsUnheldOutcome i st t call regs ids (arguments_now i st t call regs) args result changes
+
+-- the pending call, which is barred, is denied with the error of the filter that bars it, and that filter is the cause
+pub record IsDeniedBarred (i : Input) (st : State) (t : ℕ) (errno : Errno) (cause : Cause) : Type 0 where
+  pub running : IsRunning st t
+  pub call : SysCall
+  pub regs : List ℕ
+  pub entered : IsPending st t call regs (Barred 1)
+  pub refused : answer_in i st (process_in st t) call regs ≡ answer.Refuse errno
+  pub cause_is : cause ≡ Filter 1
+
+-- ---- held calls
+
+-- the pending call is held, under this number, which lives
+pub record IsHeld (st : State) (t q : ℕ) (call : SysCall) (regs : List ℕ) : Type 0 where
+  pub first : ℕ
+  pub entered : IsPending st t call regs (Held first)
+  pub number : (st.threads t).number ≡ q
+  pub live : is_live st q ≡ true
+
+-- a number was answered, it met no fault, and these are its copies
+pub record IsJudged (st : State) (q : ℕ) (s : Snapshot) : Type 0 where
+  pub answered : (st.messages q).answered ≡ true
+  pub unfaulted : (st.messages q).fault ≡ None
+  pub copies : snapshot_in st q ≡ Some s
+
+-- the first filter that holds of its copies permits a number under these ids, and its copies have the ids of its process
+pub record IsPermitted (i : Input) (st : State) (t q : ℕ) (s : Snapshot) (ids : Ids) : Type 0 where
+  pub judged : IsJudged st q s
+  pub filter : ℕ
+  pub permitted : decision_in i st s ≡ Permit filter ids
+  pub identity : s.ids ≡ (process_in st t).ids
+
+-- the pending call, which is held, is made with exactly the copies that its filters permitted, under the ids that they grant, and no
+-- name of it meets a link
+pub record IsUsedHeld (i : Input) (st : State) (t q : ℕ) (call : SysCall) (regs : List ℕ) (args : List ArgText) (ids : Ids) (result : CallResult) (changes : List Change) : Type 0 where
+  pub running : IsRunning st t
+  pub held : IsHeld st t q call regs
   pub copies : Snapshot
-  pub decided : IsDecided i h q copies
+  pub permitted : IsPermitted i st t q copies ids
   pub call_is : copies.call ≡ call
   pub regs_are : copies.regs ≡ regs
   pub args_are : args ≡ copies.parts
-  pub number : ℕ
-  pub permitted : verdict_of i copies ≡ Permit number ids
-  pub identity : copies.ids ≡ (process_of i (owner_of i t)).ids
-  pub result_is : result ≡ (machine_effect (setting_at i h (owner_of i t)) call (owner_of i t) ids args).result
-  pub changes_are : changes ≡ (machine_effect (setting_at i h (owner_of i t)) call (owner_of i t) ids args).changes
+  pub unlinked : link_now i st call regs args ≡ None
+  pub outcome : IsEffect i st t call regs ids args result changes
 
--- the pending call is made as the law says, by whether it has a message: held with one, fast without
-abbrev pub IsUsed : Input → History → ℕ → Option ℕ → SysCall → List ℕ → List ArgText → Ids → CallResult → List Change → Type 0
-IsUsed i h t None call regs args ids result changes = IsUsedFast i h t call regs args ids result changes
-IsUsed i h t (Some q) call regs args ids result changes = IsUsedHeld i h t q call regs args ids result changes
+-- a call is made as the law says, by whether it has a number: held with one, fast or untraced without
+abbrev pub IsUsed : Input → State → ℕ → Option ℕ → SysCall → List ℕ → List ArgText → Ids → CallResult → List Change → Type 0
+IsUsed i st t None call regs args ids result changes = IsUsedUnheld i st t call regs args ids result changes
+IsUsed i st t (Some q) call regs args ids result changes = IsUsedHeld i st t q call regs args ids result changes
 
--- the pending call, which is barred, is denied with the error of the filter that bars it, and that filter is the cause
-pub record IsDeniedBarred (i : Input) (h : History) (t : ℕ) (errno : Errno) (cause : Cause) : Type 0 where
-  pub running : IsRunning i h t
+-- why a held call is denied: it met this fault; the first filter that holds of its copies refuses them with this error; none
+-- decides, and it is no question; or it is permitted, and this is the first link that its names meet
+abbrev pub IsCause : Input → State → ℕ → ℕ → SysCall → List ℕ → Errno → Cause → Type 0
+IsCause i st t q call regs errno Fault = (st.messages q).fault ≡ Some errno
+IsCause i st t q call regs errno (Filter n) = (s : Snapshot) × IsJudged st q s × (decision_in i st s ≡ Refuse n errno)
+IsCause i st t q call regs errno NoFilter =
+    (s : Snapshot) × IsJudged st q s × (decision_in i st s ≡ Unmatched) × (is_question i st q ≡ false) × (errno ≡ EPERM)
+IsCause i st t q call regs errno (Link name) =
+    (s : Snapshot) × (ids : Ids) × IsPermitted i st t q s ids × (link_now i st call regs s.parts ≡ Some name) × (errno ≡ ELOOP)
+
+-- the pending call, which is held, is denied for this cause with its error
+pub record IsDeniedHeld (i : Input) (st : State) (t q : ℕ) (errno : Errno) (cause : Cause) : Type 0 where
+  pub running : IsRunning st t
   pub call : SysCall
   pub regs : List ℕ
-  pub number : ℕ
-  pub entered : pending_call h t ≡ Some (record { call = call; regs = regs; way = Barred number })
-  pub refused : kernel_answer_at i t call ≡ answer.Refuse errno
-  pub first : number ≡ 1
-  pub cause_is : cause ≡ Filter number
+  pub held : IsHeld st t q call regs
+  pub cause_is : IsCause i st t q call regs errno cause
 
--- why a held call is denied: its copying met this fault, the first filter that holds refuses its copies with this error, or
--- none holds; the machine's tree has no links
-abbrev pub IsCause : Input → History → ℕ → Errno → Cause → Type 0
-IsCause i h q errno Fault = fault_of h q ≡ Some errno
-IsCause i h q errno (Filter n) = (s : Snapshot) × IsDecided i h q s × (verdict_of i s ≡ Refuse n errno)
-IsCause i h q errno (Link name) = ⊥
-IsCause i h q errno NoFilter = (s : Snapshot) × IsDecided i h q s × (verdict_of i s ≡ Unmatched) × (errno ≡ EPERM)
+-- a call is denied as the law says, by whether it has a number: held with one, barred without
+abbrev pub IsDenied : Input → State → ℕ → Option ℕ → Errno → Cause → Type 0
+IsDenied i st t None errno cause = IsDeniedBarred i st t errno cause
+IsDenied i st t (Some q) errno cause = IsDeniedHeld i st t q errno cause
 
--- the pending call, which is held and lives, is denied for this cause with its error
-pub record IsDeniedHeld (i : Input) (h : History) (t q : ℕ) (errno : Errno) (cause : Cause) : Type 0 where
-  pub running : IsRunning i h t
-  pub call : SysCall
-  pub regs : List ℕ
-  pub held : IsHeld i h t q call regs
-  pub cause_is : IsCause i h q errno cause
+-- ---- entries of the operator
 
--- the pending call is denied as the law says, by whether it has a message: held with one, barred without
-abbrev pub IsDenied : Input → History → ℕ → Option ℕ → Errno → Cause → Type 0
-IsDenied i h t None errno cause = IsDeniedBarred i h t errno cause
-IsDenied i h t (Some q) errno cause = IsDeniedHeld i h t q errno cause
+-- a number is the least question, these are its copies, and the filter that it is answered by has the next number
+pub record IsAsked (i : Input) (st : State) (q n : ℕ) (s : Snapshot) : Type 0 where
+  pub question : is_question i st q ≡ true
+  pub least : (p : ℕ) → 1 ≤ p → p < q → is_question i st p ≡ false
+  pub copies : snapshot_in st q ≡ Some s
+  pub number : n ≡ suc (filter_count i st s)
 
--- a thread ends where its process is dying, or where nothing is left of its body and no call is pending
-pub record IsEnded (i : Input) (h : History) (t : ℕ) : Type 0 where
-  pub started : owner_of i t ≢ 0
-  pub unended : has_ended h t ≡ false
-  pub over : (is_dying h (owner_of i t) ≡ true) ⊎ ((instructions_left i h t ≡ []) × (pending_call h t ≡ None))
+-- the least question is answered by the filter that its copies teach
+pub record IsLearned (i : Input) (st : State) (q n : ℕ) : Type 0 where
+  pub copies : Snapshot
+  pub asked : IsAsked i st q n copies
+  pub mode : i.options.mode ≡ Learn
 
--- an entry is lawful behind the entries before it; the machine has no operator, so none is its
-abbrev pub IsLawful : Input → History → Entry → Type 0
-IsLawful i h (Stored t place word) = IsStored i h t place word
-IsLawful i h (Entered t call regs way) = IsEntered i h t call regs way
-IsLawful i h (Claimed w q) = IsClaimed i h w q
-IsLawful i h (Copied q part place word) = IsCopied i h q part place word
-IsLawful i h (Looked q part name seen) = IsLooked i h q part name seen
-IsLawful i h (Faulted q errno) = IsFaulted i h q errno
-IsLawful i h (Answered w s v applied) = IsAnswered i h w s v applied
-IsLawful i h (Used t seq call regs args ids result changes) = IsUsed i h t seq call regs args ids result changes
-IsLawful i h (Denied t seq errno cause) = IsDenied i h t seq errno cause
-IsLawful i h (Ended t) = IsEnded i h t
-IsLawful i h (Replied q reply n) = ⊥
-IsLawful i h (Learned q n) = ⊥
+-- the least question is answered by the first reply for its policy and rule that was not given yet
+pub record IsReplied (i : Input) (st : State) (q reply n : ℕ) : Type 0 where
+  pub copies : Snapshot
+  pub asked : IsAsked i st q n copies
+  pub mode : i.options.mode ≡ AskText
+  pub there : is_reply_left i st copies.policy copies.rule reply ≡ true
+  pub first : (r : ℕ) → 1 ≤ r → r < reply → is_reply_left i st copies.policy copies.rule r ≡ false
 
--- each entry of a history is lawful behind those before it
+-- ---- the law
+
+-- an entry is lawful, by what is kept of the entries before it
+abbrev pub IsLawful : Input → State → Entry → Type 0
+IsLawful i st (Stored t place word) = IsStored st t place word
+IsLawful i st (Entered t call regs way) = IsEntered i st t call regs way
+IsLawful i st (Claimed w q) = IsClaimed i st w q
+IsLawful i st (Copied q part place word) = IsCopied i st q part place word
+IsLawful i st (Looked q part name seen) = IsLooked i st q part name seen
+IsLawful i st (Faulted q errno) = IsFaulted i st q errno
+IsLawful i st (Answered w s v applied) = IsAnswered i st w s v applied
+IsLawful i st (Used t seq call regs args ids result changes) = IsUsed i st t seq call regs args ids result changes
+IsLawful i st (Denied t seq errno cause) = IsDenied i st t seq errno cause
+IsLawful i st (Ended t) = IsEnded st t
+IsLawful i st (Replied q reply n) = IsReplied i st q reply n
+IsLawful i st (Learned q n) = IsLearned i st q n
+
+-- each entry of a history is lawful by what looking back from it says
 abbrev pub IsLawfulBack : Input → History → Type 0
 IsLawfulBack i [] = Unit {0}
-IsLawfulBack i (e ∷ h) = IsLawful i h e × IsLawfulBack i h
+IsLawfulBack i (e ∷ h) = IsLawful i (looking_back i h) e × IsLawfulBack i h
 
--- each entry of a trace is lawful behind those before it
+-- each entry of a trace is lawful by the entries before it
 abbrev pub Lawful : Input → List Entry → Type 0
 Lawful i trace = IsLawfulBack i (reverse trace)

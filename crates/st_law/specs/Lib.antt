@@ -1,4 +1,16 @@
+pub mod Arguments
+pub mod Entries
 pub mod History
+pub mod Inputs
 pub mod Lawful
+pub mod Laws
+pub mod Links
 pub mod Machine
-pub mod Served
+pub mod Messages
+pub mod OneStep
+pub mod Processes
+pub mod Schedules
+pub mod Sessions
+pub mod Splits
+pub mod State
+pub mod Threads

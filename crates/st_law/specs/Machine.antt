@@ -1,260 +1,285 @@
 -- The machine: from a state and a choice at most one entry, and from a state and an entry the next state.
-use Rattle.std.specs.Prelude.{ℕ, ◌+◌, ◌*◌, suc, zero, Bool, false, not, ◌&&◌, ◌||◌, ◌==◌, if◌then◌else◌, List, [], ◌∷◌, length, reverse, sum_by, Option, Some, None, option_map}
+use Rattle.std.specs.Prelude.{◌≡◌, ℕ, suc, false, ◌||◌, ◌==◌, if◌then◌else◌, List, [], ◌∷◌, reverse, Option, Some, None}
 use Rattle.st_base.specs.declared.errno.Errno.{Errno}
-use Rattle.st_base.specs.declared.errno.Errno.TheVariants.{EPERM}
+use Rattle.st_base.specs.declared.errno.Errno.TheVariants.{EPERM, ELOOP}
 use Rattle.st_base.specs.declared.ids.Ids.{Ids}
 use Rattle.st_calls.specs.declared.argument.ArgText.{ArgText}
 use Rattle.st_calls.specs.declared.call.SysCall.{SysCall}
-use Rattle.st_calls.specs.declared.call.SysCall.TheVariants as fork
+use Rattle.st_calls.specs.declared.call.SysCall.TheVariants as calls
 use Rattle.st_calls.specs.declared.judged.Snapshot.{Snapshot}
 use Rattle.st_calls.specs.declared.judged.Verdict.{Verdict}
 use Rattle.st_calls.specs.declared.judged.Verdict.TheVariants.{Permit, Refuse, Unmatched}
 use Rattle.st_calls.specs.declared.rule.FastAnswer.{FastAnswer}
 use Rattle.st_calls.specs.declared.rule.FastAnswer.TheVariants as answer
+use Rattle.st_filter.specs.Judging.{verdict}
+use Rattle.st_model.specs.DescriptorCalls.{table_after_close_all}
+use Rattle.st_model.specs.Descriptors.{Table}
 use Rattle.st_model.specs.Memory.{word_of}
-use Rattle.st_model.specs.Tree.{Tree, look}
-use Rattle.st_filter.specs.Fast.{fast}
-use Rattle.st_filter.specs.Formula.{FilterValue}
-use Rattle.st_filter.specs.Policies.{read_filters}
-use Rattle.st_trace.specs.Instructions.{no_registers}
-use Rattle.st_law.specs.Served.{MachineSetting, machine_effect}
+use Rattle.st_model.specs.Tree.{look}
+use Rattle.st_names.specs.Name.{Components}
+use Rattle.st_effects.specs.Changes.{owner_after, dying_after, tree_after, process_after, next_process_after, next_space_after}
+use Rattle.st_effects.specs.Effect.{effect}
 use Rattle.st_effects.specs.Progress.{Progress, Word, Look, Stuck, Ready}
-use Rattle.st_law.specs.Served.{machine_rule}
+use Rattle.st_effects.specs.System.{Outcome}
+use Rattle.st_trace.specs.Instructions.{no_registers}
+use Rattle.st_trace.specs.declared.entry.CallResult.TheVariants.{Value, Failed}
+use Rattle.st_trace.specs.declared.entry.Cause.TheVariants.{Filter, NoFilter, Fault, Link}
 use Rattle.st_trace.specs.declared.entry.Choice.{Choice}
 use Rattle.st_trace.specs.declared.entry.Choice.TheVariants as choice
 use Rattle.st_trace.specs.declared.entry.Entry.{Entry}
-use Rattle.st_trace.specs.declared.entry.Entry.TheVariants.{Stored, Entered, Claimed, Copied, Looked, Faulted, Answered, Used, Denied, Ended}
+use Rattle.st_trace.specs.declared.entry.Entry.TheVariants.{Stored, Entered, Claimed, Copied, Looked, Faulted, Answered, Used, Denied, Ended, Learned, Replied}
 use Rattle.st_trace.specs.declared.entry.Way.{Way}
 use Rattle.st_trace.specs.declared.entry.Way.TheVariants.{Fast, Barred, Held, Untraced}
-use Rattle.st_trace.specs.declared.entry.Cause.TheVariants.{Filter, NoFilter, Fault}
 use Rattle.st_trace.specs.declared.start.Instr.{Instr}
 use Rattle.st_trace.specs.declared.start.Instr.TheVariants.{Store, Call, Fork}
 use Rattle.st_law.specs.declared.input.Input.{Input}
-use Rattle.st_law.specs.declared.input.Schedule.{Schedule}
-use Rattle.st_law.specs.declared.input.Schedule.TheVariants as schedule
-use Rattle.st_law.specs.History.{History, Process, process_of, owner_of, body_of, PendingCall, Message, tree_of, verdict_of, snapshot_of_progress, space_of_head, is_worker, is_live_by, progress_of_head, seq_at_work, pending_after, instructions_left_after, ended_after, dying_after, memory_after, descriptors_after, posted_after, head_after, claimed_after, words_after, lookups_after, faulted_after, answered_after, closed_after, turn_after}
+use Rattle.st_law.specs.declared.input.Mode.{Mode}
+use Rattle.st_law.specs.declared.input.Mode.TheVariants.{Enforce, Learn, AskText}
+use Rattle.st_law.specs.Messages.{Head, head_after, posted_after, claimed_after, words_after, lookups_after, fault_after, answered_after, closed_after, turn_after}
+use Rattle.st_law.specs.Processes.{first_process, first_tree, first_descriptors, process_count, memory_after_entry}
+use Rattle.st_law.specs.Sessions.{session_after, replied_after, least_from}
+use Rattle.st_law.specs.State.{ThreadState, Message, State, is_last_thread, process_in, is_live, progress_in, snapshot_in, snapshot_of_message, snapshot_of_progress, is_worker, worker_at, is_waiting, read_for, decision_in, answer_in, filter_count, next_reply, is_question, system_of, request_of, arguments_now, link_now}
+use Rattle.st_law.specs.Threads.{History, PendingCall, changes_of, thread_of, first_owner, body_of, pending_after, left_after, ended_after, number_after}
 
--- a thread, as the machine keeps it
-pub record ThreadState : Type 0 where
-  pub owner : ℕ
-  pub left : List Instr
-  pub pending : Option PendingCall
-  pub ended : Bool
+-- ---- the state
 
--- what the machine keeps; messages are never removed
-pub record State : Type 0 where
-  pub processes : ℕ → Process
-  pub threads : ℕ → ThreadState
-  pub dying : ℕ → Bool
-  pub memory : ℕ → ℕ → ℕ
-  pub tree : Tree
-  pub descriptors : ℕ → ℕ
-  pub posted : ℕ
-  pub messages : ℕ → Message
-  pub turns : ℕ → Option ℕ
-
--- a thread before its first step
+-- a thread before the first entry
 abbrev pub first_thread : Input → ℕ → ThreadState
-first_thread i t = record { owner = owner_of i t; left = body_of i t; pending = None; ended = false }
+first_thread i t = record { owner = first_owner i t; left = body_of i t; pending = None; number = 0; dying = false; ended = false }
 
 -- what stands for a message that was not posted
 abbrev pub no_message : Message
-no_message = record {
-  head = None;
-  claimed = false;
-  faulted = None;
-  answered = false;
-  closed = false;
-  words = λ j. [];
-  lookups = λ j. [];
-}
+no_message = record { head = None; claimed = false; words = λ j. []; lookups = λ j. []; fault = None; answered = false; closed = false }
 
--- the state before the first step
+-- the state before the first entry
 abbrev pub first_state : Input → State
 first_state i = record {
-  processes = process_of i;
   threads = first_thread i;
-  dying = λ p. false;
+  processes = first_process i;
+  next_process = suc (process_count i);
+  next_space = suc (process_count i);
   memory = λ s b. 0;
-  tree = tree_of i;
-  descriptors = λ p. 3;
-  posted = 0;
+  tree = first_tree i;
   messages = λ q. no_message;
+  posted = 0;
   turns = λ w. None;
+  session = [];
+  replied = λ n. false;
+  descriptors = first_descriptors i;
 }
 
 -- what an entry makes of a thread
-abbrev pub thread_after : Entry → ℕ → ThreadState → ThreadState
-thread_after e t before = record {
-  owner = before.owner;
-  left = instructions_left_after e t before.left;
-  pending = pending_after e t before.pending;
-  ended = ended_after e t before.ended;
+abbrev pub thread_after : State → Entry → ℕ → ThreadState
+thread_after st e t = record {
+  owner = owner_after t (st.threads t).owner (changes_of e);
+  left = left_after e t (st.threads t).left;
+  pending = pending_after e t (st.threads t).left (st.threads t).pending;
+  number = number_after e t (st.threads t).number;
+  dying = dying_after t (st.threads t).owner (thread_of e) (st.threads (thread_of e)).owner (st.threads t).dying (changes_of e);
+  ended = ended_after e t (st.threads t).ended;
 }
 
--- what an entry makes of a message
-abbrev pub message_after : Input → Entry → ℕ → Message → Message
-message_after i e q before = record {
-  head = head_after i e q before.head;
-  claimed = claimed_after e q before.claimed;
-  faulted = faulted_after e q before.faulted;
-  answered = answered_after e q before.answered;
-  closed = closed_after e q before.closed;
-  words = λ j. words_after e q j (before.words j);
-  lookups = λ j. lookups_after e q j (before.lookups j);
+-- what an entry makes of the message of a number
+abbrev pub message_after : Input → State → Entry → ℕ → Message
+message_after i st e q = record {
+  head = head_after i st.processes (st.threads (thread_of e)).owner (λ p. (st.messages p).head) e q;
+  claimed = claimed_after e q (st.messages q).claimed;
+  words = λ j. words_after e q j ((st.messages q).words j);
+  lookups = λ j. lookups_after e q j ((st.messages q).lookups j);
+  fault = fault_after e q (st.messages q).fault;
+  answered = answered_after e q (st.messages q).answered;
+  closed = closed_after e q (st.messages q).closed;
 }
+
+-- the descriptors after an entry: a call that goes well may change them, and those of a process are closed when its last thread ends
+abbrev pub table_after : Input → State → Entry → Table
+table_after i st (Used t seq call regs args ids (Value n) changes) = (effect (system_of i st) call (request_of i st t regs args ids)).descriptors
+table_after i st (Ended t) = if is_last_thread i st t then table_after_close_all st.descriptors (st.threads t).owner else st.descriptors
+table_after i st _ = st.descriptors
 
 -- what an entry makes of the state
 abbrev pub state_after : Input → State → Entry → State
 state_after i st e = record {
-  processes = st.processes;
-  threads = λ t. thread_after e t (st.threads t);
-  dying = λ p. dying_after e p (st.dying p);
-  memory = λ s b. memory_after i e st.memory s b;
-  tree = st.tree;
-  descriptors = λ p. descriptors_after i e p (st.descriptors p);
+  threads = thread_after st e;
+  processes = λ p. process_after st.processes (st.threads (thread_of e)).owner p (changes_of e);
+  next_process = next_process_after st.next_process (changes_of e);
+  next_space = next_space_after st.next_space (changes_of e);
+  memory = memory_after_entry (process_in st (thread_of e)).space st.memory e;
+  tree = tree_after st.tree (changes_of e);
+  messages = message_after i st e;
   posted = posted_after e st.posted;
-  messages = λ q. message_after i e q (st.messages q);
   turns = λ w. turn_after e w (st.turns w);
+  session = session_after i.replies (λ q. snapshot_of_message q (st.messages q)) e st.session;
+  replied = λ n. replied_after e n (st.replied n);
+  descriptors = table_after i st e;
 }
 
--- the state behind these entries
+-- the state after these entries
 abbrev pub state_at : Input → History → State
 state_at i [] = first_state i
 state_at i (e ∷ h) = state_after i (state_at i h) e
 
--- a message of the state: whether it lives, and how far its arguments have come
-abbrev pub is_live_in : State → ℕ → Bool
-is_live_in st q = is_live_by (st.messages q).head (st.messages q).closed st.dying
+-- ---- the step of a thread
 
--- how far the arguments of a message of the state have come
-abbrev pub progress_in : State → ℕ → Progress
-progress_in st q = progress_of_head (st.messages q).head (st.messages q).words (st.messages q).lookups
-
--- the number that a worker is at
-abbrev pub worker_at_in : State → ℕ → Option ℕ
-worker_at_in st w = seq_at_work (is_live_in st) (progress_in st) (st.turns w)
-
--- the filters that judge a call of a policy
-abbrev pub filters_for : Input → List ℕ → SysCall → List FilterValue
-filters_for i policy call = read_filters i.policies policy (machine_rule call)
-
--- the kernel's own answer for a call of a process
-abbrev pub answer_for : Input → Process → SysCall → FastAnswer
-answer_for i p call = fast (filters_for i p.policy call)
-
--- how a call goes on; where the filters have to be asked, it is held by the message with the next number
+-- how a call of a traced process goes on, by the kernel's own answer; one that has to be judged is held under the next number
 abbrev pub way_of_answer : ℕ → FastAnswer → Way
 way_of_answer next answer.Permit = Fast
 way_of_answer next (answer.Refuse errno) = Barred 1
 way_of_answer next answer.Ask = Held next
 
--- how a call of a process goes on: none where it isn't traced
-abbrev pub way_for : Input → Process → ℕ → SysCall → Option Way
-way_for i p next call = if p.traced then Some (way_of_answer next (answer_for i p call)) else None
+-- a call enters
+abbrev pub entered_entry : Input → State → ℕ → SysCall → List ℕ → Option Entry
+entered_entry i st t call regs =
+    Some (Entered t call regs (if (process_in st t).traced then way_of_answer (suc st.posted) (answer_in i st (process_in st t) call regs) else Untraced))
 
--- a barred call is denied by the filter of this number, if the kernel's own answer refuses it
+-- a thread without a pending call goes on to its next instruction, and ends after the last
+abbrev pub next_instruction_entry : Input → State → ℕ → List Instr → Option Entry
+next_instruction_entry i st t [] = Some (Ended t)
+next_instruction_entry i st t (Store place word ∷ later) = Some (Stored t place word)
+next_instruction_entry i st t (Call call regs ∷ later) = entered_entry i st t call regs
+next_instruction_entry i st t (Fork child ∷ later) = entered_entry i st t calls.Fork no_registers
+
+-- a call is made, with this outcome
+abbrev pub used_entry : ℕ → Option ℕ → SysCall → List ℕ → List ArgText → Ids → Outcome → Entry
+used_entry t seq call regs args ids outcome = Used t seq call regs args ids outcome.result outcome.changes
+
+-- a call that isn't held fails before it is made
+abbrev pub failed_entry : ℕ → SysCall → List ℕ → Ids → Errno → Entry
+failed_entry t call regs ids errno = Used t None call regs [] ids (Failed errno) []
+
+-- a call that isn't held is made with these arguments, unless it meets a link
+abbrev pub unlinked_entry : Input → State → ℕ → SysCall → List ℕ → Ids → List ArgText → Option Components → Entry
+unlinked_entry i st t call regs ids args (Some name) = failed_entry t call regs ids ELOOP
+unlinked_entry i st t call regs ids args None = used_entry t None call regs args ids (effect (system_of i st) call (request_of i st t regs args ids))
+
+-- a call that isn't held copies, looks and acts in one step, under the process's own ids
+abbrev pub unheld_entry : Input → State → ℕ → SysCall → List ℕ → Ids → Progress → Option Entry
+unheld_entry i st t call regs ids (Word part place) = None
+unheld_entry i st t call regs ids (Look part name) = None
+unheld_entry i st t call regs ids (Stuck errno) = Some (failed_entry t call regs ids errno)
+unheld_entry i st t call regs ids (Ready args) = Some (unlinked_entry i st t call regs ids args (link_now i st call regs args))
+
+-- a barred call is denied with the error of the filter that bars it
 abbrev pub barred_entry : ℕ → ℕ → FastAnswer → Option Entry
 barred_entry t n answer.Permit = None
 barred_entry t n (answer.Refuse errno) = Some (Denied t None errno (Filter n))
 barred_entry t n answer.Ask = None
 
--- the entry of a call that is made, with the result and the changes of its effect
-abbrev pub used_entry : ℕ → Option ℕ → SysCall → ℕ → List ℕ → List ArgText → Ids → MachineSetting → Entry
-used_entry t seq call pid regs args ids setting =
-    let done = machine_effect setting call pid ids args in Used t seq call regs args ids done.result done.changes
+-- a held call that is permitted is made with its copies under these ids, unless it meets a link
+abbrev pub permitted_entry : Input → State → ℕ → ℕ → Snapshot → Ids → Option Components → Entry
+permitted_entry i st t q s ids (Some name) = Denied t (Some q) ELOOP (Link name)
+permitted_entry i st t q s ids None = used_entry t (Some q) s.call s.regs s.parts ids (effect (system_of i st) s.call (request_of i st t s.regs s.parts ids))
 
--- a held call that was answered is made with its copies under the ids that its filter grants, or denied
-abbrev pub entry_of_verdict : ℕ → ℕ → Snapshot → MachineSetting → Verdict → Entry
-entry_of_verdict t q s setting (Permit n ids) = used_entry t (Some q) s.call s.pid s.regs s.parts ids setting
-entry_of_verdict t q s setting (Refuse n errno) = Denied t (Some q) errno (Filter n)
-entry_of_verdict t q s setting Unmatched = Denied t (Some q) EPERM NoFilter
+-- a held call that is answered goes on as its filters decide; a question waits for the operator
+abbrev pub decided_entry : Input → State → ℕ → ℕ → Snapshot → Verdict → Option Entry
+decided_entry i st t q s (Permit n ids) = Some (permitted_entry i st t q s ids (link_now i st s.call s.regs s.parts))
+decided_entry i st t q s (Refuse n errno) = Some (Denied t (Some q) errno (Filter n))
+decided_entry i st t q s Unmatched = if is_question i st q then None else Some (Denied t (Some q) EPERM NoFilter)
 
--- the decision on a held call that was answered, by its snapshot, if there is one
-abbrev pub decided_entry : Input → ℕ → ℕ → MachineSetting → Option Snapshot → Option Entry
-decided_entry i t q setting None = None
-decided_entry i t q setting (Some s) = Some (entry_of_verdict t q s setting (verdict_of i s))
+-- the same by the copies, which are there once it is answered
+abbrev pub answered_entry : Input → State → ℕ → ℕ → Option Snapshot → Option Entry
+answered_entry i st t q None = None
+answered_entry i st t q (Some s) = decided_entry i st t q s (decision_in i st s)
 
--- a held call waits until its message is faulted or answered
-abbrev pub held_call_entry : Input → ℕ → ℕ → MachineSetting → Message → Progress → Option Errno → Option Entry
-held_call_entry i t q setting message progress (Some errno) = Some (Denied t (Some q) errno Fault)
-held_call_entry i t q setting message progress None =
-    if message.answered then decided_entry i t q setting (snapshot_of_progress q message.head progress) else None
-
--- what a call of a process is made over in this state
-abbrev pub setting_in : State → ℕ → MachineSetting
-setting_in st p = record { tree = st.tree; descriptors = st.descriptors p }
+-- a held call waits until it is faulted or answered
+abbrev pub held_entry : Input → State → ℕ → ℕ → Option Errno → Option Entry
+held_entry i st t q (Some errno) = Some (Denied t (Some q) errno Fault)
+held_entry i st t q None = if (st.messages q).answered then answered_entry i st t q (snapshot_in st q) else None
 
 -- a call that was entered is made, or denied, or waits
-abbrev pub pending_call_entry : Input → State → ℕ → ℕ → SysCall → List ℕ → Way → Option Entry
-pending_call_entry i st t pid call regs Fast = Some (used_entry t None call pid regs [] (st.processes pid).ids (setting_in st pid))
-pending_call_entry i st t pid call regs (Barred n) = barred_entry t n (answer_for i (st.processes pid) call)
-pending_call_entry i st t pid call regs Untraced = None
-pending_call_entry i st t pid call regs (Held q) = held_call_entry i t q (setting_in st pid) (st.messages q) (progress_in st q) (st.messages q).faulted
-
--- a thread enters a call
-abbrev pub entered_entry : Input → Process → ℕ → ℕ → SysCall → List ℕ → Option Entry
-entered_entry i p next t call regs = option_map (λ way. Entered t call regs way) (way_for i p next call)
-
--- a thread without a pending call goes on to its next instruction, and ends behind the last
-abbrev pub next_instruction_entry : Input → Process → ℕ → ℕ → List Instr → Option Entry
-next_instruction_entry i p next t [] = Some (Ended t)
-next_instruction_entry i p next t (Store place word ∷ rest) = Some (Stored t place word)
-next_instruction_entry i p next t (Call call regs ∷ rest) = entered_entry i p next t call regs
-next_instruction_entry i p next t (Fork child ∷ rest) = entered_entry i p next t fork.Fork no_registers
+abbrev pub pending_entry : Input → State → ℕ → SysCall → List ℕ → Way → Option Entry
+pending_entry i st t call regs Fast = unheld_entry i st t call regs (process_in st t).ids (arguments_now i st t call regs)
+pending_entry i st t call regs Untraced = unheld_entry i st t call regs (process_in st t).ids (arguments_now i st t call regs)
+pending_entry i st t call regs (Barred n) = barred_entry t n (answer_in i st (process_in st t) call regs)
+pending_entry i st t call regs (Held first) = held_entry i st t (st.threads t).number (st.messages (st.threads t).number).fault
 
 -- a thread goes on, by whether it has a call pending
-abbrev pub live_thread_entry : Input → State → ℕ → ℕ → Option PendingCall → List Instr → Option Entry
-live_thread_entry i st t pid None left = next_instruction_entry i (st.processes pid) (suc st.posted) t left
-live_thread_entry i st t pid (Some entered) left = pending_call_entry i st t pid entered.call entered.regs entered.way
+abbrev pub running_entry : Input → State → ℕ → Option PendingCall → Option Entry
+running_entry i st t None = next_instruction_entry i st t (st.threads t).left
+running_entry i st t (Some entered) = pending_entry i st t entered.call entered.regs entered.way
 
 -- the step of a thread: none where it hasn't started, has ended, or waits; a dying one only ends
-abbrev pub thread_entry : Input → State → ℕ → ThreadState → Option Entry
-thread_entry i st t thread =
-    if thread.owner == 0 || thread.ended then None
-    else if st.dying thread.owner then Some (Ended t)
-    else live_thread_entry i st t thread.owner thread.pending thread.left
+abbrev pub thread_entry : Input → State → ℕ → Option Entry
+thread_entry i st t =
+    if (st.threads t).owner == 0 || (st.threads t).ended then None
+    else if (st.threads t).dying then Some (Ended t)
+    else running_entry i st t (st.threads t).pending
 
--- a message that a worker may claim
-abbrev pub is_waiting : State → ℕ → Bool
-is_waiting st q = is_live_in st q && not (st.messages q).claimed
+-- ---- the step of a worker
 
--- the least of n numbers from q on that waits
-abbrev pub least_waiting : State → ℕ → ℕ → Option ℕ
-least_waiting st q zero = None
-least_waiting st q (suc n) = if is_waiting st q then Some q else least_waiting st (suc q) n
+-- the least number that waits
+abbrev pub least_waiting : State → Option ℕ
+least_waiting st = least_from (is_waiting st) 1 st.posted
 
 -- a worker claims this number, if there is one
 abbrev pub claimed_entry : ℕ → Option ℕ → Option Entry
 claimed_entry w None = None
 claimed_entry w (Some q) = Some (Claimed w q)
 
--- a worker answers with what the filters say of this snapshot, if there is one
-abbrev pub answered_entry : Input → ℕ → Bool → Option Snapshot → Option Entry
-answered_entry i w live None = None
-answered_entry i w live (Some s) = Some (Answered w s (verdict_of i s) live)
+-- the number of the memory of a message's process
+abbrev pub space_of_head : State → Option Head → ℕ
+space_of_head st None = 0
+space_of_head st (Some head) = (st.processes head.pid).space
+
+-- the word at a place of the memory of a number's process
+abbrev pub word_for : State → ℕ → ℕ → ℕ
+word_for st q place = word_of (st.memory (space_of_head st (st.messages q).head)) place
+
+-- a worker answers with what the filters that were read say of these copies, if they are there
+abbrev pub answer_entry : Input → State → ℕ → ℕ → Option Snapshot → Option Entry
+answer_entry i st w q None = None
+answer_entry i st w q (Some s) = Some (Answered w s (verdict (read_for i s.policy s.rule) s) (is_live st q))
 
 -- a worker copies the next word, looks at the next name, finds the fault, or answers
-abbrev pub progress_entry : Input → State → ℕ → ℕ → Progress → Option Entry
-progress_entry i st w q (Word part place) = Some (Copied q part place (word_of (st.memory (space_of_head (st.messages q).head)) place))
-progress_entry i st w q (Look part name) = Some (Looked q part name (look st.tree name))
-progress_entry i st w q (Stuck errno) = Some (Faulted q errno)
-progress_entry i st w q (Ready args) = answered_entry i w (is_live_in st q) (snapshot_of_progress q (st.messages q).head (Ready args))
+abbrev pub working_entry : Input → State → ℕ → ℕ → Progress → Option Entry
+working_entry i st w q (Word part place) = Some (Copied q part place (word_for st q place))
+working_entry i st w q (Look part name) = Some (Looked q part name (look st.tree name))
+working_entry i st w q (Stuck errno) = Some (Faulted q errno)
+working_entry i st w q (Ready args) = answer_entry i st w q (snapshot_of_progress q (st.messages q).head (Ready args))
 
 -- the step of a worker, by the number that it is at: an idle one claims the least number that waits
 abbrev pub turn_entry : Input → State → ℕ → Option ℕ → Option Entry
-turn_entry i st w None = claimed_entry w (least_waiting st 1 st.posted)
-turn_entry i st w (Some q) = progress_entry i st w q (progress_in st q)
+turn_entry i st w None = claimed_entry w (least_waiting st)
+turn_entry i st w (Some q) = working_entry i st w q (progress_in st q)
 
 -- the step of a worker
 abbrev pub worker_entry : Input → State → ℕ → Option Entry
-worker_entry i st w = if is_worker w then turn_entry i st w (worker_at_in st w) else None
+worker_entry i st w = if is_worker i w then turn_entry i st w (worker_at st w) else None
 
--- the entry that a choice adds: none where it isn't enabled, as the operator never is
+-- ---- the step of the operator
+
+-- the least question
+abbrev pub least_question : Input → State → Option ℕ
+least_question i st = least_from (is_question i st) 1 st.posted
+
+-- the operator gives a reply, if there is one left
+abbrev pub reply_entry : Input → State → ℕ → Snapshot → Option ℕ → Option Entry
+reply_entry i st q s None = None
+reply_entry i st q s (Some reply) = Some (Replied q reply (suc (filter_count i st s)))
+
+-- the operator answers a question, by the mode
+abbrev pub question_entry : Input → State → ℕ → Snapshot → Mode → Option Entry
+question_entry i st q s Enforce = None
+question_entry i st q s Learn = Some (Learned q (suc (filter_count i st s)))
+question_entry i st q s AskText = reply_entry i st q s (next_reply i st s.policy s.rule)
+
+-- the same by the question's copies
+abbrev pub asked_entry : Input → State → ℕ → Option Snapshot → Option Entry
+asked_entry i st q None = None
+asked_entry i st q (Some s) = question_entry i st q s i.options.mode
+
+-- the operator answers the least question, if there is one
+abbrev pub operator_entry : Input → State → Option ℕ → Option Entry
+operator_entry i st None = None
+operator_entry i st (Some q) = asked_entry i st q (snapshot_in st q)
+
+-- ---- runs
+
+-- the entry that a choice adds; none where it isn't enabled
 abbrev pub entry_of : Input → State → Choice → Option Entry
-entry_of i st (choice.Thread t) = thread_entry i st t (st.threads t)
+entry_of i st (choice.Thread t) = thread_entry i st t
 entry_of i st (choice.Worker w) = worker_entry i st w
-entry_of i st choice.Operator = None
+entry_of i st choice.Operator = operator_entry i st (least_question i st)
 
 -- the history with one more entry, if there is one
 abbrev pub history_with : History → Option Entry → History
@@ -270,42 +295,14 @@ history i (c ∷ cs) = history_with (history i cs) (entry_of i (state_at i (hist
 abbrev pub run : Input → List Choice → List Entry
 run i choices = reverse (history i (reverse choices))
 
--- a choice with its entry
-pub record EnabledChoice : Type 0 where
-  pub choice : Choice
-  pub entry : Entry
+-- the state behind a list of choices
+abbrev pub state_of_run : Input → List Choice → State
+state_of_run i choices = state_at i (history i (reverse choices))
 
--- this choice with its entry, if there is one, else the other move
-abbrev pub choice_or : Choice → Option Entry → Option EnabledChoice → Option EnabledChoice
-choice_or c None rest = rest
-choice_or c (Some e) rest = Some (record { choice = c; entry = e })
+-- a choice adds an entry in this state
+abbrev pub IsEnabled : Input → State → Choice → Type 0
+IsEnabled i st c = (e : Entry) × (entry_of i st c ≡ Some e)
 
--- the first of n threads from t on that is enabled, else this
-abbrev pub first_enabled_from : Input → State → ℕ → ℕ → Option EnabledChoice → Option EnabledChoice
-first_enabled_from i st t zero others = others
-first_enabled_from i st t (suc n) others = choice_or (choice.Thread t) (entry_of i st (choice.Thread t)) (first_enabled_from i st (suc t) n others)
-
--- the first choice that is enabled: threads by number, then the worker
-abbrev pub first_enabled : Input → State → Option EnabledChoice
-first_enabled i st =
-    first_enabled_from i st 1 (length i.start.threads) (choice_or (choice.Worker 1) (entry_of i st (choice.Worker 1)) None)
-
--- the first enabled choice again and again, until none is enabled or so many were made
-abbrev pub rest_from : ℕ → Input → State → List Choice
-rest_from zero i st = []
-rest_from (suc n) i st = elim (first_enabled i st) [
-  | None ↦ []
-  | Some m ↦ m.choice ∷ rest_from n i (state_after i st m.entry)
-]
-
--- more steps than a run has
-abbrev pub most_steps : Input → ℕ
-most_steps i = 10000 * (sum_by (λ row. length row.body) i.start.threads + 1)
-
--- the choices that the schedule `rest` stands for
-abbrev pub rest_choices : Input → List Choice
-rest_choices i = rest_from (most_steps i) i (first_state i)
-
--- the choices that a schedule makes
-abbrev pub played : Input → Schedule → List Choice
-played i schedule.Rest = rest_choices i
+-- no choice does
+abbrev pub IsSettled : Input → State → Type 0
+IsSettled i st = (c : Choice) → entry_of i st c ≡ None

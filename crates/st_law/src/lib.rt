@@ -1,7 +1,8 @@
-//! What the modelled kernel does and what holds of every run of it: the machine, the history looked back on, and the law.
+//! The whole modelled kernel as a machine, the history of a run looked back on, and the law of every run.
 #![tactic(auto)]
 
 pub mod input;
 pub mod law;
+pub mod looking_back;
 
-pub use input::{Input, Mode, Options, Schedule};
+pub use input::{Input, Mode, Options, ReadSchedule, ScheduleLine, What};

@@ -1,0 +1,44 @@
+-- What has to hold of an input for a run to start, so that the laws hold of it.
+use Rattle.std.specs.Prelude.{◌≢◌, ◌≤◌, ℕ, length, Option, Some, None}
+use Rattle.std.specs.List.{All}
+use Rattle.st_calls.specs.declared.call.SysCall.TheVariants as calls
+use Rattle.st_filter.specs.declared.filter.Action.TheVariants as action
+use Rattle.st_model.specs.declared.limits.TheConstants.{LONGEST_TEXT}
+use Rattle.st_model.specs.declared.object.NewKind.{NewKind}
+use Rattle.st_model.specs.declared.object.NewKind.TheVariants as kind
+use Rattle.st_trace.specs.declared.start.Instr.{Instr}
+use Rattle.st_trace.specs.declared.start.Instr.TheVariants.{Store, Call, Fork}
+use Rattle.st_law.specs.declared.input.Input.{Input}
+use Rattle.st_law.specs.Processes.{process_count}
+use Rattle.st_law.specs.State.{thread_count}
+
+-- a thread starts in one of so many processes, or by a fork
+abbrev pub HasProcess : ℕ → Option ℕ → Type 0
+HasProcess count None = Unit {0}
+HasProcess count (Some p) = (1 ≤ p) × (p ≤ count)
+
+-- a number is that of a thread of the script
+abbrev pub IsThread : Input → ℕ → Type 0
+IsThread i t = (1 ≤ t) × (t ≤ thread_count i)
+
+-- an instruction that forks names the thread that it starts
+abbrev pub IsInstruction : Input → Instr → Type 0
+IsInstruction i (Store place word) = Unit {0}
+IsInstruction i (Call call regs) = call ≢ calls.Fork
+IsInstruction i (Fork child) = IsThread i child
+
+-- what is made is no link, or one whose target isn't too long
+abbrev pub HasShortTarget : NewKind → Type 0
+HasShortTarget kind.Dir = Unit {0}
+HasShortTarget (kind.File content) = Unit {0}
+HasShortTarget (kind.Link target) = length target ≤ LONGEST_TEXT
+
+-- an input that a run can start with
+pub record IsStartable (i : Input) : Type 0 where
+  pub some_worker : 1 ≤ i.options.workers
+  pub few_workers : i.options.workers ≤ 8
+  pub few_threads : thread_count i ≤ 64
+  pub processes : All (λ row. HasProcess (process_count i) row.process) i.start.threads
+  pub bodies : All (λ row. All (IsInstruction i) row.body) i.start.threads
+  pub replies : All (λ reply. reply.filter.action ≢ action.Ask) i.replies
+  pub targets : All (λ row. HasShortTarget row.new.kind) i.start.tree

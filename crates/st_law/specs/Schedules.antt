@@ -1,0 +1,143 @@
+-- What choices a schedule stands for.
+use Rattle.std.specs.Prelude.{ℕ, zero, suc, ◌+◌, ◌*◌, Bool, true, false, List, [], ◌∷◌, ◌++◌, length, sum_by, count_by, Option, Some, None}
+use Rattle.st_calls.specs.declared.call.SysCall.{SysCall}
+use Rattle.st_calls.specs.declared.call.SysCall.TheVariants.{SetUid, SetEuid, SetGid, SetEgid}
+use Rattle.st_trace.specs.declared.entry.Choice.{Choice}
+use Rattle.st_trace.specs.declared.entry.Choice.TheVariants as choice
+use Rattle.st_trace.specs.declared.entry.Entry.{Entry}
+use Rattle.st_trace.specs.declared.entry.Entry.TheVariants.{Claimed, Copied, Looked, Faulted, Answered, Learned}
+use Rattle.st_model.specs.Tree.{is_number}
+use Rattle.st_trace.specs.declared.start.Instr.{Instr}
+use Rattle.st_trace.specs.declared.start.Instr.TheVariants.{Store, Call, Fork}
+use Rattle.st_law.specs.declared.input.Input.{Input}
+use Rattle.st_law.specs.declared.input.ReadSchedule.{ReadSchedule}
+use Rattle.st_law.specs.declared.input.ScheduleLine.{ScheduleLine}
+use Rattle.st_law.specs.declared.input.What.{What}
+use Rattle.st_law.specs.declared.input.What.TheVariants.{Choose, Rest}
+use Rattle.st_law.specs.Machine.{first_state, state_after, entry_of}
+use Rattle.st_law.specs.State.{State, thread_count}
+
+-- ---- the first choice that is enabled
+
+-- a choice with the entry that it adds
+pub record EnabledChoice : Type 0 where
+  pub choice : Choice
+  pub entry : Entry
+
+-- this choice, if it adds an entry, else the other
+abbrev pub choice_or : Choice → Option Entry → Option EnabledChoice → Option EnabledChoice
+choice_or c None other = other
+choice_or c (Some e) other = Some (record { choice = c; entry = e })
+
+-- the first of so many choices from number n on that is enabled, else the other
+abbrev pub first_enabled_of : (ℕ → Choice) → Input → State → ℕ → ℕ → Option EnabledChoice → Option EnabledChoice
+first_enabled_of of i st n zero other = other
+first_enabled_of of i st n (suc count) other = choice_or (of n) (entry_of i st (of n)) (first_enabled_of of i st (suc n) count other)
+
+-- the first choice that is enabled: threads by number, then workers by number, then the operator
+abbrev pub first_enabled : Input → State → Option EnabledChoice
+first_enabled i st =
+    first_enabled_of choice.Thread i st 1 (thread_count i)
+    (first_enabled_of choice.Worker i st 1 i.options.workers
+    (choice_or choice.Operator (entry_of i st choice.Operator) None))
+
+-- ---- `rest`
+
+-- whether a call sets ids
+abbrev pub sets_ids : SysCall → Bool
+sets_ids SetUid = true
+sets_ids SetEuid = true
+sets_ids SetGid = true
+sets_ids SetEgid = true
+sets_ids call = false
+
+-- whether an instruction is a call that sets ids
+abbrev pub is_set_id : Instr → Bool
+is_set_id (Store place word) = false
+is_set_id (Call call regs) = sets_ids call
+is_set_id (Fork child) = false
+
+-- how many instructions a script has, and how many of them are calls that set ids
+abbrev pub instruction_count : Input → ℕ
+instruction_count i = sum_by (λ row. length row.body) i.start.threads
+
+abbrev pub set_id_count : Input → ℕ
+set_id_count i = sum_by (λ row. count_by is_set_id row.body) i.start.threads
+
+-- no run has more steps than this
+abbrev pub most_steps : Input → ℕ
+most_steps i = 10000 * (instruction_count i + 64 * set_id_count i + 1) + length i.replies
+
+-- choices, and the state that they lead to
+pub record Played : Type 0 where
+  pub choices : List Choice
+  pub state : State
+
+-- what is done where a choice is found, and where none is
+abbrev pub rest_on : Played → (EnabledChoice → Played) → Option EnabledChoice → Played
+rest_on over further None = over
+rest_on over further (Some found) = further found
+
+-- the first enabled choice again and again, until none is enabled or so many were made
+abbrev pub rest_from : ℕ → Input → State → List Choice → Played
+rest_from zero i st made = record { choices = made; state = st }
+rest_from (suc count) i st made =
+    rest_on (record { choices = made; state = st }) (λ found. rest_from count i (state_after i st found.entry) (made ++ found.choice ∷ [])) (first_enabled i st)
+
+-- ---- the lines of a schedule
+
+-- what a schedule comes to: its choices, or the first line that isn't in the grammar or whose choice isn't enabled
+pub data ScheduleOutcome : Type 0 where
+  Choices : List Choice → ScheduleOutcome
+  BadLine : ℕ → ScheduleOutcome
+
+-- what is played further where a choice adds an entry; nothing where it adds none
+abbrev pub further_on : (Entry → Option Played) → Option Entry → Option Played
+further_on further None = None
+further_on further (Some e) = further e
+
+-- a choice so many times; nothing where it isn't enabled at one of them
+abbrev pub repeated : ℕ → Choice → Input → Played → Option Played
+repeated zero c i before = Some before
+repeated (suc count) c i before =
+    further_on (λ e. repeated count c i (record { choices = before.choices ++ c ∷ []; state = state_after i before.state e })) (entry_of i before.state c)
+
+-- so many times `rest`; once it is done there is nothing more to do
+abbrev pub line_played : What → ℕ → Input → Played → Option Played
+line_played (Choose c) count i before = repeated count c i before
+line_played Rest count i before = Some (rest_from (most_steps i) i before.state before.choices)
+
+-- what a schedule comes to that has this bad line, if any, behind these choices
+abbrev pub ending_of : Option ℕ → Played → ScheduleOutcome
+ending_of None played = Choices played.choices
+ending_of (Some line) played = BadLine line
+
+-- the schedule goes on behind this line, or the line is bad
+abbrev pub line_on : ℕ → (Played → ScheduleOutcome) → Option Played → ScheduleOutcome
+line_on line further None = BadLine line
+line_on line further (Some after) = further after
+
+-- what lines come to, one after the other
+abbrev pub lines_played : List ScheduleLine → Option ℕ → Input → Played → ScheduleOutcome
+lines_played [] bad i before = ending_of bad before
+lines_played (each ∷ lines) bad i before = line_on each.line (λ after. lines_played lines bad i after) (line_played each.what each.count i before)
+
+-- what a schedule comes to
+abbrev pub played : Input → ReadSchedule → ScheduleOutcome
+played i schedule = lines_played schedule.lines schedule.bad i (record { choices = []; state = first_state i })
+
+-- ---- the steps of one number
+
+-- the number that an entry is a step for: of a worker, or by which it is learnt
+abbrev pub step_of : Entry → Option ℕ
+step_of (Claimed w q) = Some q
+step_of (Copied q part place word) = Some q
+step_of (Looked q part name seen) = Some q
+step_of (Faulted q errno) = Some q
+step_of (Answered w s v applied) = Some s.seq
+step_of (Learned q n) = Some q
+step_of _ = None
+
+-- how many of these entries are steps for a number
+abbrev pub steps_for : ℕ → List Entry → ℕ
+steps_for q entries = count_by (λ e. is_number q (step_of e)) entries

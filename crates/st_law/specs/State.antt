@@ -1,0 +1,296 @@
+-- What the machine keeps of a run, and what is asked of it. The law speaks of the same record, whose parts are then what looking back says.
+use Rattle.std.specs.Prelude.{ℕ, zero, suc, Bool, true, false, ◌&&◌, ◌||◌, ◌==◌, not, nat_lt, nat_le, if◌then◌else◌, List, [], ◌∷◌, ◌++◌, length, Option, Some, None, is_some}
+use Rattle.st_base.specs.Numbered.{item_at_number}
+use Rattle.st_base.specs.declared.errno.Errno.{Errno}
+use Rattle.st_base.specs.declared.ids.Ids.{Ids}
+use Rattle.st_calls.specs.Call.{rule_of}
+use Rattle.st_calls.specs.declared.argument.ArgText.{ArgText}
+use Rattle.st_calls.specs.declared.call.SysCall.{SysCall}
+use Rattle.st_calls.specs.declared.judged.Snapshot.{Snapshot}
+use Rattle.st_calls.specs.declared.judged.Verdict.{Verdict}
+use Rattle.st_calls.specs.declared.judged.Verdict.TheVariants.{Permit, Refuse, Unmatched}
+use Rattle.st_calls.specs.declared.rule.FastAnswer.{FastAnswer}
+use Rattle.st_calls.specs.declared.rule.Rule.{Rule}
+use Rattle.st_filter.specs.Fast.{fast}
+use Rattle.st_filter.specs.Formula.{FilterValue}
+use Rattle.st_filter.specs.Policies.{read_filters}
+use Rattle.st_model.specs.Descriptors.{Table}
+use Rattle.st_model.specs.Process.{Process}
+use Rattle.st_model.specs.Tree.{Tree}
+use Rattle.st_names.specs.Name.{Components}
+use Rattle.st_names.specs.declared.seen.SeenText.{SeenText}
+use Rattle.st_effects.specs.Progress.{Progress, Word, Look, Stuck, Ready, ArgRequest, progress}
+use Rattle.st_effects.specs.System.{System, Request, HeldCall}
+use Rattle.st_trace.specs.declared.start.Instr.{Instr}
+use Rattle.st_trace.specs.declared.entry.Way.{Way}
+use Rattle.st_trace.specs.declared.entry.Way.TheVariants.{Held}
+use Rattle.st_law.specs.declared.input.Input.{Input}
+use Rattle.st_law.specs.declared.input.Mode.{Mode}
+use Rattle.st_law.specs.declared.input.Mode.TheVariants.{Enforce, Learn, AskText}
+use Rattle.st_law.specs.Arguments.{arguments_in, link_met}
+use Rattle.st_law.specs.Messages.{Head}
+use Rattle.st_law.specs.Sessions.{SessionFilter, session_filters, decision, is_reply_for, least_from}
+use Rattle.st_law.specs.Threads.{PendingCall}
+
+-- a thread
+pub record ThreadState : Type 0 where
+  -- its process, 0 before it starts
+  pub owner : ℕ
+  -- the instructions that it has left
+  pub left : List Instr
+  pub pending : Option PendingCall
+  -- the number of its held call
+  pub number : ℕ
+  pub dying : Bool
+  pub ended : Bool
+
+-- the message of a number; it is never removed
+pub record Message : Type 0 where
+  pub head : Option Head
+  pub claimed : Bool
+  pub words : ℕ → List ℕ
+  pub lookups : ℕ → List SeenText
+  pub fault : Option Errno
+  pub answered : Bool
+  pub closed : Bool
+
+-- the whole of a run
+pub record State : Type 0 where
+  pub threads : ℕ → ThreadState
+  pub processes : ℕ → Process
+  -- the numbers that the next process and the next memory have
+  pub next_process : ℕ
+  pub next_space : ℕ
+  -- byte b of space s
+  pub memory : ℕ → ℕ → ℕ
+  pub tree : Tree
+  pub messages : ℕ → Message
+  -- how many numbers were posted: 1, 2, 3 and so on
+  pub posted : ℕ
+  -- what each worker has claimed and neither answered nor found faulty
+  pub turns : ℕ → Option ℕ
+  pub session : List SessionFilter
+  -- which of the script's replies were given
+  pub replied : ℕ → Bool
+  pub descriptors : Table
+
+-- ---- threads and processes
+
+-- how many threads the script has
+abbrev pub thread_count : Input → ℕ
+thread_count i = length i.start.threads
+
+-- whether some thread of the script is of a kind
+abbrev pub is_some_thread : Input → (ℕ → Bool) → Bool
+is_some_thread i is = is_some (least_from is 1 (thread_count i))
+
+-- whether a thread is one of this process
+abbrev pub is_thread_of : State → ℕ → ℕ → Bool
+is_thread_of st p t = (st.threads t).owner == p
+
+-- whether it hasn't ended either
+abbrev pub is_running_in : State → ℕ → ℕ → Bool
+is_running_in st p t = (st.threads t).owner == p && not (st.threads t).ended
+
+-- whether a process is there and hasn't ended: it never had a thread, or has one that hasn't ended
+abbrev pub is_live_process : Input → State → ℕ → Bool
+is_live_process i st p =
+    nat_lt 0 p && nat_lt p st.next_process && (not (is_some_thread i (is_thread_of st p)) || is_some_thread i (is_running_in st p))
+
+-- whether no thread of its process but this one has still to end
+abbrev pub is_last_thread : Input → State → ℕ → Bool
+is_last_thread i st t = not (is_some_thread i (λ u. is_running_in st (st.threads t).owner u && not (u == t)))
+
+-- the process of a thread
+abbrev pub process_in : State → ℕ → Process
+process_in st t = st.processes (st.threads t).owner
+
+-- ---- messages
+
+-- a number is live where it was posted, its call is open, and its thread isn't dying
+abbrev pub is_live_by : Option Head → Bool → (ℕ → Bool) → Bool
+is_live_by None closed dying = false
+is_live_by (Some head) closed dying = not closed && not (dying head.tid)
+
+-- whether a number is live
+abbrev pub is_live : State → ℕ → Bool
+is_live st q = is_live_by (st.messages q).head (st.messages q).closed (λ t. (st.threads t).dying)
+
+-- what a held call is judged and made by
+abbrev pub request_of_head : Head → ArgRequest
+request_of_head head = record { rule = head.rule; call = head.call; regs = head.regs; cwd = head.cwd }
+
+-- how far the arguments of a message have come, by its head, the words that were copied and what was seen
+abbrev pub progress_of_head : Option Head → (ℕ → List ℕ) → (ℕ → List SeenText) → Progress
+progress_of_head None words lookups = Ready []
+progress_of_head (Some head) words lookups = progress (request_of_head head) words lookups
+
+-- how far the arguments of a message have come
+abbrev pub progress_of_message : Message → Progress
+progress_of_message message = progress_of_head message.head message.words message.lookups
+
+-- how far the arguments of a number have come
+abbrev pub progress_in : State → ℕ → Progress
+progress_in st q = progress_of_message (st.messages q)
+
+-- the copies of a held call, once all arguments are there
+abbrev pub snapshot_with : ℕ → Head → List ArgText → Snapshot
+snapshot_with q head args = record {
+  seq = q;
+  pid = head.pid;
+  ids = head.ids;
+  policy = head.policy;
+  rule = head.rule;
+  call = head.call;
+  regs = head.regs;
+  parts = args;
+}
+
+-- the copies of a number, by its head and how far its arguments have come; none before all are there
+abbrev pub snapshot_of_progress : ℕ → Option Head → Progress → Option Snapshot
+snapshot_of_progress q (Some head) (Ready args) = Some (snapshot_with q head args)
+snapshot_of_progress q _ _ = None
+
+-- the copies of a number, by its message
+abbrev pub snapshot_of_message : ℕ → Message → Option Snapshot
+snapshot_of_message q message = snapshot_of_progress q message.head (progress_of_message message)
+
+-- the copies of a number
+abbrev pub snapshot_in : State → ℕ → Option Snapshot
+snapshot_in st q = snapshot_of_message q (st.messages q)
+
+-- whether all arguments are there
+abbrev pub is_ready : Progress → Bool
+is_ready (Word part place) = false
+is_ready (Look part name) = false
+is_ready (Stuck errno) = false
+is_ready (Ready args) = true
+
+-- whether there is a worker of this number
+abbrev pub is_worker : Input → ℕ → Bool
+is_worker i w = nat_lt 0 w && nat_le w i.options.workers
+
+-- the number that a worker is at, by its turn: one that lives, or whose arguments are all there
+abbrev pub seq_at_work : State → Option ℕ → Option ℕ
+seq_at_work st None = None
+seq_at_work st (Some q) = if is_live st q || is_ready (progress_in st q) then Some q else None
+
+-- the number that a worker is at, none where it is idle
+abbrev pub worker_at : State → ℕ → Option ℕ
+worker_at st w = seq_at_work st (st.turns w)
+
+-- whether a worker may claim a number
+abbrev pub is_waiting : State → ℕ → Bool
+is_waiting st q = is_live st q && not (st.messages q).claimed
+
+-- ---- filters
+
+-- the filters that were read for a policy and a rule
+abbrev pub read_for : Input → List ℕ → Rule → List FilterValue
+read_for i policy rule = read_filters i.policies policy rule
+
+-- what the filters read decide of these copies, else those of the session
+abbrev pub decision_in : Input → State → Snapshot → Verdict
+decision_in i st s = decision (read_for i s.policy s.rule) (session_filters st.session s.policy s.rule) s
+
+-- the kernel's own answer for a rule under a policy
+abbrev pub answer_for : Input → State → List ℕ → Rule → FastAnswer
+answer_for i st policy rule = fast (read_for i policy rule ++ session_filters st.session policy rule)
+
+-- the kernel's own answer for a call of a process
+abbrev pub answer_in : Input → State → Process → SysCall → List ℕ → FastAnswer
+answer_in i st process call regs = answer_for i st process.policy (rule_of call regs i.options.aliasing)
+
+-- how many filters a policy and a rule have, those read and those of the session
+abbrev pub filter_count : Input → State → Snapshot → ℕ
+filter_count i st s = length (read_for i s.policy s.rule ++ session_filters st.session s.policy s.rule)
+
+-- ---- questions
+
+-- whether a reply is for a policy and a rule and was not given yet
+abbrev pub is_reply_left : Input → State → List ℕ → Rule → ℕ → Bool
+is_reply_left i st policy rule n = is_reply_for policy rule (item_at_number i.replies n) && not (st.replied n)
+
+-- the next reply for a policy and a rule, if there is one left
+abbrev pub next_reply : Input → State → List ℕ → Rule → Option ℕ
+next_reply i st policy rule = least_from (is_reply_left i st policy rule) 1 (length i.replies)
+
+-- whether the operator answers for a call that no filter decides
+abbrev pub is_asked : Input → State → Snapshot → Mode → Bool
+is_asked i st s Enforce = false
+is_asked i st s Learn = true
+is_asked i st s AskText = is_some (next_reply i st s.policy s.rule)
+
+-- whether a decision is none
+abbrev pub is_undecided : Verdict → Bool
+is_undecided (Permit n ids) = false
+is_undecided (Refuse n errno) = false
+is_undecided Unmatched = true
+
+-- whether the operator is to answer for a call with these copies
+abbrev pub is_open_question : Input → State → Option Snapshot → Bool
+is_open_question i st None = false
+is_open_question i st (Some s) = is_undecided (decision_in i st s) && is_asked i st s i.options.mode
+
+-- whether a number is a question: it is live and answered, no filter decides, and the operator answers
+abbrev pub is_question : Input → State → ℕ → Bool
+is_question i st q = is_live st q && (st.messages q).answered && is_open_question i st (snapshot_in st q)
+
+-- ---- the modelled system, as a call finds it
+
+-- the held call of a thread, by its way; the number of one that is dying isn't live any more
+abbrev pub held_by_way : State → ℕ → Way → List HeldCall
+held_by_way st t (Held first) =
+    if (st.threads t).dying then [] else record { tid = t; pid = (st.threads t).owner; number = (st.threads t).number } ∷ []
+held_by_way st t _ = []
+
+-- the held call of a thread, by its pending call
+abbrev pub held_by_pending : State → ℕ → Option PendingCall → List HeldCall
+held_by_pending st t None = []
+held_by_pending st t (Some entered) = held_by_way st t entered.way
+
+-- the held calls of so many threads from this one on, in order
+abbrev pub held_from : State → ℕ → ℕ → List HeldCall
+held_from st t zero = []
+held_from st t (suc count) = held_by_pending st t (st.threads t).pending ++ held_from st (suc t) count
+
+-- the system
+abbrev pub system_of : Input → State → System
+system_of i st = record {
+  tree = st.tree;
+  memory = st.memory;
+  descriptors = st.descriptors;
+  processes = st.processes;
+  is_live = is_live_process i st;
+  next_process = st.next_process;
+  next_space = st.next_space;
+  next_number = suc st.posted;
+  held = held_from st 1 (thread_count i);
+}
+
+-- the thread that a pending call starts
+abbrev pub child_of_pending : Option PendingCall → ℕ
+child_of_pending None = 0
+child_of_pending (Some entered) = entered.child
+
+-- a call of a thread, with its registers, arguments and the ids that it is made under
+abbrev pub request_of : Input → State → ℕ → List ℕ → List ArgText → Ids → Request
+request_of i st t regs args ids = record {
+  tid = t;
+  pid = (st.threads t).owner;
+  ids = ids;
+  regs = regs;
+  args = args;
+  child = child_of_pending (st.threads t).pending;
+  inherit = i.options.inherit;
+}
+
+-- the arguments of a call that its thread makes in one step, or their first fault
+abbrev pub arguments_now : Input → State → ℕ → SysCall → List ℕ → Progress
+arguments_now i st t call regs =
+    arguments_in (record { rule = rule_of call regs i.options.aliasing; call = call; regs = regs; cwd = (process_in st t).cwd })
+    (record { bytes = st.memory (process_in st t).space; tree = st.tree })
+
+-- the first link that the names of a call meet, its arguments being these
+abbrev pub link_now : Input → State → SysCall → List ℕ → List ArgText → Option Components
+link_now i st call regs args = link_met st.tree (rule_of call regs i.options.aliasing) call regs args
