@@ -45,14 +45,27 @@ fn fetch<F: Files>(alloc: Global, files: &mut F, name: &Text, which: Which) -> R
     }
 }
 
-// The audit of the run that a schedule makes.
-fn audit_of(alloc: Global, input: &Input, schedule: Schedule) -> Result<Text, AllocError>
+// The kernel behind the run that a schedule makes.
+fn kernel_after<'a>(
+    alloc: Global,
+    input: &'a Input,
+    schedule: Schedule,
+) -> Result<Kernel<'a>, AllocError>
     requires one { IsOneThread input.now }
-    ensures { IfOk result (λ text. text ≡ audit input.now (run input.now (played input.now schedule))) }
+    ensures { IfOk result (λ kernel. kernel.trace ≡ run input.now (played input.now schedule)) }
 {
     let Schedule::Rest = schedule;
     let mut kernel = Kernel::start(alloc, input)?;
     kernel.finish(alloc)?;
+    Ok(kernel)
+}
+
+// The audit of that run.
+fn audit_of(alloc: Global, input: &Input, schedule: Schedule) -> Result<Text, AllocError>
+    requires one { IsOneThread input.now }
+    ensures { IfOk result (λ text. text ≡ audit input.now (run input.now (played input.now schedule))) }
+{
+    let kernel = kernel_after(alloc, input, schedule)?;
     audit_text(alloc, kernel.trace(), input)
 }
 
