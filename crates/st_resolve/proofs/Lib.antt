@@ -1,3 +1,4 @@
+pub mod Firsts
 pub mod Joined
 pub mod Texts
 pub mod Walks

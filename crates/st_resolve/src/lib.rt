@@ -6,7 +6,7 @@ mod cursor;
 mod remaining;
 pub mod walk;
 
-pub use walk::{Walk, WalkFault, WalkStep};
+pub use walk::{Walk, WalkFault, WalkStep, first_step};
 
 #[cfg(test)]
 mod tests;

@@ -1,8 +1,10 @@
-ghost use Rattle.std.specs.Prelude.{◌≡◌, ◌≢◌, ◌↔◌, ◌<◌, [], ◌∷◌, List, length, Some, IsErrOf, IsNone, IsSome, IfOk, OnOk, OnErr};
+ghost use Rattle.std.specs.Prelude.{◌≡◌, ◌≢◌, ◌↔◌, ◌<◌, ◌≤◌, Bool, [], ◌∷◌, List, length, Some, IsErrOf, IsNone, IsSome, IfOk, OnOk, OnErr};
 ghost use Rattle.st_base.specs.declared.errno.Errno.{Errno};
+ghost use Rattle.st_names.specs.Name.{components_of, printed_name};
 ghost use Rattle.st_names.specs.Seen.{seen_text};
+ghost use Rattle.st_names.specs.declared.limits.TheConstants.{LONGEST_NAME};
 ghost use Rattle.st_names.specs.declared.seen.SeenText.{SeenText};
-ghost use Rattle.st_model.specs.Walk.{Fault, Name, start_of_name, start_walk, is_up};
+ghost use Rattle.st_model.specs.Walk.{Fault, Name, start_of_name, start_walk, is_last, is_up, rest_after_ups};
 ghost use Rattle.st_model.specs.declared.limits.TheConstants.{MOST_LINKS};
 ghost use Rattle.st_resolve.specs.Walk.{asked_name, climbed, entered, followed, fault_before_lookups, step_of, walk_from};
 ghost use Rattle.st_resolve.specs.declared.walk.WalkFault.TheVariants.{Os};
@@ -11,7 +13,7 @@ ghost use Rattle.st_resolve.specs.declared.walk.WalkStep.TheVariants as step;
 use crate::remaining::Remaining;
 use st_base::Errno;
 use st_model::MOST_LINKS;
-use st_names::{AbsName, LONGEST_NAME, Seen, has_long_part};
+use st_names::{AbsName, LONGEST_NAME, Seen, has_long_part, is_component};
 use std::alloc::{AllocError, Global};
 use std::marker::Model;
 use thiserror::Error;
@@ -97,6 +99,27 @@ fn first_fault(text: &[u8]) -> Option<Errno>
         Some(Errno::ENAMETOOLONG)
     } else {
         None
+    }
+}
+
+// Whether a text leads up alone, so that no look is needed.
+fn is_way_up(text: &[u8]) -> bool
+    ensures { result ≡ is_last (rest_after_ups (components_of text.now)) }
+{
+    text.split(|byte| *byte == b'/')
+        .all(|part| !is_component(part) || is_up(part))
+}
+
+/// How far the walk of a text is before its first look, which takes no memory; the directory's name has at most 1,024 bytes. ENOENT
+/// where the text is empty, ENAMETOOLONG where a part of it has more than 255 bytes.
+pub fn first_step(text: &[u8], cwd: &AbsName) -> WalkStep
+    requires { length (printed_name cwd.now) ≤ LONGEST_NAME }
+    ensures { (follow : Bool) → result ≡ step_of (start_walk text.now cwd.now follow []) }
+{
+    match first_fault(text) {
+        Some(errno) => WalkStep::Fault(errno),
+        None if is_way_up(text) => WalkStep::Name,
+        None => WalkStep::More,
     }
 }
 

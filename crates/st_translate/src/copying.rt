@@ -1,4 +1,4 @@
-ghost use Rattle.std.specs.Prelude.{◌≡◌, ℕ, ◌<◌, ◌≤◌, true, List, [], length, IsSome, IfSome, IfOk, vec_capacity};
+ghost use Rattle.std.specs.Prelude.{◌≡◌, ℕ, ◌<◌, ◌≤◌, true, List, [], length, IsSome, IfSome, IfOk, nat_lt, vec_capacity};
 ghost use Rattle.st_calls.specs.declared.argument.PartKind.{PartKind};
 ghost use Rattle.st_model.specs.Spelling as spelling;
 ghost use Rattle.st_model.specs.declared.limits.TheConstants.{SPACE_WORDS};
@@ -97,6 +97,13 @@ impl Copying {
         ensures inside { IfSome result (λ place. place < SPACE_WORDS) }
     {
         self.stage.place()
+    }
+
+    /// Whether a word is copied.
+    pub fn is_begun(&self) -> bool
+        ensures { result ≡ nat_lt 0 (length self.now.words) }
+    {
+        !self.words.is_empty()
     }
 
     /// The fault that the words came to, or the place of the part already.
