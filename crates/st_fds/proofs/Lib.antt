@@ -1,3 +1,4 @@
 mod Entries
 mod Shared
+mod Undone
 mod Whole

@@ -1,7 +1,12 @@
 -- What every table of descriptors keeps to.
 use Rattle.std.specs.Prelude.{◌≡◌, ℕ, ◌<◌, length, All, Bool, true, if◌then◌else◌, ◌==◌, List, Option, Some, None, is_some}
 use Rattle.std.specs.Map.{values_of}
-use Rattle.st_model.specs.Descriptors.{Table, has_table, file_at}
+use Rattle.std.specs.List.Sorted.{IsStrictlySortedBy}
+use Rattle.std.specs.Map.{keys_of}
+use Rattle.std.specs.Ordering.{nat_cmp}
+use Rattle.st_model.specs.DescriptorCalls.{table_after_open}
+use Rattle.st_model.specs.Descriptors.{Table, has_table, file_at, least_free}
+use Rattle.st_model.specs.declared.open_file.OpenFile.{OpenFile}
 use Rattle.st_model.specs.declared.open_file.TheConstants.{DESCRIPTORS}
 
 -- a place is free, or leads to one of so many open files
@@ -34,3 +39,12 @@ pub record IsLeastFree (t : Table) (pid fd : ℕ) : Type 0 where
   pub within : fd < DESCRIPTORS
   pub free : file_at t pid fd ≡ None
   pub least : AreOpenBelow t pid fd
+
+-- a process was given this descriptor for an open file, and nothing was changed since
+pub record WasOpened (before : Table) (pid fd : ℕ) (after : Table) : Type 0 where
+  pub has : has_table before pid ≡ true
+  pub whole : IsWhole before.processes (length before.files)
+  pub ordered : IsStrictlySortedBy nat_cmp (keys_of before.processes)
+  pub descriptor : least_free before pid ≡ Some fd
+  pub file : OpenFile
+  pub is : after ≡ table_after_open before pid file

@@ -1,9 +1,9 @@
-ghost use Rattle.std.specs.Prelude.{◌≡◌, ◌≢◌, [], ℕ, ◌<◌, ◌↔◌, Some, None, true, false, length, IsErrOf, IsNone, IfNone, IfSome, IfOk, IfErr, OnOk, OnErr};
+ghost use Rattle.std.specs.Prelude.{◌≡◌, ◌≢◌, [], ℕ, is_none, ◌<◌, ◌↔◌, Some, None, true, false, length, IsErrOf, IsNone, IsTrue, IfNone, IfSome, IfOk, IfErr, OnOk, OnErr};
 ghost use Rattle.st_base.specs.declared.errno.Errno.TheVariants.{EBADF, EMFILE};
 ghost use Rattle.st_model.specs.declared.open_file.TheConstants.{DESCRIPTORS};
 ghost use Rattle.st_fds.specs.declared.fds.FdFault.TheVariants.{Os, NoMemory};
 ghost use Rattle.st_model.specs.Descriptors.{Table, file_at, has_table, least_free, file_number_at, is_port_in_use};
-ghost use Rattle.st_fds.specs.Table.{AreOpenBelow, ChangesTable, IsLeastFree, KeepsTables};
+ghost use Rattle.st_fds.specs.Table.{AreOpenBelow, ChangesTable, IsLeastFree, KeepsTables, WasOpened};
 ghost use Rattle.st_model.specs.DescriptorCalls.{bind_refused, table_after_bind, close_refused, table_after_close, connect_refused, table_after_connect, table_after_copy, table_after_dup, table_after_close_all, table_after_open, seek_refused, table_after_seek, table_after_start, table_after_uncopy};
 ghost use Rattle.st_fds.specs.Calls.{result_of_refusal, dup_result};
 
@@ -121,6 +121,15 @@ impl Fds {
         places::least_free(places::places_of(&self.processes, pid))
     }
 
+    /// Whether all 64 descriptors of a process are open.
+    pub fn is_full(&self, pid: Pid) -> bool
+        requires { has_table self.now pid ≡ true }
+        ensures value { result ≡ is_none (least_free self.now pid) }
+        ensures full { IsTrue result → AreOpenBelow self.now pid DESCRIPTORS }
+    {
+        self.least_free(pid).is_none()
+    }
+
     /// Gives a process without a table the console as its descriptors 0, 1 and 2, each an open file of its own. Without memory
     /// nothing changes.
     pub fn start(&mut self, pid: Pid) -> Result<(), AllocError>
@@ -174,6 +183,7 @@ impl Fds {
         ensures least { IfOk result (λ fd. IsLeastFree self.old pid fd) }
         ensures ok { OnOk result (self.new ≡ table_after_open self.old pid file) }
         ensures tables { KeepsTables self.old self.new }
+        ensures opened { IfOk result (λ fd. WasOpened self.old pid fd self.new) }
         ensures full { IsErrOf result (Os EMFILE) ↔ AreOpenBelow self.old pid DESCRIPTORS }
         ensures fault { IfErr result (λ fault. (fault ≢ NoMemory) → fault ≡ Os EMFILE) }
         ensures err { OnErr result (self.new ≡ self.old) }
@@ -186,6 +196,15 @@ impl Fds {
         self.files.push_reserved(file);
         places::set_place(&mut self.processes, pid, least, Some(fresh));
         Ok(least as u32)
+    }
+
+    /// Takes back the descriptor that `open` gave, where nothing was changed since: all is then as before.
+    pub fn unopen(&mut self, pid: Pid, fd: u32)
+        requires { (before : Table) × WasOpened before pid fd self.old }
+        ensures { (before : Table) → WasOpened before pid fd self.old → self.new ≡ before }
+    {
+        places::set_place(&mut self.processes, pid, fd as usize, None);
+        self.files.pop();
     }
 
     /// Leads the least free descriptor to the open file of this one too, and gives its number, as dup(2) does. It

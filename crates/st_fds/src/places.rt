@@ -2,7 +2,8 @@ ghost use Rattle.std.specs.Prelude.{◌≡◌, ℕ, ◌<◌, is_none, is_some, s
 ghost use Rattle.st_model.specs.declared.open_file.TheConstants.{DESCRIPTORS};
 ghost use Rattle.std.specs.List.{position};
 ghost use Rattle.std.specs.BTreeMap.{insert_entry, is_at};
-ghost use Rattle.std.specs.Map.{lookup};
+ghost use Rattle.std.specs.List.Sorted.{IsStrictlySortedBy};
+ghost use Rattle.std.specs.Map.{keys_of, lookup};
 ghost use Rattle.std.specs.Ordering.{nat_cmp};
 ghost use Rattle.st_model.specs.Descriptors.{is_bound_to, has_bound_file, file_of_number, places_in};
 
@@ -36,6 +37,7 @@ pub fn set_place(processes: &mut BTreeMap<Pid, Places>, pid: Pid, fd: usize, num
     requires has { is_some (lookup (is_at (nat_cmp pid)) processes.old.entries) ≡ true }
     requires within { fd < DESCRIPTORS }
     ensures entries { processes.new.entries ≡ insert_entry nat_cmp processes.old.entries pid (slice_set (places_in processes.old.entries pid) fd number) }
+    ensures ordered { IsStrictlySortedBy nat_cmp (keys_of processes.old.entries) }
     ensures tables { (other : ℕ) → is_some (lookup (is_at (nat_cmp other)) processes.new.entries) ≡ is_some (lookup (is_at (nat_cmp other)) processes.old.entries) }
 {
     if let Some(places) = processes.get_mut(&pid) {

@@ -58,6 +58,7 @@ fn a_process_has_64_descriptors(rt: HostRuntime) -> Result<(), Fail> {
     for fd in 3..64 {
         assert_eq!(rt; fds.open(1, file(fd)), Ok(fd));
     }
+    assert!(rt; fds.is_full(1));
     assert_eq!(rt; fds.open(1, file(64)), Err(FdFault::Os(Errno::EMFILE)));
     assert_eq!(rt; fds.dup(1, 3), Err(FdFault::Os(Errno::EMFILE)));
     assert_eq!(rt; fds.dup(1, 70), Err(FdFault::Os(Errno::EBADF)));
@@ -182,5 +183,18 @@ fn a_copy_is_taken_back(rt: HostRuntime) -> Result<(), Fail> {
     fds.uncopy(2);
     fds.start(2)?;
     assert_eq!(rt; (fds.get(2, 3), fds.get(1, 3)), (None, Some(file(7))));
+    Ok(())
+}
+
+#[test]
+fn an_open_is_taken_back(rt: HostRuntime) -> Result<(), Fail> {
+    let mut fds = Fds::new(rt.alloc());
+    fds.start(1)?;
+    fds.close(1, 1)?;
+    let fd = fds.open(1, file(7))?;
+    assert_eq!(rt; (fd, fds.get(1, 1)), (1, Some(file(7))));
+    fds.unopen(1, fd);
+    assert_eq!(rt; (fds.is_full(1), fds.get(1, 1)), (false, None));
+    assert_eq!(rt; fds.open(1, file(8)), Ok(1));
     Ok(())
 }
