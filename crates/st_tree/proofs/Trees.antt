@@ -22,7 +22,7 @@ use Rattle.st_tree.specs.declared.places.Gap.{Gap}
 use Rattle.st_tree.specs.declared.places.Gap.TheVariants.{Missing, NotDir}
 use Rattle.st_tree.proofs.Flat.{entries_counted, object_reached}
 use Rattle.st_tree.proofs.Leads.{leads_end}
-use Rattle.st_tree.proofs.Numbers.{dirs_at, numbered-get}
+use Rattle.st_tree.proofs.Numbers.{dirs_at, is_dir_at_number, numbered-get}
 use Rattle.st_tree.proofs.Ways.{entry_within, leads_reached, reached_within}
 
 -- ---- names, and objects by their numbers
@@ -162,3 +162,35 @@ none_lost objects whole tree name found is object = subst (λ (t : Tree). found 
 pub some_made : (objects : List Object) (tree : Tree) (found : Result ℕ Gap) → tree_of objects ≡ tree → IfOk found (IsNumber objects) → IfSome (result_ok found) (IsMade tree)
 some_made objects tree (Ok number) is inside = within_made objects tree number is inside
 some_made objects tree (Err gap) is inside = tt
+
+-- ---- one component more
+
+-- what a component has in a name's object is what the longer name has
+pub child_led : (objects : List Object) → IsWhole objects → (tree : Tree) → tree_of objects ≡ tree → (name : Components) (at : ℕ) (part : List ℕ) → object_of tree name ≡ Some at
+    → dir_entry (dirs_of objects) at part ≡ object_of tree (name ++ part ∷ [])
+child_led objects whole tree is name at part found =
+    let led : object_from (dirs_of objects) 1 name ≡ Some at = sym (object_led objects whole name) ∙ ap (λ (t : Tree). object_of t name) is ∙ found in
+    sym (ap (λ (t : Tree). object_of t (name ++ part ∷ [])) (sym is) ∙ object_led objects whole (name ++ part ∷ []) ∙ leads_end (dirs_of objects) 1 at name part led)
+
+-- and is there
+pub child_made : (objects : List Object) → IsWhole objects → (tree : Tree) → tree_of objects ≡ tree → (at : ℕ) (part : List ℕ) (held : Option ℕ) → held ≡ dir_entry (dirs_of objects) at part → IfSome held (IsMade tree)
+child_made objects whole tree is at part None entry = tt
+child_made objects whole tree is at part (Some number) entry = within_made objects tree number is (entry_within objects at number part whole (sym entry))
+
+-- ---- directories, and what is none
+
+-- the root is a directory
+pub root_directory : (objects : List Object) → IsWhole objects → (tree : Tree) → tree_of objects ≡ tree → is_directory (node_with_number tree 1).kind ≡ true
+root_directory [] whole tree is = absurd (omega (arith, whole.directories.made))
+root_directory (first ∷ objects) whole tree is =
+    let number : IsNumber (first ∷ objects) 1 = root_is (first ∷ objects) whole in
+    ap (λ (t : Tree). is_directory (node_with_number t 1).kind) (sym is)
+    ∙ ap (λ (node : Node). is_directory node.kind) (node_at_number (first ∷ objects) 1 first number refl)
+    ∙ sym (is_dir_at_number (first ∷ objects) 1 first first number refl) ∙ whole.directories.root
+
+-- what is no directory has no entries
+pub plain_bare : (objects : List Object) → IsWhole objects → (tree : Tree) → tree_of objects ≡ tree → (number : ℕ) (object : Object) → IsNumber objects number → object ≡ get_or objects (number - 1) object
+    → is_directory (node_of object).kind ≡ false → entry_count tree number ≡ 0
+plain_bare objects whole tree is number object made read plain =
+    ap (λ (t : Tree). entry_count t number) (sym is) ∙ entries_at_number objects number whole
+    ∙ ap length (whole.directories.only number (λ dir. true≢false (sym dir ∙ is_dir_at_number objects number object object made read ∙ plain)))

@@ -10,6 +10,7 @@ pub mod tree;
 
 pub use laws::{other_names_stay, what_is_below_moves_along};
 pub use object::Node;
+pub use places::is_proper_prefix;
 pub use st_model::{Kind, NewKind, NewNode, Want};
 pub use tree::{Tree, TreeFault};
 

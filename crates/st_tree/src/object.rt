@@ -1,4 +1,4 @@
-ghost use Rattle.std.specs.Prelude.{◌≡◌, ◌+◌, ◌<◌, ◌≤◌, [], drop, length, take, true, IfOk, OnOk, OnErr};
+ghost use Rattle.std.specs.Prelude.{◌≡◌, ◌+◌, ◌^◌, ◌<◌, ◌≤◌, [], drop, length, take, true, IfOk, OnOk, OnErr};
 ghost use Rattle.std.specs.BTreeMap.{insert_entry, is_at};
 ghost use Rattle.std.specs.Cmp.Lexicographic.{slice_cmp};
 ghost use Rattle.std.specs.Map.{lookup, remove_entry};
@@ -178,8 +178,8 @@ impl Object {
         }
     }
 
-    // The bytes of a file.
-    fn content(&self) -> &[u8]
+    // The bytes of a file, or of a link's target.
+    pub(crate) fn content(&self) -> &[u8]
         ensures { result.now ≡ (node_of self.now).content }
     {
         match &self.body {
@@ -191,7 +191,9 @@ impl Object {
 
     // So many bytes, from this one on.
     pub(crate) fn read(&self, alloc: Global, at: u64, count: u64) -> Result<Text, AllocError>
-        ensures { IfOk result (λ text. text ≡ take count (drop at (node_of self.now).content)) }
+        ensures bytes { IfOk result (λ text. text ≡ take count (drop at (node_of self.now).content)) }
+        ensures few { IfOk result (λ text. length text ≤ count) }
+        ensures end { IfOk result (λ text. 0 < length text → at + length text < 2 ^ 64) }
     {
         Text::of(alloc, content::part(self.content(), at, count))
     }

@@ -173,8 +173,8 @@ pub(crate) fn place_to_remove(objects: &[Object], name: &AbsName) -> Result<Obj,
     Ok(holder)
 }
 
-// Whether a name leads on from another.
-fn is_proper_prefix(old: &AbsName, new: &AbsName) -> bool
+/// Whether a name leads on from another.
+pub fn is_proper_prefix(old: &AbsName, new: &AbsName) -> bool
     ensures { result ≡ is_proper_prefix old.now new.now }
 {
     old.begins(new) && old.len() < new.len()

@@ -1,7 +1,9 @@
-ghost use Rattle.std.specs.Prelude.{◌≡◌, ◌↔◌, suc, true, None, drop, length, take, IsNone, IfSome, IfOk, IfErr, OnOk, OnErr};
+ghost use Rattle.std.specs.Prelude.{◌≡◌, ◌+◌, ◌^◌, ◌<◌, ◌≤◌, ◌↔◌, suc, false, true, None, Some, [], ◌∷◌, ◌++◌, drop, length, take, IsNone, IfSome, IfOk, IfErr, OnOk, OnErr};
+ghost use Rattle.st_names.specs.Name.{Components};
 ghost use Rattle.st_names.specs.Seen.{seen_text};
-ghost use Rattle.st_model.specs.Tree.{add_object, cut_object, link_object, look, node_with_number, object_of, remove_name, root_only, set_mode, set_owner, size_of, write_object, node_of_new};
+ghost use Rattle.st_model.specs.Tree.{add_object, cut_object, entry_count, is_directory, link_object, look, node_with_number, object_of, remove_name, root_only, set_mode, set_owner, size_of, write_object, node_of_new};
 ghost use Rattle.st_model.specs.Permission.{allowed};
+ghost use Rattle.st_model.specs.declared.limits.TheConstants.{MOST_OBJECTS};
 ghost use Rattle.st_tree.specs.Answers.{KeepsKinds, Refuses};
 ghost use Rattle.st_tree.specs.Refusals.{add_refused, cut_refused, is_absent, link_refused, remove_refused, rename_refused, tree_after_rename, write_refused, IsFile, IsMade};
 
@@ -102,6 +104,25 @@ impl Tree {
         places::find(&self.objects, name).ok()
     }
 
+    /// The root's number.
+    pub fn root(&self) -> Obj
+        ensures object { object_of self.now [] ≡ Some result }
+        ensures made { IsMade self.now result }
+        ensures directory { is_directory (node_with_number self.now result).kind ≡ true }
+    {
+        prove!(!self.objects.is_empty());
+        places::ROOT
+    }
+
+    /// The object that a component has in this one; none in what is no directory.
+    pub fn child(&self, obj: Obj, part: &[u8]) -> Option<Obj>
+        requires { IsMade self.now obj }
+        ensures object { (name : Components) → object_of self.now name ≡ Some obj → result ≡ object_of self.now (name ++ part.now ∷ []) }
+        ensures made { IfSome result (IsMade self.now) }
+    {
+        table::entry(&self.objects, obj, part)
+    }
+
     /// What an object shows of itself.
     pub fn node(&self, obj: Obj) -> Node
         requires { IsMade self.now obj }
@@ -110,6 +131,7 @@ impl Tree {
         ensures gid { result.gid ≡ (node_with_number self.now obj).gid }
         ensures mode { result.mode ≡ (node_with_number self.now obj).mode }
         ensures size { result.size ≡ size_of self.now obj }
+        ensures plain { is_directory result.kind ≡ false → entry_count self.now obj ≡ 0 }
     {
         self.objects[obj as usize - 1].node()
     }
@@ -123,9 +145,18 @@ impl Tree {
         self.objects[obj as usize - 1].allows(uid, gid, want)
     }
 
+    /// The bytes of a file, or of a link's target; a directory has none.
+    pub fn content(&self, obj: Obj) -> &[u8]
+        requires { IsMade self.now obj }
+        ensures { result.now ≡ (node_with_number self.now obj).content }
+    {
+        self.objects[obj as usize - 1].content()
+    }
+
     /// How many objects were ever made; the next one gets the number above.
     pub fn made(&self) -> u32
-        ensures { result ≡ length self.now.objects }
+        ensures count { result ≡ length self.now.objects }
+        ensures few { result ≤ MOST_OBJECTS }
     {
         self.objects.len() as u32
     }
@@ -198,7 +229,9 @@ impl Tree {
     /// So many bytes of a file, from this one on; fewer where it ends before.
     pub fn read(&self, alloc: Global, obj: Obj, at: u64, count: u64) -> Result<Text, AllocError>
         requires { IsFile self.now obj }
-        ensures { IfOk result (λ text. text ≡ take count (drop at (node_with_number self.now obj).content)) }
+        ensures bytes { IfOk result (λ text. text ≡ take count (drop at (node_with_number self.now obj).content)) }
+        ensures few { IfOk result (λ text. length text ≤ count) }
+        ensures end { IfOk result (λ text. 0 < length text → at + length text < 2 ^ 64) }
     {
         self.objects[obj as usize - 1].read(alloc, at, count)
     }
