@@ -1,0 +1,35 @@
+-- What a caller knows once it has asked what is needed next.
+use Rattle.std.proofs.Common.{◌≡◌, ◌∙◌, ap, refl, sym, subst, cond, ℕ, Bool, List, Some, IsSome}
+use Rattle.std.proofs.lemmas.Bool.{eq-eqb}
+use Rattle.st_effects.specs.Progress.{Progress, Word, Look, Stuck, Ready}
+use Rattle.st_lookaside.specs.Slot.{Slot, next_of, IsDue, IsLookNext, IsReady, IsWordNext}
+use Rattle.st_lookaside.specs.Slots.{slot_at, ChangesSlot}
+use Rattle.st_lookaside.specs.declared.slot.Next.TheVariants as next
+
+pub word_asked : (p : Progress) (part place : _) → next.Word part place ≡ next_of p → IsWordNext p
+word_asked (Word part place) a b e = tt
+word_asked (Look part name) a b e = cc
+word_asked (Stuck errno) a b e = cc
+word_asked (Ready args) a b e = cc
+
+pub look_asked : (p : Progress) (part : _) → next.Look part ≡ next_of p → IsLookNext p
+look_asked (Word part place) a e = cc
+look_asked (Look part name) a e = tt
+look_asked (Stuck errno) a e = cc
+look_asked (Ready args) a e = cc
+
+pub due_asked : (p : Progress) (part : _) → next.Look part ≡ next_of p → IsDue p
+due_asked (Word part place) a e = cc
+due_asked (Look part name) a e = tt
+due_asked (Stuck errno) a e = cc
+due_asked (Ready args) a e = cc
+
+pub ready_asked : (p : Progress) → next.Ready ≡ next_of p → IsReady p
+ready_asked (Word part place) e = cc
+ready_asked (Look part name) e = cc
+ready_asked (Stuck errno) e = cc
+ready_asked (Ready args) e = tt
+
+-- a number that was given a slot has it
+pub has_slot : (old new : List Slot) (seq : ℕ) (slot : Slot) → ChangesSlot old seq (Some slot) new → IsSome (slot_at new seq)
+has_slot old new seq slot changes = subst IsSome (sym (changes seq ∙ ap (λ (b : Bool). cond b (Some slot) (slot_at old seq)) (eq-eqb seq seq refl))) refl

@@ -1,0 +1,245 @@
+-- What a change of one argument makes of a message.
+use Rattle.std.proofs.Common.{◌≡◌, ◌<◌, ◌≤◌, ℕ, zero, suc, true, List, [], ◌∷◌, length, ◌++◌, map, take, drop, get_or, set, append-nil, inl, inr, refl, ap, sym, ◌∙◌, subst, arith, Fits, w32}
+use Rattle.std.specs.Prelude.{All, Option, Some, None, is_some, Result, Ok, Err, IsSome, OnOk, OnErr}
+use Rattle.st_effects.specs.Progress.{Progress, Word, Look, Stuck, Ready, progress}
+use Rattle.st_names.specs.Name.{Components}
+use Rattle.std.proofs.lemmas.Bool.{cases_lt}
+use Rattle.std.proofs.lemmas.List.{get_or-map, get_or-set_other, get_or-set_same, get_or_default, get_or_past, length-map, length-set, map-set}
+use Rattle.std.proofs.lemmas.List.Elements.{All-set}
+use Rattle.std.proofs.Math.Seq.{map-set_same, take-length}
+use Rattle.std.proofs.Math.ListN.{drop_of_length-le}
+use Rattle.st_calls.specs.declared.argument.ArgSpec.{ArgSpec}
+use Rattle.st_calls.specs.Argument.{args_of, args_of_call}
+use Rattle.st_calls.specs.declared.call.SysCall.{SysCall}
+use Rattle.st_calls.specs.declared.call.SysCall.TheVariants as call
+use Rattle.st_calls.specs.declared.rule.Rule.{Rule}
+use Rattle.st_calls.specs.declared.rule.Rule.TheVariants as rule
+use Rattle.st_lookaside.specs.Head.{request_of}
+use Rattle.st_lookaside.specs.Need.{need_of, IsWord}
+use Rattle.st_lookaside.specs.Part.{Filled, filled_of, nothing_filled, with_walk, IsPart}
+use Rattle.st_lookaside.specs.Slot.{Slot, after_begin, begun_at, is_readied, new_slot, next_of, part_at, part_next, progress_of, with_part, AreInOrder, IsDue, IsInOrder, IsLookNext, IsSlot, IsWordNext}
+use Rattle.st_lookaside.specs.declared.head.Head.{Head}
+use Rattle.st_lookaside.specs.declared.need.Need.TheVariants as need
+use Rattle.st_lookaside.specs.declared.part.Part.{Part}
+use Rattle.st_lookaside.proofs.Parts.{unseen}
+use Rattle.st_lookaside.proofs.Progress.{due_place, in_front, look_due, next_at, next_is, not_finished, progress_of_part, word_due, IsOpenAt}
+
+-- ---- an argument that may change
+
+-- those before it are finished, and behind it nothing is there
+pub record IsTurn (parts : List Part) (j : ℕ) : Type 0 where
+  pub within : j < length parts
+  pub before : (k : ℕ) (d : Part) → k < j → (get_or parts k d).need ≡ need.Nothing
+  pub behind : (k : ℕ) (d : Part) → j < k → k < length parts → filled_of (get_or parts k d) ≡ nothing_filled
+
+order_kept : (parts : List Part) (j : ℕ) (after : Part) → IsTurn parts j → AreInOrder (set parts j after)
+order_kept parts j after turn i k d lt within unfinished =
+    let len = length-set parts j after in
+    elim (cases_lt i j) [
+      | inl before ↦ absurd (unfinished (ap (λ (p : Part). p.need) (get_or-set_other parts j i after d (λ e. let here : i ≡ j = e in omega (arith, here, before))) ∙ turn.before i d before))
+      | inr from ↦ ap filled_of (get_or-set_other parts j k after d (λ e. let here : k ≡ j = e in omega (arith, here, from, lt))) ∙ turn.behind k d (omega (arith, from, lt)) (omega (arith, len, within))
+    ]
+
+-- the message is kept well with another argument in its turn
+pub slot_kept : (head : Head) (parts : List Part) (j : ℕ) (part after : Part) → IsSlot head parts → IsTurn parts j → part ≡ get_or parts j part → IsPart (request_of head) after → after.spec ≡ part.spec → IsSlot head (set parts j after)
+slot_kept head parts j part after slot turn here is same = record {
+  short = slot.short;
+  specs = map-set_same (λ (p : Part). p.spec) parts j after part (same ∙ ap (λ (p : Part). p.spec) here) ∙ slot.specs;
+  parts = All-set (IsPart (request_of head)) parts j after is slot.parts;
+  order = order_kept parts j after turn;
+}
+
+-- what was copied and seen for an argument
+pub filled_at : (parts : List Part) (j : ℕ) (part : Part) → j < length parts → part ≡ get_or parts j part → part_at (map filled_of parts) j ≡ filled_of part
+filled_at parts j part within here = get_or-map filled_of parts j part nothing_filled within ∙ ap filled_of (sym here)
+
+-- what is seen of a message with another argument
+pub view_with : (head : Head) (parts : List Part) (now : Slot) (j : ℕ) (after : Part) (filled : Filled) → record { head = head; parts = map filled_of parts } ≡ now → filled_of after ≡ filled →
+    record { head = head; parts = map filled_of (set parts j after) } ≡ with_part now j filled
+view_with head parts now j after filled view is =
+    ap (λ (all : List Filled). record { head = head; parts = all }) (map-set filled_of parts j after)
+    ∙ ap (λ (f : Filled). record { head = head; parts = set (map filled_of parts) j f }) is
+    ∙ ap (λ (s : Slot). with_part s j filled) view
+
+some_is : {A : Type 0} (o : Option A) → is_some o ≡ true → IsSome o
+some_is None is = cc
+some_is (Some x) is = refl
+
+pub on_ok : {T E : Type 0} (r : Result T E) (P Q : Type 0) → (P → Q) → OnOk r P → OnOk r Q
+on_ok (Ok x) P Q f p = f p
+on_ok (Err e) P Q f p = p
+
+pub both_ok : {T E : Type 0} (r : Result T E) (P Q : Type 0) → OnOk r P → OnOk r Q → OnOk r (P × Q)
+both_ok (Ok x) P Q p q = (p, q)
+both_ok (Err e) P Q p q = p
+
+pub on_err : {T E : Type 0} (r : Result T E) (P Q : Type 0) → (P → Q) → OnErr r P → OnErr r Q
+on_err (Ok x) P Q f p = p
+on_err (Err e) P Q f p = f p
+
+pub word_is_due : (p : Progress) → IsWordNext p → IsDue p
+word_is_due (Word part place) is = tt
+word_is_due (Look part name) is = absurd is
+word_is_due (Stuck errno) is = absurd is
+word_is_due (Ready args) is = absurd is
+
+pub look_is_due : (p : Progress) → IsLookNext p → IsDue p
+look_is_due (Word part place) is = absurd is
+look_is_due (Look part name) is = tt
+look_is_due (Stuck errno) is = absurd is
+look_is_due (Ready args) is = absurd is
+
+few_of_call : (call : SysCall) → length (args_of_call call) ≤ 3
+few_of_call call.Open = omega arith
+few_of_call _ = omega arith
+
+few_specs : (rule : Rule) → length (args_of rule) ≤ 3
+few_specs (rule.Call call) = few_of_call call
+few_specs rule.FsRead = omega arith
+few_specs rule.FsWrite = omega arith
+
+look_in_front : (j : ℕ) (p : Progress) → need_of p ≡ need.Look → IsLookNext (in_front j p (Ready []))
+look_in_front j (Word part place) is = cc
+look_in_front j (Look part name) is = tt
+look_in_front j (Stuck errno) is = cc
+look_in_front j (Ready args) is = cc
+
+begun_look : (p : Progress) (s : Slot) → IsLookNext p → begun_at p s ≡ with_part s (part_next p) (with_walk (part_at s.parts (part_next p)))
+begun_look (Word part place) s is = absurd is
+begun_look (Look part name) s is = refl
+begun_look (Stuck errno) s is = absurd is
+begun_look (Ready args) s is = absurd is
+
+begun_none : (p : Progress) (s : Slot) → (IsLookNext p → ⊥) → begun_at p s ≡ s
+begun_none (Word part place) s is = refl
+begun_none (Look part name) s is = absurd (is tt)
+begun_none (Stuck errno) s is = refl
+begun_none (Ready args) s is = refl
+
+same_words : (parts : List Filled) (i j : ℕ) → (part_at (set parts i (with_walk (part_at parts i))) j).words ≡ (part_at parts j).words
+same_words [] i j = refl
+same_words (f ∷ parts) zero zero = refl
+same_words (f ∷ parts) zero (suc j) = refl
+same_words (f ∷ parts) (suc i) zero = refl
+same_words (f ∷ parts) (suc i) (suc j) = same_words parts i j
+
+same_lookups : (parts : List Filled) (i j : ℕ) → (part_at (set parts i (with_walk (part_at parts i))) j).lookups ≡ (part_at parts j).lookups
+same_lookups [] i j = refl
+same_lookups (f ∷ parts) zero zero = refl
+same_lookups (f ∷ parts) zero (suc j) = refl
+same_lookups (f ∷ parts) (suc i) zero = refl
+same_lookups (f ∷ parts) (suc i) (suc j) = same_lookups parts i j
+
+begun_same : (p : Progress) (s : Slot) → progress_of (begun_at p s) ≡ progress_of s
+begun_same (Word part place) s = refl
+begun_same (Look part name) s = λ k. progress (request_of s.head) (λ j. same_words s.parts part j k) (λ j. same_lookups s.parts part j k)
+begun_same (Stuck errno) s = refl
+begun_same (Ready args) s = refl
+
+-- readying changes nothing that is needed or there
+pub same_progress : (s : Slot) → progress_of (after_begin s) ≡ progress_of s
+same_progress s = begun_same (progress_of s) s
+
+-- ---- a message that begins
+
+untouched : (parts : List Part) → All (λ part. filled_of part ≡ nothing_filled) parts → map filled_of parts ≡ map (λ (spec : ArgSpec). nothing_filled) (map (λ part. part.spec) parts)
+untouched [] are = refl
+untouched (part ∷ parts) are = λ k. are 0 part (omega arith) k ∷ untouched parts (λ i d lt. are (suc i) d (omega arith)) k
+
+-- arguments of which nothing is copied or seen make a message that begins
+pub begun_anew : (head : Head) (parts : List Part) → map (λ part. part.spec) parts ≡ args_of head.rule → All (λ part. filled_of part ≡ nothing_filled) parts → record { head = head; parts = map filled_of parts } ≡ new_slot head
+begun_anew head parts specs are =
+    ap (λ (all : List Filled). record { head = head; parts = all }) (untouched parts are ∙ ap (map (λ (spec : ArgSpec). nothing_filled)) specs)
+
+-- as many items as there were take their place
+pub whole_again : (new old : List Part) (n : ℕ) → n ≡ length old → length new ≡ length old → take n (new ++ drop (length new) old) ≡ new
+whole_again new old n is same =
+    ap (λ (l : List Part). take n (new ++ l)) (drop_of_length-le old {i = length new} (omega (arith, same))) ∙ ap (λ (l : List Part). take n l) (append-nil new) ∙ ap (λ (m : ℕ). take m new) (is ∙ sym same) ∙ take-length new
+
+-- ---- the argument that isn't finished
+
+module _ (head : Head) (parts : List Part) (now : Slot) (j : ℕ) (part : Part) (slot : IsSlot head parts) (view : record { head = head; parts = map filled_of parts } ≡ now) (at : IsOpenAt head parts j part) where
+  pub turn : IsTurn parts j
+  turn = record {
+    within = at.within;
+    before = at.before;
+    behind = λ k d lt within. slot.order j k d lt within
+        (λ is. not_finished head parts j part at (ap (λ (p : Part). p.need) (at.here ∙ get_or_default parts j part d at.within) ∙ is));
+  }
+
+  pub here_next : next_at j part.need ≡ next_of (progress_of now)
+  here_next = next_is head parts j part at ∙ ap (λ (s : Slot). next_of (progress_of s)) view
+
+  pub here_word : IsWordNext (progress_of now) → IsWord part.need
+  here_word is = (word_due head parts j part at (subst (λ (s : Slot). IsWordNext (progress_of s)) (sym view) is)).0
+
+  pub here_look : IsLookNext (progress_of now) → part.need ≡ need.Look
+  here_look is = (look_due head parts j part at (subst (λ (s : Slot). IsLookNext (progress_of s)) (sym view) is)).0
+
+  pub here_due : IsDue (progress_of now) → part_next (progress_of now) ≡ j
+  here_due is = ap (λ (s : Slot). part_next (progress_of s)) (sym view) ∙ due_place head parts j part at (subst (λ (s : Slot). IsDue (progress_of s)) (sym view) is)
+
+  pub here_filled : part_at now.parts j ≡ filled_of part
+  here_filled = ap (λ (s : Slot). part_at s.parts j) (sym view) ∙ filled_at parts j part at.within at.here
+
+  behind_here : (k : ℕ) → j < k → part_at now.parts k ≡ nothing_filled
+  behind_here k lt = ap (λ (s : Slot). part_at s.parts k) (sym view) ∙ elim (cases_lt k (length parts)) [
+    | inl within ↦ get_or-map filled_of parts k part nothing_filled within ∙ turn.behind k part lt within
+    | inr past ↦ get_or_past (map filled_of parts) k nothing_filled (let len = length-map parts filled_of in omega (arith, len, past))
+  ]
+
+  pub in_order : IsDue (progress_of now) → IsInOrder now
+  in_order due = record {
+    unseen = λ is.
+        ap (λ (k : ℕ). (part_at now.parts k).lookups) (here_due due) ∙ ap (λ (f : Filled). f.lookups) here_filled
+        ∙ unseen (request_of head) part at.is_part (here_word is);
+    behind = λ _ k lt. behind_here k (subst (λ (n : ℕ). n < k) (here_due due) lt);
+  }
+
+  -- what is seen of the message where that argument changes
+  pub here_changed : (change : Filled → Filled) (after : Part) → IsDue (progress_of now) → filled_of after ≡ change (filled_of part) →
+      record { head = head; parts = map filled_of (set parts j after) } ≡ (let k = part_next (progress_of now) in with_part now k (change (part_at now.parts k)))
+  here_changed change after due is =
+      view_with head parts now j after (change (part_at now.parts j)) view (is ∙ ap change (sym here_filled))
+      ∙ ap (λ (k : ℕ). with_part now k (change (part_at now.parts k))) (sym (here_due due))
+
+  -- its walk is readied
+  pub here_readied : IsDue (progress_of now) → is_readied now ≡ true → IsSome part.walk
+  here_readied due is =
+      some_is part.walk (sym (ap (λ (f : Filled). f.walking) here_filled) ∙ sym (ap (λ (k : ℕ). (part_at now.parts k).walking) (here_due due)) ∙ is)
+
+  -- the name that it looks at
+  pub look_found : (name : Components) → progress_of_part (request_of head) part ≡ Look 0 name → progress_of now ≡ Look (part_next (progress_of now)) name
+  look_found name is =
+      let found : progress_of now ≡ Look j name = sym (ap progress_of view) ∙ at.progress ∙ ap (λ (p : Progress). in_front j p (Ready [])) is in
+      found ∙ ap (λ (k : ℕ). Look k name) (sym (ap part_next found))
+
+  -- the message with that argument as it was
+  pub here_same : (after : Part) → filled_of after ≡ filled_of part → record { head = head; parts = map filled_of (set parts j after) } ≡ now
+  here_same after is = ap (λ (all : List Filled). record { head = head; parts = all }) (map-set_same filled_of parts j after part (is ∙ ap filled_of at.here)) ∙ view
+
+  pub look_here : part.need ≡ need.Look → IsLookNext (progress_of now)
+  look_here is = subst IsLookNext (sym at.progress ∙ ap progress_of view) (look_in_front j (progress_of_part (request_of head) part) (sym at.is_part.need ∙ is))
+
+  -- readying the walk of that argument, and readying nothing where it needs a word
+  pub begun_here : (after : Part) → part.need ≡ need.Look → filled_of after ≡ with_walk (filled_of part) → record { head = head; parts = map filled_of (set parts j after) } ≡ after_begin now
+  begun_here after look is =
+      here_changed with_walk after (look_is_due _ (look_here look)) is ∙ sym (begun_look (progress_of now) now (look_here look))
+
+  pub nothing_begun : (part.need ≡ need.Look → ⊥) → now ≡ after_begin now
+  nothing_begun no_look = sym (begun_none (progress_of now) now (λ is. no_look (here_look is)))
+
+  -- an argument's place is a small number
+  pub few_args : Fits w32 j
+  few_args = let few = few_specs head.rule in let len = ap length slot.specs in let same = length-map parts (λ (p : Part). p.spec) in let within = at.within in omega (arith, few, len, same, within)
+
+  -- the walk of a name that is looked up is readied then
+  pub begun_readied : IsLookNext (progress_of now) → is_readied (after_begin now) ≡ true
+  begun_readied look =
+      let due = look_is_due _ look in
+      let long = ap (λ (s : Slot). length s.parts) view in
+      let within : j < length now.parts = let inside = at.within in omega (arith, long, inside, length-map parts filled_of) in
+      ap (λ (p : Progress). (part_at (after_begin now).parts (part_next p)).walking) (same_progress now)
+      ∙ ap (λ (s : Slot). (part_at s.parts (part_next (progress_of now))).walking) (begun_look (progress_of now) now look)
+      ∙ ap (λ (k : ℕ). (part_at (set now.parts k (with_walk (part_at now.parts k))) k).walking) (here_due due)
+      ∙ ap (λ (f : Filled). f.walking) (get_or-set_same now.parts j (with_walk (part_at now.parts j)) nothing_filled within)

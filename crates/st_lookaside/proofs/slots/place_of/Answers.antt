@@ -1,0 +1,16 @@
+use Rattle.std.proofs.Common.{rules}
+use borrow.Author.Tests.{tests}
+use Rattle.std.proofs.lemmas.Fn.{always_returns_same}
+use Rattle.st_lookaside.specs.Slot.{Slot}
+use Rattle.st_lookaside.proofs.Places.{missing, placed}
+use Rattle.st_lookaside.proofs.slots.place_of.Goals as goal
+
+pub returns-clause-found : goal.returns-clause-found
+returns-clause-found c =
+    placed c.args.slots.now c.args.seq c.binary_search_by_key.result c.binary_search_by_key.ensures.bound
+    (c.binary_search_by_key.ensures.position (λ (slot : Slot). slot.head.seq) (always_returns_same _ _ _ (λ a r f' k. search (rules, tests))))
+
+pub returns-clause-missing : goal.returns-clause-missing
+returns-clause-missing c =
+    missing c.args.slots.now c.args.seq c.binary_search_by_key.result c.requires c.binary_search_by_key.ensures.bound
+    (c.binary_search_by_key.ensures.position (λ (slot : Slot). slot.head.seq) (always_returns_same _ _ _ (λ a r f' k. search (rules, tests))))

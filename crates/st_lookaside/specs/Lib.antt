@@ -1,0 +1,5 @@
+pub mod Head
+pub mod Need
+pub mod Part
+pub mod Slot
+pub mod Slots

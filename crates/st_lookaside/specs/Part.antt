@@ -1,0 +1,101 @@
+-- What is copied and seen of an argument, and what is kept of it.
+use Rattle.std.specs.Prelude.{◌≡◌, ◌<◌, ℕ, Bool, true, false, List, [], ◌∷◌, ◌++◌, length, take, slice_index_or, Option, Some, None, is_some, nat_lt}
+use Rattle.st_calls.specs.Call.{follows}
+use Rattle.st_calls.specs.declared.argument.ArgSpec.{ArgSpec}
+use Rattle.st_calls.specs.declared.argument.PartKind.TheVariants as kind
+use Rattle.st_effects.specs.Progress.{ArgRequest, Progress}
+use Rattle.st_lookaside.specs.Need.{need_of, progress_alone, IsInside}
+use Rattle.st_lookaside.specs.declared.need.Need.TheVariants as need
+use Rattle.st_lookaside.specs.declared.part.Part.{Part}
+use Rattle.st_model.specs.Spelling.{Spelled, Text, spell}
+use Rattle.st_model.specs.Walk.{start_walk}
+use Rattle.st_names.specs.declared.seen.SeenText.{SeenText}
+use Rattle.st_resolve.specs.Walk.{Walk, walk_from}
+use Rattle.st_translate.specs.Copied.{Copied, lies_in_memory}
+
+-- what was copied and seen of an argument, and whether the walk of its name is readied
+pub record Filled : Type 0 where
+  pub words : List ℕ
+  pub lookups : List SeenText
+  pub walking : Bool
+
+-- nothing yet
+abbrev pub nothing_filled : Filled
+nothing_filled = record { words = []; lookups = []; walking = false }
+
+-- whether a word was copied
+abbrev pub is_begun : Filled → Bool
+is_begun filled = nat_lt 0 (length filled.words)
+
+-- the same with one more word
+abbrev pub with_word : Filled → ℕ → Filled
+with_word filled word = record { words = filled.words ++ word ∷ []; lookups = filled.lookups; walking = filled.walking }
+
+-- the same with one more answer to a look
+abbrev pub with_lookup : Filled → SeenText → Filled
+with_lookup filled seen = record { words = filled.words; lookups = filled.lookups ++ seen ∷ []; walking = filled.walking }
+
+-- the same with the walk readied
+abbrev pub with_walk : Filled → Filled
+with_walk filled = record { words = filled.words; lookups = filled.lookups; walking = true }
+
+-- the same with nothing readied
+abbrev pub without_walk : Filled → Filled
+without_walk filled = record { words = filled.words; lookups = filled.lookups; walking = false }
+
+-- ---- how far an argument has come
+
+-- the register of an argument
+abbrev pub register_of : ArgRequest → ArgSpec → ℕ
+register_of asked spec = slice_index_or asked.regs spec.register 0
+
+-- whether its name is followed where it ends in a link
+abbrev pub is_followed : ArgRequest → ArgSpec → Bool
+is_followed asked spec = follows asked.call asked.regs spec.register
+
+-- what its words spell
+abbrev pub spelled_of : ArgRequest → ArgSpec → List ℕ → Spelled
+spelled_of asked spec words = spell spec.kind (register_of asked spec) words
+
+-- how far it has come by its words and lookups, whatever the others need
+abbrev pub progress_of_arg : ArgRequest → ArgSpec → List ℕ → List SeenText → Progress
+progress_of_arg asked spec words lookups = progress_alone spec asked.cwd (is_followed asked spec) lookups (spelled_of asked spec words)
+
+-- ---- what is kept of it
+
+-- the words that were copied
+abbrev pub words_in : Option Copied → List ℕ
+words_in None = []
+words_in (Some copied) = copied.words
+
+abbrev pub filled_of : Part → Filled
+filled_of part = record { words = words_in part.copying; lookups = part.lookups.items; walking = is_some part.walk }
+
+-- an argument is copied exactly where it lies in memory
+abbrev pub IsCopyOf : ArgRequest → ArgSpec → Option Copied → Type 0
+IsCopyOf asked spec None = lies_in_memory spec.kind ≡ false
+IsCopyOf asked spec (Some copied) = (copied.kind ≡ spec.kind) × (copied.at ≡ register_of asked spec)
+
+-- each look was asked for by what was seen before it
+abbrev pub AreAskedLooks : ArgRequest → ArgSpec → List ℕ → List SeenText → Type 0
+AreAskedLooks asked spec words lookups = (count : ℕ) → count < length lookups → need_of (progress_of_arg asked spec words (take count lookups)) ≡ need.Look
+
+-- the walk of a name that was copied, behind what was seen
+pub record IsWalk (asked : ArgRequest) (spec : ArgSpec) (words : List ℕ) (lookups : List SeenText) (walk : Walk) : Type 0 where
+  pub text : List ℕ
+  pub is_name : spec.kind ≡ kind.Name
+  pub text_is : spelled_of asked spec words ≡ Text text
+  pub goes_on : (more : List SeenText) → walk_from walk more ≡ start_walk text asked.cwd (is_followed asked spec) (lookups ++ more)
+
+-- a walk that is readied is that one
+abbrev pub IsWalkOf : ArgRequest → ArgSpec → List ℕ → List SeenText → Option Walk → Type 0
+IsWalkOf asked spec words lookups None = Unit {0}
+IsWalkOf asked spec words lookups (Some walk) = IsWalk asked spec words lookups walk
+
+-- an argument of what is asked, as it is kept
+pub record IsPart (asked : ArgRequest) (part : Part) : Type 0 where
+  pub copied : IsCopyOf asked part.spec part.copying
+  pub need : part.need ≡ need_of (progress_of_arg asked part.spec (words_in part.copying) part.lookups.items)
+  pub inside : IsInside part.need
+  pub seen : AreAskedLooks asked part.spec (words_in part.copying) part.lookups.items
+  pub walk : IsWalkOf asked part.spec (words_in part.copying) part.lookups.items part.walk

@@ -1,0 +1,166 @@
+-- A message under way: what was copied and seen for each of its arguments.
+use Rattle.std.specs.Prelude.{◌≡◌, ◌<◌, ◌≤◌, ◌+◌, ℕ, Bool, true, false, List, [], All, map, get_or, slice_index_or, slice_set, length}
+use Rattle.st_base.specs.declared.ids.Ids.{Ids}
+use Rattle.st_calls.specs.Argument.{args_of}
+use Rattle.st_calls.specs.declared.argument.ArgText.{ArgText}
+use Rattle.st_calls.specs.declared.judged.Snapshot.{Snapshot}
+use Rattle.st_effects.specs.Progress.{Progress, Word, Look, Stuck, Ready, progress}
+use Rattle.st_lookaside.specs.Head.{request_of}
+use Rattle.st_lookaside.specs.Need.{IsShort}
+use Rattle.st_lookaside.specs.Part.{Filled, filled_of, is_begun, nothing_filled, with_lookup, with_walk, with_word, without_walk, IsPart}
+use Rattle.st_lookaside.specs.declared.head.Head.{Head}
+use Rattle.st_lookaside.specs.declared.need.Need.TheVariants as need
+use Rattle.st_lookaside.specs.declared.part.Part.{Part}
+use Rattle.st_lookaside.specs.declared.slot.Next.{Next}
+use Rattle.st_lookaside.specs.declared.slot.Next.TheVariants as next
+use Rattle.st_model.specs.declared.limits.TheConstants.{SPACE_WORDS}
+use Rattle.st_names.specs.Name.{Components}
+use Rattle.st_names.specs.declared.seen.SeenText.{SeenText}
+
+-- a message, and what was copied and seen for each argument of its rule, in their order
+pub record Slot : Type 0 where
+  pub head : Head
+  pub parts : List Filled
+
+-- a message of which nothing is copied or seen
+abbrev pub new_slot : Head → Slot
+new_slot head = record { head = head; parts = map (λ spec. nothing_filled) (args_of head.rule) }
+
+-- what was copied and seen for the argument of this place
+abbrev pub part_at : List Filled → ℕ → Filled
+part_at parts j = slice_index_or parts j nothing_filled
+
+-- how far the message has come
+abbrev pub progress_of_parts : Head → List Filled → Progress
+progress_of_parts head parts = progress (request_of head) (λ j. (part_at parts j).words) (λ j. (part_at parts j).lookups)
+
+abbrev pub progress_of : Slot → Progress
+progress_of slot = progress_of_parts slot.head slot.parts
+
+-- ---- what is needed next
+
+-- what a message needs next that has come so far
+abbrev pub next_of : Progress → Next
+next_of (Word part place) = next.Word part place
+next_of (Look part name) = next.Look part
+next_of (Stuck errno) = next.Fault errno
+next_of (Ready args) = next.Ready
+
+-- the place of the argument that isn't finished, 0 where all are or one has a fault
+abbrev pub part_next : Progress → ℕ
+part_next (Word part place) = part
+part_next (Look part name) = part
+part_next (Stuck errno) = 0
+part_next (Ready args) = 0
+
+-- a word is copied next
+abbrev pub IsWordNext : Progress → Type 0
+IsWordNext (Word part place) = Unit {0}
+IsWordNext (Look part name) = ⊥
+IsWordNext (Stuck errno) = ⊥
+IsWordNext (Ready args) = ⊥
+
+-- a name is looked at next
+abbrev pub IsLookNext : Progress → Type 0
+IsLookNext (Word part place) = ⊥
+IsLookNext (Look part name) = Unit {0}
+IsLookNext (Stuck errno) = ⊥
+IsLookNext (Ready args) = ⊥
+
+-- a word is copied or a name is looked at next
+abbrev pub IsDue : Progress → Type 0
+IsDue (Word part place) = Unit {0}
+IsDue (Look part name) = Unit {0}
+IsDue (Stuck errno) = ⊥
+IsDue (Ready args) = ⊥
+
+-- all arguments are there
+abbrev pub IsReady : Progress → Type 0
+IsReady (Word part place) = ⊥
+IsReady (Look part name) = ⊥
+IsReady (Stuck errno) = ⊥
+IsReady (Ready args) = Unit {0}
+
+-- whether the walk is readied of the argument that isn't finished
+abbrev pub is_readied : Slot → Bool
+is_readied slot = (part_at slot.parts (part_next (progress_of slot))).walking
+
+-- a word that is needed lies in memory
+abbrev pub IsInside : Next → Type 0
+IsInside (next.Word part place) = place < SPACE_WORDS
+IsInside (next.Look part) = Unit {0}
+IsInside (next.Fault errno) = Unit {0}
+IsInside next.Ready = Unit {0}
+
+-- ---- what calls leave
+
+-- the argument of this place stands so now
+abbrev pub with_part : Slot → ℕ → Filled → Slot
+with_part slot j filled = record { head = slot.head; parts = slice_set slot.parts j filled }
+
+-- the argument that isn't finished has one more word
+abbrev pub after_word : Slot → ℕ → Slot
+after_word slot word = let j = part_next (progress_of slot) in with_part slot j (with_word (part_at slot.parts j) word)
+
+-- its walk has one more answer
+abbrev pub after_look : Slot → SeenText → Slot
+after_look slot seen = let j = part_next (progress_of slot) in with_part slot j (with_lookup (part_at slot.parts j) seen)
+
+-- what is needed next is readied: the walk of a name, where the room for words is there already
+abbrev pub begun_at : Progress → Slot → Slot
+begun_at (Word part place) slot = slot
+begun_at (Look part name) slot = with_part slot part (with_walk (part_at slot.parts part))
+begun_at (Stuck errno) slot = slot
+begun_at (Ready args) slot = slot
+
+abbrev pub after_begin : Slot → Slot
+after_begin slot = begun_at (progress_of slot) slot
+
+-- its walk isn't readied
+abbrev pub unreadied : Slot → Slot
+unreadied slot = let j = part_next (progress_of slot) in with_part slot j (without_walk (part_at slot.parts j))
+
+-- the message begins anew under this number, with these ids and this directory
+abbrev pub renewed : Slot → ℕ → Ids → Components → Slot
+renewed slot seq ids cwd = new_slot (record slot.head { seq = seq; ids = ids; cwd = cwd })
+
+-- the message with the texts of its arguments
+abbrev pub snapshot_with : Head → List ArgText → Snapshot
+snapshot_with head args = record {
+  seq = head.seq;
+  pid = head.pid;
+  ids = head.ids;
+  policy = head.policy;
+  rule = head.rule;
+  call = head.call;
+  regs = head.regs;
+  parts = args;
+}
+
+-- what is copied and seen came in the order of the arguments: nothing is seen of one that needs a word, and nothing is there behind it
+pub record IsInOrder (slot : Slot) : Type 0 where
+  pub unseen : IsWordNext (progress_of slot) → (part_at slot.parts (part_next (progress_of slot))).lookups ≡ []
+  pub behind : IsDue (progress_of slot) → (k : ℕ) → part_next (progress_of slot) < k → part_at slot.parts k ≡ nothing_filled
+
+-- ---- what is kept
+
+-- behind an argument that isn't finished nothing is copied or seen
+abbrev pub AreInOrder : List Part → Type 0
+AreInOrder parts = (i j : ℕ) (d : Part) → i < j → j < length parts → ((get_or parts i d).need ≡ need.Nothing → ⊥) → filled_of (get_or parts j d) ≡ nothing_filled
+
+-- a message and its arguments, as they are kept
+pub record IsSlot (head : Head) (kept : List Part) : Type 0 where
+  pub short : IsShort head.cwd
+  pub specs : map (λ part. part.spec) kept ≡ args_of head.rule
+  pub parts : All (IsPart (request_of head)) kept
+  pub order : AreInOrder kept
+
+-- of no argument from this place on a word is copied
+abbrev pub AreNotBegun : List Part → ℕ → Type 0
+AreNotBegun parts from = (k : ℕ) (d : Part) → from ≤ k → k < length parts → is_begun (filled_of (get_or parts k d)) ≡ false
+
+-- the last argument of which a word is copied
+pub record IsLastBegun (parts : List Part) (j : ℕ) : Type 0 where
+  pub within : j < length parts
+  pub begun : (d : Part) → is_begun (filled_of (get_or parts j d)) ≡ true
+  pub behind : AreNotBegun parts (j + 1)

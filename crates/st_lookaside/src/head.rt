@@ -1,0 +1,19 @@
+use st_base::{Ids, Pid, Seq, Text};
+use st_calls::{Rule, SysCall};
+use st_names::AbsName;
+
+/// A message: the call that is held, and by what it is judged.
+#[derive(Debug, Drop)]
+pub struct Head {
+    pub seq: Seq,
+    pub pid: Pid,
+    pub ids: Ids,
+    /// Where its names begin that aren't absolute; it has at most 1,024 bytes.
+    pub cwd: AbsName,
+    /// The binary whose policy judges it.
+    pub policy: Text,
+    /// The rule that judges it, which gives its arguments.
+    pub rule: Rule,
+    pub call: SysCall,
+    pub regs: [u64; 6],
+}

@@ -1,0 +1,57 @@
+// What an argument needs next.
+ghost use Rattle.std.specs.Prelude.{◌≡◌, Bool, []};
+ghost use Rattle.st_calls.specs.declared.argument.PartKind.TheVariants as kind;
+ghost use Rattle.st_lookaside.specs.Need.{need_of, need_of_walk, progress_alone, IsInside, IsShort};
+ghost use Rattle.st_resolve.specs.Walk.{step_of};
+ghost use Rattle.st_translate.specs.Copied.{IsDone, spelled};
+
+use st_base::Errno;
+use st_calls::{ArgSpec, PartKind};
+use st_names::AbsName;
+use st_resolve::{WalkStep, first_step};
+use st_translate::Copying;
+
+/// What an argument needs next, whatever the others need.
+#[derive(Clone, Copy, Debug, PartialEq, Eq)]
+pub enum Need {
+    /// The word at this place of memory.
+    Word(u32),
+    /// A look at the next name of its walk.
+    Look,
+    /// Nothing: it came to a fault.
+    Fault(Errno),
+    /// Nothing: it is all there.
+    Nothing,
+}
+
+impl Need {
+    /// What a name needs whose walk has come so far.
+    pub fn of_step(step: WalkStep) -> Self
+        ensures { result ≡ need_of_walk step }
+    {
+        match step {
+            WalkStep::More => Need::Look,
+            WalkStep::Name => Need::Nothing,
+            WalkStep::Fault(errno) => Need::Fault(errno),
+        }
+    }
+
+    /// What an argument that lies in memory needs by its words, before any look.
+    pub fn before_looks(spec: ArgSpec, copying: &Copying, cwd: &AbsName) -> Self
+        requires kind { copying.now.kind ≡ spec.kind }
+        requires short { IsShort cwd.now }
+        ensures inside { IsInside result }
+        ensures need { (follow : Bool) → result ≡ need_of (progress_alone spec cwd.now follow [] (spelled copying.now)) }
+    {
+        if let Some(place) = copying.next_word() {
+            return Need::Word(place);
+        }
+        if let Some(errno) = copying.fault() {
+            return Need::Fault(errno);
+        }
+        match spec.kind {
+            PartKind::Name => Need::of_step(first_step(copying.text(), cwd)),
+            _ => Need::Nothing,
+        }
+    }
+}

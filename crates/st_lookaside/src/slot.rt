@@ -1,0 +1,235 @@
+ghost use Rattle.std.specs.Prelude.{◌≡◌, ◌<◌, ℕ, true, false, not, All, map, get_or, length, position, Option, Some, None, IfSome, IsNone, IfOk, OnOk, OnErr};
+ghost use Rattle.st_calls.specs.Argument.{args_of};
+ghost use Rattle.st_lookaside.specs.Head.{request_of};
+ghost use Rattle.st_lookaside.specs.Need.{is_finished, IsShort};
+ghost use Rattle.st_lookaside.specs.Part.{filled_of, nothing_filled, IsCopyOf, IsPart};
+ghost use Rattle.st_lookaside.specs.declared.need.Need.TheVariants as need;
+ghost use Rattle.st_lookaside.specs.declared.part.Part.{Part};
+ghost use Rattle.st_model.specs.declared.limits.TheConstants.{SPACE_WORDS};
+ghost use Rattle.st_lookaside.specs.Slot.{AreNotBegun, IsLastBegun};
+ghost use Rattle.st_names.specs.Seen.{seen_text};
+ghost use Rattle.st_names.specs.declared.seen.SeenText.{SeenText};
+ghost use Rattle.st_effects.specs.Progress.{Look, Ready};
+
+use crate::head::Head;
+use crate::need::Need;
+use crate::part::Part;
+use st_base::{Errno, Ids, Seq, Sequence};
+use st_calls::{ArgText, Snapshot, args_of};
+use st_names::{AbsName, Seen};
+use std::alloc::{AllocError, Global};
+use std::marker::Model;
+
+/// What a message needs next. Its arguments are numbered from 0 in their order.
+#[derive(Clone, Copy, Debug, PartialEq, Eq)]
+pub enum Next {
+    /// For this argument, the word at this place of memory.
+    Word(u32, u32),
+    /// For this argument, a look at the next name of its walk.
+    Look(u32),
+    /// Nothing: an argument came to this error.
+    Fault(Errno),
+    /// Nothing: all arguments are there.
+    Ready,
+}
+
+/// A message under way, and what is copied and seen for its arguments. Each word and look costs only itself.
+#[derive(Debug, Drop)]
+pub struct Slot {
+    head: Head,
+    parts: Vec<Part>,
+}
+
+impl Model for Slot {
+    ghost use Rattle.std.specs.Prelude.{map};
+    ghost use Rattle.st_lookaside.specs.Part.{filled_of};
+    ghost use Rattle.st_lookaside.specs.Slot as slot;
+    ghost use Rattle.st_lookaside.specs.Slot.{IsSlot};
+
+    ghost Value = { slot.Slot };
+
+    ghost view = { λ s. record { head = s.head; parts = map filled_of s.parts.items } };
+
+    ghost invariant = { λ s. IsSlot s.head s.parts.items };
+}
+
+// The first argument that isn't finished.
+fn unfinished(parts: &[Part]) -> Option<usize>
+    ensures { result ≡ position (λ part. not (is_finished part.need)) parts.now }
+{
+    parts.iter().position(|part| !part.is_finished())
+}
+
+// The last argument of which a word is copied.
+fn last_begun(parts: &[Part]) -> Option<usize>
+    ensures some { IfSome result (IsLastBegun parts.now) }
+    ensures none { IsNone result → AreNotBegun parts.now 0 }
+{
+    let mut at = parts.len();
+    while at > 0 {
+        at -= 1;
+        if parts[at].is_begun() {
+            return Some(at);
+        }
+    }
+    None
+}
+
+// Begins all arguments anew.
+fn restart(parts: &mut [Part], head: &Head)
+    requires parts { (k : ℕ) (d : Part) → k < length parts.old → IsCopyOf (request_of head.now) (get_or parts.old k d).spec (get_or parts.old k d).copying }
+    requires short { IsShort head.now.cwd }
+    ensures parts { All (IsPart (request_of head.now)) parts.new }
+    ensures specs { map (λ part. part.spec) parts.new ≡ map (λ part. part.spec) parts.old }
+    ensures filled { All (λ part. filled_of part ≡ nothing_filled) parts.new }
+{
+    for part in parts {
+        part.restart(head);
+    }
+}
+
+impl Slot {
+    ghost use Rattle.st_lookaside.specs.Slot as slot;
+    ghost use Rattle.st_lookaside.specs.Slot.{after_begin, after_look, after_word, is_readied, new_slot, next_of, part_next, progress_of, renewed, snapshot_with, unreadied, IsDue, IsInOrder, IsInside, IsLookNext, IsReady, IsWordNext};
+
+    /// A message of which nothing is copied or seen, with room for every word.
+    pub fn new(alloc: Global, head: Head) -> Result<Self, AllocError>
+        requires { IsShort head.cwd }
+        ensures { IfOk result (λ slot. slot ≡ new_slot head) }
+    {
+        let mut parts = Vec::new(alloc);
+        for spec in args_of(head.rule) {
+            parts.push(Part::begin(alloc, &head, *spec)?)?;
+        }
+        Ok(Slot { head, parts })
+    }
+
+    /// The message.
+    pub fn head(&self) -> &Head
+        ensures { result.now ≡ self.now.head }
+    {
+        &self.head
+    }
+
+    /// What the message needs next.
+    pub fn next(&self) -> Next
+        ensures value { result ≡ next_of (progress_of self.now) }
+        ensures inside { IsInside result }
+    {
+        let Some(j) = unfinished(&self.parts) else {
+            return Next::Ready;
+        };
+        match self.parts[j].need {
+            Need::Word(place) => Next::Word(j as u32, place),
+            Need::Look => Next::Look(j as u32),
+            Need::Fault(errno) => Next::Fault(errno),
+            Need::Nothing => unreachable!(),
+        }
+    }
+
+    /// Readies what is needed next, which changes nothing that is copied or seen. Without memory nothing changes.
+    pub fn begin_part(&mut self, alloc: Global) -> Result<(), AllocError>
+        requires { IsDue (progress_of self.old) }
+        ensures ok { OnOk result (self.new ≡ after_begin self.old) }
+        ensures same { OnOk result (progress_of self.new ≡ progress_of self.old) }
+        ensures readied { OnOk result (IsLookNext (progress_of self.old) → is_readied self.new ≡ true) }
+        ensures head { self.new.head ≡ self.old.head }
+        ensures err { OnErr result (self.new ≡ self.old) }
+    {
+        let Some(j) = unfinished(&self.parts) else {
+            unreachable!()
+        };
+        let part = &mut self.parts[j];
+        if !part.needs_look() {
+            return Ok(());
+        }
+        part.begin_walk(alloc, &self.head)
+    }
+
+    /// Takes the word that is needed next, without memory.
+    pub fn fill(&mut self, word: u64)
+        requires { IsWordNext (progress_of self.old) }
+        ensures slot { self.new ≡ after_word self.old word }
+        ensures order { IsInOrder self.old }
+    {
+        let Some(j) = unfinished(&self.parts) else {
+            unreachable!()
+        };
+        let part = &mut self.parts[j];
+        part.fill(&self.head, word);
+    }
+
+    /// The name that is looked at next, where its walk is readied.
+    pub fn look_name(&self, alloc: Global) -> Result<AbsName, AllocError>
+        requires next { IsLookNext (progress_of self.now) }
+        requires readied { is_readied self.now ≡ true }
+        ensures { IfOk result (λ name. progress_of self.now ≡ Look (part_next (progress_of self.now)) name) }
+    {
+        let Some(j) = unfinished(&self.parts) else {
+            unreachable!()
+        };
+        self.parts[j].look_name(alloc, &self.head)
+    }
+
+    /// Takes what was seen of the name that is looked at next, where its walk is readied. Without memory nothing changes.
+    pub fn saw(&mut self, alloc: Global, seen: Seen<'_>) -> Result<(), AllocError>
+        requires next { IsLookNext (progress_of self.old) }
+        requires readied { is_readied self.old ≡ true }
+        ensures ok { OnOk result (self.new ≡ after_look self.old (seen_text seen.entry)) }
+        ensures head { self.new.head ≡ self.old.head }
+        ensures order { IsInOrder self.old }
+        ensures err { OnErr result (self.new ≡ self.old) }
+    {
+        let Some(j) = unfinished(&self.parts) else {
+            unreachable!()
+        };
+        let part = &mut self.parts[j];
+        part.saw(alloc, &self.head, seen)
+    }
+
+    /// Undoes the last `fill` or `saw`, at the cost of what was copied or seen before it; nothing is readied then.
+    pub fn take_back(&mut self)
+        ensures head { self.new.head ≡ self.old.head }
+        ensures word { (before : slot.Slot) (word : ℕ) → IsInOrder before → IsWordNext (progress_of before) → self.old ≡ after_word before word → self.new ≡ unreadied before }
+        ensures look { (before : slot.Slot) (seen : SeenText) → IsInOrder before → IsLookNext (progress_of before) → self.old ≡ after_look before seen → self.new ≡ unreadied before }
+    {
+        if let Some(j) = last_begun(&self.parts) {
+            let part = &mut self.parts[j];
+            part.take_back(&self.head);
+        }
+    }
+
+    /// The message with the texts of its arguments, as they were copied and looked up.
+    pub fn seal(&self, alloc: Global) -> Result<Snapshot, AllocError>
+        requires { IsReady (progress_of self.now) }
+        ensures args { IfOk result (λ snapshot. progress_of self.now ≡ Ready snapshot.parts) }
+        ensures head { IfOk result (λ snapshot. snapshot ≡ snapshot_with self.now.head snapshot.parts) }
+    {
+        let mut args = Sequence::new(alloc);
+        for part in &self.parts {
+            args.push(part.arg(alloc, &self.head)?)?;
+        }
+        let head = &self.head;
+        Ok(Snapshot {
+            seq: head.seq,
+            pid: head.pid,
+            ids: head.ids,
+            policy: head.policy.copy(alloc)?,
+            rule: head.rule,
+            call: head.call,
+            regs: head.regs,
+            parts: args,
+        })
+    }
+
+    /// Begins anew under this number, with these ids and this directory, in the room that is there.
+    pub fn renew(&mut self, seq: Seq, ids: Ids, cwd: AbsName)
+        requires { IsShort cwd }
+        ensures { self.new ≡ renewed self.old seq ids cwd }
+    {
+        self.head.seq = seq;
+        self.head.ids = ids;
+        self.head.cwd = cwd;
+        restart(&mut self.parts, &self.head);
+    }
+}

@@ -1,0 +1,203 @@
+ghost use Rattle.std.specs.Prelude.{◌≡◌, ℕ, true, [], Some, None, IsSome, IfSome, IfOk, IfErr, OnOk, OnErr};
+ghost use Rattle.st_effects.specs.Progress.{Look, Ready};
+ghost use Rattle.st_lookaside.specs.Need.{IsShort};
+ghost use Rattle.st_lookaside.specs.Slot as slot;
+ghost use Rattle.st_lookaside.specs.Slot.{after_begin, after_look, after_word, is_readied, new_slot, next_of, part_next, progress_of, renewed, snapshot_with, unreadied, IsDue, IsInOrder, IsInside, IsLookNext, IsReady, IsWordNext};
+ghost use Rattle.st_lookaside.specs.Slots.{slot_at, AreAscending, ChangesSlot, IsAt, IsGap, RenewsSlot};
+ghost use Rattle.st_names.specs.Seen.{seen_text};
+ghost use Rattle.st_names.specs.declared.seen.SeenText.{SeenText};
+
+use crate::head::Head;
+use crate::slot::{Next, Slot};
+use st_base::{Ids, Seq};
+use st_calls::Snapshot;
+use st_names::{AbsName, Seen};
+use std::alloc::{AllocError, Global};
+use std::marker::Model;
+
+/// The messages under way by their numbers, and what is copied and seen for each. A message is found in the logarithm of how many
+/// there are; a thread has one at most, so they are few.
+#[derive(Debug, Drop)]
+pub struct Slots {
+    // In the order of their numbers.
+    slots: Vec<Slot>,
+}
+
+impl Model for Slots {
+    ghost use Rattle.std.specs.Prelude.{List};
+    ghost use Rattle.st_lookaside.specs.Slot as slot;
+    ghost use Rattle.st_lookaside.specs.Slots.{AreAscending};
+
+    ghost Value = { List slot.Slot };
+
+    ghost view = { λ s. s.slots.items };
+
+    ghost invariant = { λ s. AreAscending s.slots.items };
+}
+
+// Where the slot of this number stands, or would.
+fn place_of(slots: &[Slot], seq: Seq) -> Result<usize, usize>
+    requires { AreAscending slots.now }
+    ensures found { IfOk result (IsAt slots.now seq) }
+    ensures missing { IfErr result (IsGap slots.now seq) }
+{
+    slots.binary_search_by_key(&seq, |slot| slot.head().seq)
+}
+
+impl Slots {
+    /// No slots, which takes no memory.
+    pub fn new(alloc: Global) -> Self
+        ensures { result ≡ [] }
+    {
+        Slots {
+            slots: Vec::new(alloc),
+        }
+    }
+
+    /// Begins a message of which nothing is copied or seen, with room for every word. Without memory nothing changes.
+    pub fn reserve(&mut self, alloc: Global, head: Head) -> Result<(), AllocError>
+        requires free { slot_at self.old head.seq ≡ None }
+        requires short { IsShort head.cwd }
+        ensures ok { OnOk result (ChangesSlot self.old head.seq (Some (new_slot head)) self.new) }
+        ensures err { OnErr result (self.new ≡ self.old) }
+    {
+        let Err(place) = place_of(&self.slots, head.seq) else {
+            unreachable!()
+        };
+        let slot = Slot::new(alloc, head)?;
+        self.slots.insert(place, slot)?;
+        Ok(())
+    }
+
+    /// The slot of a number that has one.
+    pub fn slot(&self, seq: Seq) -> &Slot
+        requires { IsSome (slot_at self.now seq) }
+        ensures { slot_at self.now seq ≡ Some result.now }
+    {
+        let Ok(place) = place_of(&self.slots, seq) else {
+            unreachable!()
+        };
+        &self.slots[place]
+    }
+
+    /// What a message needs next.
+    pub fn next(&self, seq: Seq) -> Next
+        requires { IsSome (slot_at self.now seq) }
+        ensures value { IfSome (slot_at self.now seq) (λ slot. result ≡ next_of (progress_of slot)) }
+        ensures inside { IsInside result }
+    {
+        self.slot(seq).next()
+    }
+
+    /// Readies what a message needs next, which changes nothing that is copied or seen. Without memory nothing changes.
+    pub fn begin_part(&mut self, alloc: Global, seq: Seq) -> Result<(), AllocError>
+        requires slot { IsSome (slot_at self.old seq) }
+        requires due { IfSome (slot_at self.old seq) (λ slot. IsDue (progress_of slot)) }
+        ensures ok { OnOk result (IfSome (slot_at self.old seq) (λ slot. ChangesSlot self.old seq (Some (after_begin slot)) self.new)) }
+        ensures same { IfSome (slot_at self.old seq) (λ slot. progress_of (after_begin slot) ≡ progress_of slot) }
+        ensures readied { OnOk result (IfSome (slot_at self.old seq) (λ slot. IsLookNext (progress_of slot) → is_readied (after_begin slot) ≡ true)) }
+        ensures err { OnErr result (self.new ≡ self.old) }
+    {
+        let Ok(place) = place_of(&self.slots, seq) else {
+            unreachable!()
+        };
+        let slot = &mut self.slots[place];
+        slot.begin_part(alloc)
+    }
+
+    /// Takes the word that a message needs next, without memory.
+    pub fn fill(&mut self, seq: Seq, word: u64)
+        requires slot { IsSome (slot_at self.old seq) }
+        requires next { IfSome (slot_at self.old seq) (λ slot. IsWordNext (progress_of slot)) }
+        ensures slot { IfSome (slot_at self.old seq) (λ slot. ChangesSlot self.old seq (Some (after_word slot word)) self.new) }
+        ensures order { IfSome (slot_at self.old seq) IsInOrder }
+    {
+        let Ok(place) = place_of(&self.slots, seq) else {
+            unreachable!()
+        };
+        let slot = &mut self.slots[place];
+        slot.fill(word);
+    }
+
+    /// The name that a message looks at next, where its walk is readied.
+    pub fn look_name(&self, alloc: Global, seq: Seq) -> Result<AbsName, AllocError>
+        requires slot { IsSome (slot_at self.now seq) }
+        requires next { IfSome (slot_at self.now seq) (λ slot. IsLookNext (progress_of slot)) }
+        requires readied { IfSome (slot_at self.now seq) (λ slot. is_readied slot ≡ true) }
+        ensures { IfOk result (λ name. IfSome (slot_at self.now seq) (λ slot. progress_of slot ≡ Look (part_next (progress_of slot)) name)) }
+    {
+        self.slot(seq).look_name(alloc)
+    }
+
+    /// Takes what was seen of the name that a message looks at next, where its walk is readied. Without memory nothing changes.
+    pub fn saw(&mut self, alloc: Global, seq: Seq, seen: Seen<'_>) -> Result<(), AllocError>
+        requires slot { IsSome (slot_at self.old seq) }
+        requires next { IfSome (slot_at self.old seq) (λ slot. IsLookNext (progress_of slot)) }
+        requires readied { IfSome (slot_at self.old seq) (λ slot. is_readied slot ≡ true) }
+        ensures ok { OnOk result (IfSome (slot_at self.old seq) (λ slot. ChangesSlot self.old seq (Some (after_look slot (seen_text seen.entry))) self.new)) }
+        ensures order { IfSome (slot_at self.old seq) IsInOrder }
+        ensures err { OnErr result (self.new ≡ self.old) }
+    {
+        let Ok(place) = place_of(&self.slots, seq) else {
+            unreachable!()
+        };
+        let slot = &mut self.slots[place];
+        slot.saw(alloc, seen)
+    }
+
+    /// A message with the texts of its arguments, as they were copied and looked up.
+    pub fn seal(&self, alloc: Global, seq: Seq) -> Result<Snapshot, AllocError>
+        requires slot { IsSome (slot_at self.now seq) }
+        requires ready { IfSome (slot_at self.now seq) (λ slot. IsReady (progress_of slot)) }
+        ensures args { IfOk result (λ snapshot. IfSome (slot_at self.now seq) (λ slot. progress_of slot ≡ Ready snapshot.parts)) }
+        ensures head { IfOk result (λ snapshot. IfSome (slot_at self.now seq) (λ slot. snapshot ≡ snapshot_with slot.head snapshot.parts)) }
+    {
+        self.slot(seq).seal(alloc)
+    }
+
+    /// Undoes the last `fill` or `saw` of a message; nothing is readied then. It takes no memory.
+    pub fn take_back(&mut self, seq: Seq)
+        requires { IsSome (slot_at self.old seq) }
+        ensures word { (before : slot.Slot) (word : ℕ) → IsInOrder before → IsWordNext (progress_of before) → slot_at self.old seq ≡ Some (after_word before word) → ChangesSlot self.old seq (Some (unreadied before)) self.new }
+        ensures look { (before : slot.Slot) (seen : SeenText) → IsInOrder before → IsLookNext (progress_of before) → slot_at self.old seq ≡ Some (after_look before seen) → ChangesSlot self.old seq (Some (unreadied before)) self.new }
+    {
+        let Ok(place) = place_of(&self.slots, seq) else {
+            unreachable!()
+        };
+        let slot = &mut self.slots[place];
+        slot.take_back();
+    }
+
+    /// Begins a message anew under a number that has no slot, with these ids and this directory, in the room that is there. Its old
+    /// number has no slot then.
+    pub fn renew(&mut self, old: Seq, new: Seq, ids: Ids, cwd: AbsName)
+        requires slot { IsSome (slot_at self.old old) }
+        requires free { slot_at self.old new ≡ None }
+        requires short { IsShort cwd }
+        ensures { IfSome (slot_at self.old old) (λ slot. RenewsSlot self.old old new (renewed slot new ids cwd) self.new) }
+    {
+        let Ok(place) = place_of(&self.slots, old) else {
+            unreachable!()
+        };
+        let mut slot = self.slots.remove(place);
+        slot.renew(new, ids, cwd);
+        let Err(place) = place_of(&self.slots, new) else {
+            unreachable!()
+        };
+        // There is room, as one was just taken out.
+        let Ok(()) = self.slots.insert(place, slot) else {
+            unreachable!()
+        };
+    }
+
+    /// Ends the slot of a number, which takes no memory.
+    pub fn drop_of(&mut self, seq: Seq)
+        requires { IsSome (slot_at self.old seq) }
+        ensures { ChangesSlot self.old seq None self.new }
+    {
+        let Ok(place) = place_of(&self.slots, seq) else {
+            unreachable!()
+        };
+        let _ = self.slots.remove(place);
+    }
+}
