@@ -1,0 +1,14 @@
+pub mod Allowed
+pub mod Changed
+pub mod Duplicates
+pub mod Executed
+pub mod Fits
+pub mod Looked
+pub mod Objects
+pub mod Opens
+pub mod Outcomes
+pub mod Real
+pub mod Renamed
+pub mod Resolutions
+pub mod Stay
+pub mod Walks
