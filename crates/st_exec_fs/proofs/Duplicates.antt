@@ -7,8 +7,8 @@ use Rattle.st_model.specs.DescriptorCalls.{dup_refused, dup_refused_at, table_af
 use Rattle.st_model.specs.declared.open_file.OpenFile.{OpenFile}
 use Rattle.st_trace.specs.declared.entry.CallResult.TheVariants.{Failed}
 use Rattle.st_effects.specs.System as effects
-use Rattle.st_exec_fs.specs.Outcome.{outcome_of}
-use Rattle.st_exec_fs.specs.declared.outcome.Outcome.{Outcome}
+use Rattle.st_request.specs.Outcome.{outcome_of}
+use Rattle.st_request.specs.declared.outcome.Outcome.{Outcome}
 use Rattle.st_fds.specs.Calls.{dup_result, dup_result_at}
 use Rattle.st_fds.specs.declared.fds.FdFault.{FdFault}
 use Rattle.st_fds.specs.declared.fds.FdFault.TheVariants.{Os}

@@ -15,12 +15,12 @@ use Rattle.st_effects.specs.System as effects
 use Rattle.st_effects.specs.System.{System, Request}
 use Rattle.st_trace.specs.declared.entry.Change.{Change}
 use Rattle.st_exec_fs.specs.Execution.{IsExecuted, IsLook, IsOnDescriptors, IsOnNames}
-use Rattle.st_exec_fs.specs.Open.{IsReady, IsReal}
-use Rattle.st_exec_fs.specs.Outcome.{outcome_of, system_of, with_descriptors, with_processes, with_tree}
-use Rattle.st_exec_fs.specs.Processes.{AreProcessesAfter}
-use Rattle.st_exec_fs.specs.declared.outcome.Outcome.{Outcome}
+use Rattle.st_request.specs.Ready.{IsReady, IsReal}
+use Rattle.st_request.specs.Outcome.{outcome_of, system_of, with_descriptors, with_processes, with_tree}
+use Rattle.st_request.specs.Processes.{AreProcessesAfter}
+use Rattle.st_request.specs.declared.outcome.Outcome.{Outcome}
 use Rattle.st_exec_fs.proofs.Changed.{access_changes, chdir_changes, descriptors_change, looks_change, memory_left, memory_left_by_moves, names_change, none_left, open_changes, processes_left, processes_left_by_puts, read_changes, space_left, tree_left_by_moves, tree_left_by_puts, write_changes, Each, IsNone, IsOfDirectory, IsOfMemory, IsOfTree, Makes}
-use Rattle.st_exec_fs.proofs.Stay.{stay_real}
+use Rattle.st_request.proofs.Stay.{stay_real}
 
 module _ (request : Request) (tree : Tree) (table : Table) (processes : Processes) (memories : Memories) where
   -- the system of these parts, where no call is held

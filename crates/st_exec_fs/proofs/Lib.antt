@@ -6,9 +6,6 @@ pub mod Fits
 pub mod Looked
 pub mod Objects
 pub mod Opens
-pub mod Outcomes
-pub mod Real
 pub mod Renamed
 pub mod Resolutions
-pub mod Stay
 pub mod Walks

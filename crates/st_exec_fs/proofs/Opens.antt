@@ -18,13 +18,14 @@ use Rattle.st_effects.specs.Descriptors.{access_of, is_for_writing, may_open, ne
 use Rattle.st_effects.specs.NameTests.{Object, object_at, object_numbered, object_with, walk_error}
 use Rattle.st_effects.specs.Names.{is_link}
 use Rattle.st_effects.specs.System as effects
-use Rattle.st_exec_fs.specs.Open.{is_changing, open_changes, opened_object, opened_outcome, IsNoLink, IsOpenable, IsReal, KeepsObjects}
-use Rattle.st_exec_fs.specs.Outcome.{outcome_of, with_descriptors, with_tree}
-use Rattle.st_exec_fs.specs.declared.outcome.Outcome.{Outcome}
+use Rattle.st_exec_fs.specs.Open.{is_changing, open_changes, opened_object, opened_outcome, IsNoLink}
+use Rattle.st_request.specs.Ready.{IsOpenable, IsReal, KeepsObjects}
+use Rattle.st_request.specs.Outcome.{outcome_of, with_descriptors, with_tree}
+use Rattle.st_request.specs.declared.outcome.Outcome.{Outcome}
 use Rattle.st_trace.specs.declared.entry.CallResult.TheVariants.{Value}
 use Rattle.st_exec_fs.specs.Walking.{object_made}
 use Rattle.st_exec_fs.proofs.Objects.{numbered}
-use Rattle.st_exec_fs.proofs.Real.{kept_objects, more}
+use Rattle.st_request.proofs.Real.{kept_objects, more}
 
 -- what a name has, by what a walk to it found
 pub found_at : (tree : Tree) (name : Components) (found : Option ℕ) → found ≡ object_of tree name → IfSome found (IsMade tree) → object_at tree name ≡ option_map (object_made tree) found

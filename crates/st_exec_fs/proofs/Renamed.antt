@@ -17,7 +17,7 @@ use Rattle.st_trace.specs.declared.entry.Change.TheVariants as change
 use Rattle.st_exec_fs.specs.Renaming.{changes_of_move, AreFound}
 use Rattle.st_exec_fs.specs.declared.renaming.Both.{Both}
 use Rattle.st_exec_fs.specs.declared.renaming.Move.TheVariants.{Stays, Free, Replaces}
-use Rattle.st_exec_fs.specs.Outcome.{with_tree}
+use Rattle.st_request.specs.Outcome.{with_tree}
 use Rattle.st_exec_fs.specs.Walking.{object_made}
 use Rattle.st_exec_fs.proofs.Objects.{found_made, numbered}
 use Rattle.st_exec_fs.proofs.Allowed.{directory_there, object_there}

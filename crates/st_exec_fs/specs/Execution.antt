@@ -9,9 +9,9 @@ use Rattle.st_model.specs.Tree.{Tree}
 use Rattle.st_effects.specs.Changes.{memory_after, tree_after}
 use Rattle.st_effects.specs.Effect.{effect}
 use Rattle.st_effects.specs.System as effects
-use Rattle.st_exec_fs.specs.Outcome.{outcome_of, system_of}
-use Rattle.st_exec_fs.specs.Processes.{AreProcessesAfter}
-use Rattle.st_exec_fs.specs.declared.outcome.Outcome.{Outcome}
+use Rattle.st_request.specs.Outcome.{outcome_of, system_of}
+use Rattle.st_request.specs.Processes.{AreProcessesAfter}
+use Rattle.st_request.specs.declared.outcome.Outcome.{Outcome}
 
 -- a call that changes where descriptors lead to, and nothing else
 abbrev pub IsOnDescriptors : SysCall → Type 0

@@ -1,6 +1,7 @@
 ghost use Rattle.std.specs.Prelude.{◌≡◌, true, IfOk, OnOk};
 ghost use Rattle.st_exec_fs.specs.Execution.{IsOnFiles};
-ghost use Rattle.st_exec_fs.specs.Open.{IsNoLink, IsReady};
+ghost use Rattle.st_exec_fs.specs.Open.{IsNoLink};
+ghost use Rattle.st_request.specs.Ready.{IsReady};
 
 use crate::{Request, close, dup, execute_fs, lseek, read, rename, write};
 use st_base::{Errno, Ids, Text};

@@ -5,14 +5,13 @@ ghost use Rattle.st_effects.specs.Descriptors.{close_outcome, dup_outcome, lseek
 ghost use Rattle.st_fds.specs.Table.{KeepsTables};
 ghost use Rattle.st_model.specs.Descriptors.{has_table};
 ghost use Rattle.st_model.specs.Tree.{Tree};
-ghost use Rattle.st_exec_fs.specs.Open.{IsReal, IsRealFile};
-ghost use Rattle.st_exec_fs.specs.Outcome.{outcome_of, with_descriptors, with_tree};
+ghost use Rattle.st_request.specs.Ready.{IsReal, IsRealFile};
+ghost use Rattle.st_request.specs.Outcome.{outcome_of, with_descriptors, with_tree};
 
-use crate::outcome::Outcome;
-use crate::request::Request;
 use st_base::Errno;
 use st_fds::{FdFault, Fds};
 use st_model::{FileKind, LONGEST_FILE, OpenFile};
+use st_request::{Outcome, Request};
 use st_tree::{Kind, Tree};
 use std::alloc::Global;
 

@@ -3,15 +3,14 @@ ghost use Rattle.std.specs.Prelude.{◌≡◌, [], ◌∷◌, IfOk, OnErr};
 ghost use Rattle.st_effects.specs.Names.{chdir_outcome};
 ghost use Rattle.st_effects.specs.System.{arg_name_at, success, System};
 ghost use Rattle.st_model.specs.Processes.{IsPid};
-ghost use Rattle.st_exec_fs.specs.Outcome.{outcome_of, unless_err, with_tree};
-ghost use Rattle.st_exec_fs.specs.Processes.{AreProcessesAfter};
+ghost use Rattle.st_request.specs.Outcome.{outcome_of, unless_err, with_tree};
+ghost use Rattle.st_request.specs.Processes.{AreProcessesAfter};
 
-use crate::outcome::Outcome;
-use crate::request::Request;
 use crate::walking;
 use st_base::Errno;
 use st_names::AbsName;
 use st_procs::Procs;
+use st_request::{Outcome, Request};
 use st_trace::Change;
 use st_tree::{Tree, Want};
 use std::alloc::{AllocError, Global};

@@ -6,13 +6,13 @@ ghost use Rattle.st_effects.specs.System.{arg_name_at, success, System};
 ghost use Rattle.st_model.specs.Tree.{remove_name};
 ghost use Rattle.st_trace.specs.declared.entry.CallResult.TheVariants.{Value};
 ghost use Rattle.st_tree.specs.Refusals.{remove_refused};
-ghost use Rattle.st_exec_fs.specs.Outcome.{outcome_of, unless_err, with_tree};
+ghost use Rattle.st_request.specs.Outcome.{outcome_of, unless_err, with_tree};
 
-use crate::outcome::{self, Outcome};
-use crate::request::Request;
 use crate::walking;
+use crate::want_of_memory::unrefused;
 use st_base::Errno;
 use st_names::AbsName;
+use st_request::{Outcome, Request};
 use st_trace::Change;
 use st_tree::Tree;
 use std::alloc::{AllocError, Global};
@@ -44,7 +44,7 @@ fn remove(tree: &mut Tree, alloc: Global, name: &AbsName) -> Result<Outcome, All
 {
     let change = Change::Removed(name.copy(alloc)?);
     let outcome = Outcome::change(alloc, 0, change)?;
-    outcome::unrefused(tree.remove(name))?;
+    unrefused(tree.remove(name))?;
     Ok(outcome)
 }
 

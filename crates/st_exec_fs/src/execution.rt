@@ -9,8 +9,9 @@ ghost use Rattle.st_memory.specs.Memory.{byte_in, is_live, KeepsSpaces};
 ghost use Rattle.st_model.specs.Descriptors.{has_table};
 ghost use Rattle.st_model.specs.Processes.{IsPid, process_at};
 ghost use Rattle.st_exec_fs.specs.Execution.{IsExecuted, IsLook, IsOnDescriptors, IsOnFiles, IsOnNames};
-ghost use Rattle.st_exec_fs.specs.Open.{IsNoLink, IsReady, IsReal};
-ghost use Rattle.st_exec_fs.specs.Outcome.{outcome_of, with_descriptors, with_processes, with_tree};
+ghost use Rattle.st_exec_fs.specs.Open.{IsNoLink};
+ghost use Rattle.st_request.specs.Ready.{IsReady, IsReal};
+ghost use Rattle.st_request.specs.Outcome.{outcome_of, with_descriptors, with_processes, with_tree};
 
 use crate::descriptors::{close, dup, lseek};
 use crate::directory::chdir;
@@ -18,15 +19,14 @@ use crate::entries::{rmdir, unlink};
 use crate::looks::{readlink, stat};
 use crate::making::{link, mkdir, symlink};
 use crate::opening::{open, truncate};
-use crate::outcome::Outcome;
 use crate::permission::{access, chmod, chown};
 use crate::renaming::rename;
-use crate::request::Request;
 use crate::transfers::{read, write};
 use st_calls::SysCall;
 use st_fds::Fds;
 use st_memory::Spaces;
 use st_procs::Procs;
+use st_request::{Outcome, Request};
 use st_tree::Tree;
 use std::alloc::{AllocError, Global};
 

@@ -10,16 +10,15 @@ ghost use Rattle.st_model.specs.Processes.{process_at, IsPid};
 ghost use Rattle.st_model.specs.Tree.{node_with_number};
 ghost use Rattle.st_model.specs.declared.limits.TheConstants.{SPACE_BYTES};
 ghost use Rattle.st_tree.specs.Refusals.{IsMade};
-ghost use Rattle.st_exec_fs.specs.Outcome.{outcome_of, unless_err, with_processes, with_tree};
+ghost use Rattle.st_request.specs.Outcome.{outcome_of, unless_err, with_processes, with_tree};
 ghost use Rattle.st_exec_fs.specs.Walking.{object_made};
 
-use crate::outcome::Outcome;
-use crate::request::Request;
 use crate::{memory, walking};
 use st_base::{Errno, Obj, Text};
 use st_memory::{SPACE_BYTES, Spaces};
 use st_names::AbsName;
 use st_procs::Procs;
+use st_request::{Outcome, Request};
 use st_trace::Change;
 use st_tree::{Kind, Tree};
 use std::alloc::{AllocError, Global};

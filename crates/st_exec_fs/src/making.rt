@@ -8,14 +8,14 @@ ghost use Rattle.st_effects.specs.NameTests.{parent_not_writable, walk_error};
 ghost use Rattle.st_effects.specs.System.{arg_name_at, success, System};
 ghost use Rattle.st_model.specs.declared.object.NewKind.{NewKind};
 ghost use Rattle.st_tree.specs.Refusals.{add_refused, link_refused, place_refused, IsMade};
-ghost use Rattle.st_exec_fs.specs.Outcome.{outcome_of, unless_err, with_tree};
+ghost use Rattle.st_request.specs.Outcome.{outcome_of, unless_err, with_tree};
 
-use crate::outcome::{self, Outcome};
-use crate::request::Request;
 use crate::walking;
+use crate::want_of_memory::unrefused;
 use st_base::{Errno, Ids, Obj, Text};
 use st_model::MOST_OBJECTS;
 use st_names::AbsName;
+use st_request::{Outcome, Request};
 use st_trace::Change;
 use st_tree::{NewKind, NewNode, Tree};
 use std::alloc::{AllocError, Global};
@@ -93,7 +93,7 @@ fn make(
         gid,
         mode,
     };
-    outcome::unrefused(tree.add(alloc, &name, new))?;
+    unrefused(tree.add(alloc, &name, new))?;
     Ok(outcome)
 }
 
@@ -153,6 +153,6 @@ pub fn link(tree: &mut Tree, alloc: Global, request: &Request<'_>) -> Result<Out
     };
     let name = new.copy(alloc)?;
     let outcome = Outcome::change(alloc, 0, Change::Linked { name, obj })?;
-    outcome::unrefused(tree.link(alloc, obj, &new))?;
+    unrefused(tree.link(alloc, obj, &new))?;
     Ok(outcome)
 }

@@ -5,9 +5,9 @@ ghost use Rattle.st_model.specs.Memory.{memory_after_put};
 ghost use Rattle.st_trace.specs.declared.entry.CallResult.TheVariants.{Value};
 ghost use Rattle.st_model.specs.declared.limits.TheConstants.{SPACE_BYTES};
 
-use crate::outcome::Outcome;
 use st_base::{Space, Text};
 use st_memory::Spaces;
+use st_request::Outcome;
 use st_trace::Change;
 use std::alloc::{AllocError, Global};
 

@@ -19,18 +19,19 @@ ghost use Rattle.st_calls.specs.declared.flags.TheConstants.{O_CREAT, O_EXCL, O_
 ghost use Rattle.st_tree.specs.Answers.{KeepsKinds};
 ghost use Rattle.st_model.specs.declared.limits.TheConstants.{LONGEST_FILE, MOST_OBJECTS};
 ghost use Rattle.st_tree.specs.Refusals.{add_refused, IsFile, IsMade};
-ghost use Rattle.st_exec_fs.specs.Open.{is_changing, open_changes, opened_object, opened_outcome, CanOpen, IsNoLink, IsOpenable, IsReal, KeepsObjects};
-ghost use Rattle.st_exec_fs.specs.Outcome.{outcome_of, unless_err, with_descriptors, with_tree};
+ghost use Rattle.st_exec_fs.specs.Open.{is_changing, open_changes, opened_object, opened_outcome, CanOpen, IsNoLink};
+ghost use Rattle.st_request.specs.Ready.{IsOpenable, IsReal, KeepsObjects};
+ghost use Rattle.st_request.specs.Outcome.{outcome_of, unless_err, with_descriptors, with_tree};
 ghost use Rattle.st_exec_fs.specs.Walking.{IsPlace};
 
-use crate::outcome::{self, Outcome};
-use crate::request::Request;
 use crate::walking::{self, Place};
+use crate::want_of_memory::unrefused;
 use st_base::{Errno, Ids, Obj, Text};
 use st_calls::{O_APPEND, O_CREAT, O_EXCL, O_TRUNC, has_flag};
 use st_fds::Fds;
 use st_model::{FileKind, LONGEST_FILE, MOST_OBJECTS, OpenFile};
 use st_names::AbsName;
+use st_request::{Outcome, Request};
 use st_trace::{CallResult, Change};
 use st_tree::{NewKind, NewNode, Tree, Want};
 use std::alloc::{AllocError, Global};
@@ -107,7 +108,7 @@ fn cut(
     ensures err { OnErr result (tree.new ≡ tree.old) }
 {
     let outcome = Outcome::change(alloc, value, Change::Cut { obj, len })?;
-    outcome::unrefused(tree.cut(obj, len))?;
+    unrefused(tree.cut(obj, len))?;
     Ok(outcome)
 }
 
@@ -237,7 +238,7 @@ fn make_file(
         gid,
         mode,
     };
-    outcome::unrefused(tree.add(alloc, &name, new))?;
+    unrefused(tree.add(alloc, &name, new))?;
     Ok(outcome)
 }
 

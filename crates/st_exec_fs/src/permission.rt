@@ -9,13 +9,12 @@ ghost use Rattle.st_effects.specs.Names.{access_outcome, chmod_outcome, chown_ou
 ghost use Rattle.st_effects.specs.System.{arg_name_at, register, success, System};
 ghost use Rattle.st_model.specs.Tree.{node_with_number};
 ghost use Rattle.st_tree.specs.Refusals.{IsMade};
-ghost use Rattle.st_exec_fs.specs.Outcome.{outcome_of, unless_err, with_tree};
+ghost use Rattle.st_request.specs.Outcome.{outcome_of, unless_err, with_tree};
 
-use crate::outcome::Outcome;
-use crate::request::Request;
 use crate::walking;
 use st_base::{Errno, Ids, Obj};
 use st_names::AbsName;
+use st_request::{Outcome, Request};
 use st_trace::Change;
 use st_tree::{Tree, Want};
 use std::alloc::{AllocError, Global};

@@ -10,15 +10,15 @@ ghost use Rattle.st_effects.specs.System.{arg_name_at, failure, success, System}
 ghost use Rattle.st_model.specs.Tree.{is_directory, is_proper_prefix, node_with_number};
 ghost use Rattle.st_names.specs.Name.{is_root, Components};
 ghost use Rattle.st_tree.specs.Refusals.{rename_refused, replace_refused, tree_after_rename, IsMade};
-ghost use Rattle.st_exec_fs.specs.Outcome.{outcome_of, unless_err, with_tree};
+ghost use Rattle.st_request.specs.Outcome.{outcome_of, unless_err, with_tree};
 ghost use Rattle.st_exec_fs.specs.Renaming.{changes_of_move, AreFound};
 ghost use Rattle.st_exec_fs.specs.Walking.{object_made, IsPlace};
 
-use crate::outcome::{self, Outcome};
-use crate::request::Request;
 use crate::walking::{self, Place};
+use crate::want_of_memory::unrefused;
 use st_base::{Errno, Ids, Obj, Sequence};
 use st_names::AbsName;
+use st_request::{Outcome, Request};
 use st_trace::{CallResult, Change};
 use st_tree::{Tree, is_proper_prefix};
 use std::alloc::{AllocError, Global};
@@ -173,7 +173,7 @@ pub fn rename(tree: &mut Tree, alloc: Global, request: &Request<'_>) -> Result<O
         Err(errno) => return Ok(Outcome::failure(alloc, errno)),
     };
     let changes = changes_of(alloc, way, &old, &new)?;
-    outcome::unrefused(tree.rename(alloc, &old, &new))?;
+    unrefused(tree.rename(alloc, &old, &new))?;
     Ok(Outcome {
         result: CallResult::Value(0),
         changes,

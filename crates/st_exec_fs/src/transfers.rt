@@ -13,17 +13,18 @@ ghost use Rattle.st_model.specs.Tree as model;
 ghost use Rattle.st_tree.specs.Answers.{KeepsKinds};
 ghost use Rattle.st_tree.specs.Refusals.{IsFile, IsMade};
 ghost use Rattle.st_model.specs.declared.limits.TheConstants.{LONGEST_FILE, SPACE_BYTES};
-ghost use Rattle.st_exec_fs.specs.Open.{IsPlainFile, IsReal, IsRealFile};
-ghost use Rattle.st_exec_fs.specs.Outcome.{outcome_of, system_of};
+ghost use Rattle.st_exec_fs.specs.Open.{IsPlainFile};
+ghost use Rattle.st_request.specs.Ready.{IsReal, IsRealFile};
+ghost use Rattle.st_request.specs.Outcome.{outcome_of, system_of};
 ghost use Rattle.st_exec_fs.specs.Transfers.{bytes_moved, read_refused, write_refused};
 
-use crate::outcome::{self, Outcome};
-use crate::request::Request;
+use crate::want_of_memory::unrefused;
 use st_base::{Errno, Obj, Space, Text};
 use st_fds::Fds;
 use st_memory::{MemFault, Spaces};
 use st_model::{FileKind, LONGEST_FILE, OpenFile, SPACE_BYTES};
 use st_procs::Procs;
+use st_request::{Outcome, Request};
 use st_trace::{CallResult, Change};
 use st_tree::{Kind, Tree};
 use std::alloc::{AllocError, Global};
@@ -237,7 +238,7 @@ fn write_object(
         bytes,
     };
     let outcome = Outcome::change(alloc, buffer.count, written)?;
-    outcome::unrefused(tree.write(obj, start, bytes_moved(&outcome)))?;
+    unrefused(tree.write(obj, start, bytes_moved(&outcome)))?;
     Ok(outcome)
 }
 

@@ -7,7 +7,7 @@ ghost use Rattle.st_effects.specs.System.{Outcome, System};
 ghost use Rattle.st_model.specs.Tree.{entry_count, is_directory, node_of_number, node_with_number, object_of};
 ghost use Rattle.st_tree.specs.Refusals.{IsMade};
 ghost use Rattle.st_names.specs.Name.{Components};
-ghost use Rattle.st_exec_fs.specs.Outcome.{unless_err, with_tree};
+ghost use Rattle.st_request.specs.Outcome.{unless_err, with_tree};
 ghost use Rattle.st_exec_fs.specs.Walking.{object_made, outcome_at, IsPlace};
 
 use st_base::{Errno, Ids, Obj};

@@ -1,4 +1,4 @@
-use Rattle.st_exec_fs.specs.Open.{IsReady}
+use Rattle.st_request.specs.Ready.{IsReady}
 use Rattle.st_exec_fs.proofs.descriptor_tests.a_directory_moves_with_an_open_file.Given as goal
 
 abbrev pub invariant-loop-name : goal.invariant-loop-name

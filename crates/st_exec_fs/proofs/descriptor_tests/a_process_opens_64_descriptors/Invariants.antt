@@ -1,4 +1,4 @@
-use Rattle.st_exec_fs.specs.Open.{IsReady}
+use Rattle.st_request.specs.Ready.{IsReady}
 use Rattle.st_exec_fs.proofs.descriptor_tests.a_process_opens_64_descriptors.Given as goal
 
 abbrev pub invariant-loop-fd : goal.invariant-loop-fd

@@ -1,6 +1,6 @@
 use Rattle.std.proofs.Common.{◌∙◌, sym, subst}
 use Rattle.st_model.specs.Processes.{process_at}
-use Rattle.st_exec_fs.specs.Open.{IsReady}
+use Rattle.st_request.specs.Ready.{IsReady}
 use Rattle.st_exec_fs.specs.declared.descriptor_tests.World.{World}
 use Rattle.st_exec_fs.proofs.descriptor_tests.called.Goals.{in-Close, in-Dup, in-Lseek, in-Read+in_ok-outcome-in-Read, in_default+in_ok-outcome-in_default}
 use Rattle.st_exec_fs.proofs.descriptor_tests.called.Goals as goal

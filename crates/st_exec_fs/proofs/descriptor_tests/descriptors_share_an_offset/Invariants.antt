@@ -1,4 +1,4 @@
-use Rattle.st_exec_fs.specs.Open.{IsReady}
+use Rattle.st_request.specs.Ready.{IsReady}
 use Rattle.st_exec_fs.proofs.descriptor_tests.descriptors_share_an_offset.Given as goal
 
 abbrev pub invariant-loop-call : goal.invariant-loop-call

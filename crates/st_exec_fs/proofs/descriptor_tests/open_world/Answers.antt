@@ -1,7 +1,7 @@
 use Rattle.std.proofs.Common.{◌∙◌, sym, subst}
 use Rattle.st_model.specs.Descriptors.{Table}
-use Rattle.st_exec_fs.specs.Open.{IsReal}
-use Rattle.st_exec_fs.proofs.Real.{more}
+use Rattle.st_request.specs.Ready.{IsReal}
+use Rattle.st_request.proofs.Real.{more}
 use Rattle.st_exec_fs.proofs.descriptor_tests.open_world.Goals as goal
 
 pub returns : goal.returns

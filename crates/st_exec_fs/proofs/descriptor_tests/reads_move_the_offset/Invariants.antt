@@ -1,4 +1,4 @@
-use Rattle.st_exec_fs.specs.Open.{IsReady}
+use Rattle.st_request.specs.Ready.{IsReady}
 use Rattle.st_exec_fs.proofs.descriptor_tests.reads_move_the_offset.Given as goal
 
 abbrev pub invariant-loop-regs : goal.invariant-loop-regs

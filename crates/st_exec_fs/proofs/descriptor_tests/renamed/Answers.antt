@@ -1,7 +1,7 @@
 use Rattle.std.proofs.Common.{sym, subst}
 use Rattle.st_model.specs.Tree.{Tree}
-use Rattle.st_exec_fs.specs.Open.{IsReal}
-use Rattle.st_exec_fs.proofs.Stay.{stay_real}
+use Rattle.st_request.specs.Ready.{IsReal}
+use Rattle.st_request.proofs.Stay.{stay_real}
 use Rattle.st_exec_fs.proofs.descriptor_tests.renamed.Goals as goal
 
 pub returns : goal.returns

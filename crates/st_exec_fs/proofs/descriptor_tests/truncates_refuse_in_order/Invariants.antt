@@ -1,4 +1,4 @@
-use Rattle.st_exec_fs.specs.Open.{IsReady}
+use Rattle.st_request.specs.Ready.{IsReady}
 use Rattle.st_exec_fs.proofs.descriptor_tests.truncates_refuse_in_order.Given as goal
 
 abbrev pub invariant-loop-uid : goal.invariant-loop-uid

@@ -3,8 +3,8 @@ use Rattle.st_model.specs.Descriptors.{Table}
 use Rattle.st_model.specs.DescriptorCalls.{dup_refused, table_after_dup}
 use Rattle.st_effects.specs.Descriptors.{next_descriptor}
 use Rattle.st_effects.specs.System as effects
-use Rattle.st_exec_fs.specs.Open.{IsReal}
-use Rattle.st_exec_fs.specs.Outcome.{with_descriptors}
+use Rattle.st_request.specs.Ready.{IsReal}
+use Rattle.st_request.specs.Outcome.{with_descriptors}
 use Rattle.st_exec_fs.proofs.Duplicates.{failed, refused}
 use Rattle.st_exec_fs.proofs.descriptors.dup.Goals.{After-failure}
 use Rattle.st_exec_fs.proofs.descriptors.dup.Goals as goal

@@ -1,7 +1,7 @@
 use Rattle.std.proofs.Common.{◌≡◌, sym, subst}
 use Rattle.st_calls.specs.declared.call.SysCall.{SysCall}
 use Rattle.st_effects.specs.Effect.{effect}
-use Rattle.st_exec_fs.specs.Outcome.{outcome_of, with_descriptors, with_tree}
+use Rattle.st_request.specs.Outcome.{outcome_of, with_descriptors, with_tree}
 use Rattle.st_exec_fs.proofs.execution.move_descriptors.Goals as goal
 
 pub returns-in-Close-clause-outcome : goal.returns-in-Close-clause-outcome

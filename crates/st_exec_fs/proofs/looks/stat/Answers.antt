@@ -2,8 +2,8 @@ use Rattle.std.proofs.Common.{◌∙◌, sym, ap}
 use Rattle.st_model.specs.Processes.{process_at}
 use Rattle.st_effects.specs.System.{Request}
 use Rattle.st_effects.specs.Names.{stat_outcome}
-use Rattle.st_exec_fs.specs.Outcome.{with_processes, with_tree}
-use Rattle.st_exec_fs.proofs.Outcomes.{failed, put_same, succeeded_if_ok}
+use Rattle.st_request.specs.Outcome.{with_processes, with_tree}
+use Rattle.st_request.proofs.Outcomes.{failed, put_same, succeeded_if_ok}
 use Rattle.st_exec_fs.proofs.looks.stat.Goals as goal
 
 pub returns-in-Err-clause-outcome : goal.returns-in-Err-clause-outcome

@@ -6,7 +6,7 @@ use Rattle.st_effects.specs.NameTests.{object_at}
 use Rattle.st_effects.specs.System as effects
 use Rattle.st_tree.specs.Refusals.{IsMade}
 use Rattle.st_exec_fs.specs.Open.{CanOpen}
-use Rattle.st_exec_fs.specs.Outcome.{with_descriptors, with_tree}
+use Rattle.st_request.specs.Outcome.{with_descriptors, with_tree}
 use Rattle.st_exec_fs.specs.Walking.{object_made}
 use Rattle.st_exec_fs.proofs.Opens.{found_at, no_link_at, not_opened, opened, passed}
 use Rattle.st_model.specs.declared.limits.TheConstants.{MOST_OBJECTS}

@@ -3,7 +3,8 @@ use Rattle.st_model.specs.Descriptors.{least_free}
 use Rattle.st_model.specs.DescriptorCalls.{table_after_open}
 use Rattle.st_effects.specs.Descriptors.{is_for_writing, open_file_of}
 use Rattle.st_effects.specs.System as effects
-use Rattle.st_exec_fs.specs.Open.{opened_object, IsOpenable}
+use Rattle.st_exec_fs.specs.Open.{opened_object}
+use Rattle.st_request.specs.Ready.{IsOpenable}
 use Rattle.st_exec_fs.proofs.Opens.{given, had_memory, real_then}
 use Rattle.st_exec_fs.proofs.opening.open.Goals.{Else-is_err}
 use Rattle.st_exec_fs.proofs.opening.open.Goals as goal

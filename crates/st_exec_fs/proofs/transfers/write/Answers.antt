@@ -1,7 +1,7 @@
 use Rattle.std.proofs.Common.{sym, subst}
 use Rattle.st_model.specs.Descriptors.{Table}
-use Rattle.st_exec_fs.specs.Open.{IsReal}
-use Rattle.st_exec_fs.proofs.Real.{written}
+use Rattle.st_request.specs.Ready.{IsReal}
+use Rattle.st_request.proofs.Real.{written}
 use Rattle.st_exec_fs.proofs.transfers.write.Goals as goal
 
 pub returns-clause-real : goal.returns-clause-real

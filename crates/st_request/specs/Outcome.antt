@@ -6,7 +6,7 @@ use Rattle.st_model.specs.Processes.{Processes, process_at, is_live, next_pid}
 use Rattle.st_model.specs.Tree.{Tree}
 use Rattle.st_memory.specs.Memory.{Memories, byte_in, next_space}
 use Rattle.st_effects.specs.System as effects
-use Rattle.st_exec_fs.specs.declared.outcome.Outcome.{Outcome}
+use Rattle.st_request.specs.declared.outcome.Outcome.{Outcome}
 
 -- a system with this tree
 abbrev pub with_tree : effects.System → Tree → effects.System

@@ -6,8 +6,8 @@ use Rattle.st_trace.specs.declared.entry.Change.{Change}
 use Rattle.st_trace.specs.declared.entry.Change.TheVariants.{Put}
 use Rattle.st_effects.specs.System.{System, Request, failure, register, space_of_caller, success}
 use Rattle.st_effects.specs.System as effects
-use Rattle.st_exec_fs.specs.Outcome.{outcome_of}
-use Rattle.st_exec_fs.specs.declared.outcome.Outcome.{Outcome}
+use Rattle.st_request.specs.Outcome.{outcome_of}
+use Rattle.st_request.specs.declared.outcome.Outcome.{Outcome}
 
 -- a call that failed
 pub failed : (given : Outcome) (system : System) (errno : Errno) → given.result ≡ Failed errno → given.changes ≡ [] → outcome_of given system.descriptors ≡ failure system errno

@@ -4,7 +4,7 @@ ghost use Rattle.st_model.specs.DescriptorCalls.{table_after_start};
 ghost use Rattle.st_model.specs.Descriptors.{Table};
 ghost use Rattle.st_model.specs.Tree.{Tree};
 ghost use Rattle.st_trace.specs.declared.entry.Change.{Change};
-ghost use Rattle.st_exec_fs.specs.Open.{IsReal};
+ghost use Rattle.st_request.specs.Ready.{IsReal};
 
 /// Open files stay those of objects that were made and are no links: whatever calls change in the tree, and where a process
 /// begins with the console.

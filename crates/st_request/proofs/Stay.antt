@@ -11,8 +11,8 @@ use Rattle.std.proofs.lemmas.List.Elements.{All-append, All-cons}
 use Rattle.st_trace.specs.declared.entry.Change.{Change}
 use Rattle.st_trace.specs.declared.entry.Change.TheVariants.{Made, Linked, Removed, Renamed, Written, Cut, Moded, Owned, Put, Forked, Execed, SetIds, Cwd, Dying, Renewed, Policy}
 use Rattle.st_effects.specs.Changes.{tree_after, tree_after_change}
-use Rattle.st_exec_fs.specs.Open.{IsReal, IsRealFile, KeepsObjects}
-use Rattle.st_exec_fs.proofs.Real.{kept_objects}
+use Rattle.st_request.specs.Ready.{IsReal, IsRealFile, KeepsObjects}
+use Rattle.st_request.proofs.Real.{kept_objects}
 
 kind_of : Node → Kind
 kind_of node = node.kind

@@ -11,7 +11,7 @@ use Rattle.st_model.specs.declared.open_file.FileKind.{FileKind}
 use Rattle.st_model.specs.declared.open_file.FileKind.TheVariants.{Console, Node, Socket}
 use Rattle.st_effects.specs.Names.{is_link}
 use Rattle.st_tree.specs.Answers.{KeepsKinds}
-use Rattle.st_exec_fs.specs.Open.{IsReal, IsRealFile, IsRealKind, KeepsObjects}
+use Rattle.st_request.specs.Ready.{IsReal, IsRealFile, IsRealKind, KeepsObjects}
 
 -- what holds of each open file holds of that of a number
 of_number : (P : OpenFile → Type 0) (files : List OpenFile) (number : Option ℕ) → All P files → IfSome (file_of_number files number) P

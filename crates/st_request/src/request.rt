@@ -33,24 +33,24 @@ impl<'a> Model for Request<'a> {
 }
 
 impl<'a> Request<'a> {
-    // The register of this number, from 0.
-    pub(crate) fn register(&self, i: usize) -> u64
+    /// The register of this number, from 0 to 5.
+    pub fn register(&self, i: usize) -> u64
         requires { i < 6 }
         ensures { result ≡ register self.now i }
     {
         self.regs[i]
     }
 
-    // The low nine bits of a register, which are a mode.
-    pub(crate) fn mode(&self, i: usize) -> u32
+    /// The low nine bits of a register, which are a mode.
+    pub fn mode(&self, i: usize) -> u32
         requires { i < 6 }
         ensures { result ≡ low_mode (register self.now i) }
     {
         (self.register(i) % 512) as u32
     }
 
-    // The text of an argument, from 0; of one that isn't there, the empty text.
-    pub(crate) fn text(&self, i: usize) -> &[u8]
+    /// The text of an argument, counted from 0; of one that isn't there, the empty text.
+    pub fn text(&self, i: usize) -> &[u8]
         ensures { result.now ≡ arg_text_at self.now i }
     {
         match self.args.get(i) {
@@ -59,8 +59,8 @@ impl<'a> Request<'a> {
         }
     }
 
-    // The name that an argument spells.
-    pub(crate) fn name(&self, alloc: Global, i: usize) -> Result<AbsName, AllocError>
+    /// The name that an argument spells, counted from 0; where it isn't there, the root's. Its error is want of memory.
+    pub fn name(&self, alloc: Global, i: usize) -> Result<AbsName, AllocError>
         ensures { IfOk result (λ name. name ≡ arg_name_at self.now i) }
     {
         AbsName::of(alloc, self.text(i))

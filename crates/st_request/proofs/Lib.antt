@@ -1,0 +1,3 @@
+pub mod Outcomes
+pub mod Real
+pub mod Stay
