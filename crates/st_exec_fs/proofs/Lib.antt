@@ -1,11 +1,4 @@
-pub mod Allowed
 pub mod Changed
-pub mod Duplicates
 pub mod Executed
 pub mod Fits
-pub mod Looked
-pub mod Objects
 pub mod Opens
-pub mod Renamed
-pub mod Resolutions
-pub mod Walks

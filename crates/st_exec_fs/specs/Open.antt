@@ -1,25 +1,16 @@
--- What open(2) does with what a name has, and what is a file.
+-- What open(2) does with what a name has.
 use Rattle.std.specs.Prelude.{◌≡◌, ℕ, ◌+◌, ◌||◌, Bool, false, IfSome, List, [], ◌∷◌, length, Option, Some, None}
 use Rattle.st_calls.specs.Call.{has_flag}
 use Rattle.st_calls.specs.declared.flags.TheConstants.{O_TRUNC}
 use Rattle.st_names.specs.Name.{Components}
 use Rattle.st_model.specs.Tree.{Tree, node_of}
 use Rattle.st_model.specs.declared.object.NewKind.TheVariants as made
-use Rattle.st_model.specs.declared.open_file.FileKind.{FileKind}
-use Rattle.st_model.specs.declared.open_file.FileKind.TheVariants.{Console, Node, Socket}
 use Rattle.st_trace.specs.declared.entry.Change.{Change}
 use Rattle.st_trace.specs.declared.entry.Change.TheVariants.{Made}
 use Rattle.st_effects.specs.Descriptors.{is_for_writing, low_mode, open_object_outcome, truncation}
 use Rattle.st_effects.specs.Names.{is_link}
 use Rattle.st_effects.specs.System.{System, Request, Outcome, arg_name_at, register}
-use Rattle.st_tree.specs.Refusals.{IsFile}
 use Rattle.st_request.specs.Ready.{IsOpenable}
-
--- what is open is a file, if it is an object
-abbrev pub IsPlainFile : Tree → FileKind → Type 0
-IsPlainFile tree Console = Unit {0}
-IsPlainFile tree (Node obj) = IsFile tree obj
-IsPlainFile tree (Socket port connected) = Unit {0}
 
 -- a name is no link's
 abbrev pub IsNoLink : Tree → Components → Type 0

@@ -13,16 +13,12 @@ ghost use Rattle.st_exec_fs.specs.Open.{IsNoLink};
 ghost use Rattle.st_request.specs.Ready.{IsReady, IsReal};
 ghost use Rattle.st_request.specs.Outcome.{outcome_of, with_descriptors, with_processes, with_tree};
 
-use crate::descriptors::{close, dup, lseek};
-use crate::directory::chdir;
-use crate::entries::{rmdir, unlink};
-use crate::looks::{readlink, stat};
-use crate::making::{link, mkdir, symlink};
 use crate::opening::{open, truncate};
-use crate::permission::{access, chmod, chown};
-use crate::renaming::rename;
-use crate::transfers::{read, write};
 use st_calls::SysCall;
+use st_exec_fds::{close, dup, lseek, read, write};
+use st_exec_names::{
+    access, chdir, chmod, chown, link, mkdir, readlink, rename, rmdir, stat, symlink, unlink,
+};
 use st_fds::Fds;
 use st_memory::Spaces;
 use st_procs::Procs;

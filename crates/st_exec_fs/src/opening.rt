@@ -22,18 +22,18 @@ ghost use Rattle.st_tree.specs.Refusals.{add_refused, IsFile, IsMade};
 ghost use Rattle.st_exec_fs.specs.Open.{is_changing, open_changes, opened_object, opened_outcome, CanOpen, IsNoLink};
 ghost use Rattle.st_request.specs.Ready.{IsOpenable, IsReal, KeepsObjects};
 ghost use Rattle.st_request.specs.Outcome.{outcome_of, unless_err, with_descriptors, with_tree};
-ghost use Rattle.st_exec_fs.specs.Walking.{IsPlace};
+ghost use Rattle.st_exec_names.specs.Walking.{IsPlace};
 
-use crate::walking::{self, Place};
-use crate::want_of_memory::unrefused;
 use st_base::{Errno, Ids, Obj, Text};
 use st_calls::{O_APPEND, O_CREAT, O_EXCL, O_TRUNC, has_flag};
+use st_exec_names::make_object;
+use st_exec_names::walking::{self, Place};
 use st_fds::Fds;
 use st_model::{FileKind, LONGEST_FILE, MOST_OBJECTS, OpenFile};
 use st_names::AbsName;
-use st_request::{Outcome, Request};
+use st_request::{Outcome, Request, unrefused};
 use st_trace::{CallResult, Change};
-use st_tree::{NewKind, NewNode, Tree, Want};
+use st_tree::{NewKind, Tree, Want};
 use std::alloc::{AllocError, Global};
 
 // Whether the flags of an open ask for reading.
@@ -140,7 +140,7 @@ fn may_make(tree: &Tree, request: &Request<'_>, place: Place) -> Result<(), Errn
     if !has_flag(request.register(1), O_CREAT) {
         return Err(Errno::ENOENT);
     }
-    walking::write_holder(tree, request.ids, place)?;
+    walking::may_write_holder(tree, request.ids, place)?;
     if tree.made() as usize >= MOST_OBJECTS {
         return Err(Errno::ENOSPC);
     }
@@ -222,24 +222,8 @@ fn make_file(
     ensures made { OnOk result (IsFile tree.new (length tree.old.objects + 1)) }
     ensures err { OnErr result (tree.new ≡ tree.old) }
 {
-    let (uid, gid, mode) = (request.ids.euid, request.ids.egid, request.mode(2));
-    let made = Change::Made {
-        name: name.copy(alloc)?,
-        obj: tree.made() + 1,
-        kind: NewKind::File(Text::new(alloc)),
-        uid,
-        gid,
-        mode,
-    };
-    let outcome = Outcome::change(alloc, value, made)?;
-    let new = NewNode {
-        kind: NewKind::File(Text::new(alloc)),
-        uid,
-        gid,
-        mode,
-    };
-    unrefused(tree.add(alloc, &name, new))?;
-    Ok(outcome)
+    let kind = NewKind::File(Text::new(alloc));
+    make_object(tree, alloc, request.ids, name, kind, request.mode(2), value)
 }
 
 // What open(2) changes in the tree: a file is made, or one that is there is cut where the flags ask for it. The call gives this

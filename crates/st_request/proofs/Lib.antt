@@ -1,3 +1,4 @@
 pub mod Outcomes
 pub mod Real
+pub mod Refused
 pub mod Stay

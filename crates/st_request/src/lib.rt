@@ -2,12 +2,16 @@
 #![tactic(auto)]
 
 mod laws;
+mod memory;
 pub mod outcome;
 pub mod request;
+mod want_of_memory;
 
 pub use laws::open_files_stay_real;
+pub use memory::put_bytes;
 pub use outcome::Outcome;
 pub use request::Request;
+pub use want_of_memory::unrefused;
 
 #[cfg(test)]
 mod tests;

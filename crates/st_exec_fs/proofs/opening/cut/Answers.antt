@@ -1,4 +1,4 @@
-use Rattle.st_exec_fs.proofs.Allowed.{never_refused}
+use Rattle.st_request.proofs.Refused.{never_refused}
 use Rattle.st_exec_fs.proofs.Fits.{cut_fits}
 use Rattle.st_exec_fs.proofs.opening.cut.Goals as goal
 

@@ -1,5 +1,0 @@
-use Rattle.st_exec_fs.proofs.Allowed.{never_refused}
-use Rattle.st_exec_fs.proofs.making.make.Goals as goal
-
-pub unrefused-requires : goal.unrefused-requires
-unrefused-requires c = never_refused _ c.add.result c.in-Ok.ensures.may c.add.ensures.refused

@@ -1,0 +1,6 @@
+pub mod Allowed
+pub mod Looked
+pub mod Objects
+pub mod Renamed
+pub mod Resolutions
+pub mod Walks

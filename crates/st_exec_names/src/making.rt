@@ -1,0 +1,178 @@
+// Calls that give new names: to new objects, and to those that are there.
+ghost use Rattle.std.specs.Prelude.{◌≡◌, ◌+◌, [], ◌∷◌, length, ℕ, None, IfOk, OnOk, OnErr};
+ghost use Rattle.std.specs.Result.{result_err};
+ghost use Rattle.st_base.specs.Errno.{first_error};
+ghost use Rattle.st_effects.specs.Changes.{tree_after};
+ghost use Rattle.st_effects.specs.Names.{already_exists, link_outcome, make_outcome, mkdir_outcome, symlink_outcome};
+ghost use Rattle.st_effects.specs.NameTests.{parent_not_writable, walk_error};
+ghost use Rattle.st_effects.specs.System.{arg_name_at, success, System};
+ghost use Rattle.st_model.specs.Tree.{node_of_kind, node_with_number};
+ghost use Rattle.st_model.specs.declared.object.NewKind.{NewKind};
+ghost use Rattle.st_tree.specs.Refusals.{add_refused, link_refused, place_refused, IsMade};
+ghost use Rattle.st_request.specs.Outcome.{outcome_of, unless_err, with_tree};
+
+use crate::walking;
+use st_base::{Errno, Ids, Obj, Text};
+use st_model::MOST_OBJECTS;
+use st_names::AbsName;
+use st_request::{Outcome, Request, unrefused};
+use st_trace::{CallResult, Change};
+use st_tree::{NewKind, NewNode, Tree};
+use std::alloc::{AllocError, Global};
+
+// A link may be read, written and executed by all.
+const LINK_MODE: u32 = 0o777;
+
+// Lets a call give a new name, or says why it fails.
+fn may_name(tree: &Tree, ids: Ids, name: &AbsName) -> Result<(), Errno>
+    ensures refused { result_err result ≡ first_error (walk_error tree.now ids name.now ∷ already_exists tree.now name.now ∷ parent_not_writable tree.now ids name.now ∷ []) }
+    ensures free { OnOk result (place_refused tree.now name.now ≡ None) }
+{
+    let place = walking::walk(tree, ids, name)?;
+    if place.object.is_some() {
+        return Err(Errno::EEXIST);
+    }
+    walking::may_write_holder(tree, ids, place)?;
+    Ok(())
+}
+
+// Lets an object of this name be made, or says why it can't.
+fn may_make(tree: &Tree, request: &Request<'_>, name: &AbsName) -> Result<(), Errno>
+    ensures outcome { (system : System) (kind : NewKind) (mode : ℕ) → make_outcome (with_tree system tree.now) request.now name.now kind mode ≡ unless_err system result (λ _. success system 0 (Change.Made name.now (length tree.now.objects + 1) kind request.now.ids.euid request.now.ids.egid mode ∷ [])) }
+    ensures may { OnOk result (add_refused tree.now name.now ≡ None) }
+{
+    may_name(tree, request.ids, name)?;
+    if tree.made() as usize >= MOST_OBJECTS {
+        return Err(Errno::ENOSPC);
+    }
+    Ok(())
+}
+
+// An equal kind of its own.
+fn copy_of(alloc: Global, kind: &NewKind) -> Result<NewKind, AllocError>
+    ensures { IfOk result (λ copied. copied ≡ kind.now) }
+{
+    Ok(match kind {
+        NewKind::Dir => NewKind::Dir,
+        NewKind::File(content) => NewKind::File(content.copy(alloc)?),
+        NewKind::Link(target) => NewKind::Link(target.copy(alloc)?),
+    })
+}
+
+/// Makes an object that may be made, which belongs to the effective ids: the outcome of a call that gives this number. Without memory
+/// nothing is changed.
+pub fn make_object(
+    tree: &mut Tree,
+    alloc: Global,
+    ids: Ids,
+    name: AbsName,
+    kind: NewKind,
+    mode: u32,
+    value: u64,
+) -> Result<Outcome, AllocError>
+    requires { add_refused tree.old name ≡ None }
+    ensures result { IfOk result (λ outcome. outcome.result ≡ CallResult.Value value) }
+    ensures changes { IfOk result (λ outcome. outcome.changes ≡ Change.Made name (length tree.old.objects + 1) kind ids.euid ids.egid mode ∷ []) }
+    ensures tree { IfOk result (λ outcome. tree.new ≡ tree_after tree.old outcome.changes) }
+    ensures made { OnOk result (IsMade tree.new (length tree.old.objects + 1)) }
+    ensures node { OnOk result (node_with_number tree.new (length tree.old.objects + 1) ≡ node_of_kind kind ids.euid ids.egid mode) }
+    ensures err { OnErr result (tree.new ≡ tree.old) }
+{
+    let (uid, gid) = (ids.euid, ids.egid);
+    let change = Change::Made {
+        name: name.copy(alloc)?,
+        obj: tree.made() + 1,
+        kind: copy_of(alloc, &kind)?,
+        uid,
+        gid,
+        mode,
+    };
+    let outcome = Outcome::change(alloc, value, change)?;
+    let new = NewNode {
+        kind,
+        uid,
+        gid,
+        mode,
+    };
+    unrefused(tree.add(alloc, &name, new))?;
+    Ok(outcome)
+}
+
+// Makes an object, where nothing refuses it.
+fn make(
+    tree: &mut Tree,
+    alloc: Global,
+    request: &Request<'_>,
+    name: AbsName,
+    kind: NewKind,
+    mode: u32,
+) -> Result<Outcome, AllocError>
+    ensures outcome { IfOk result (λ outcome. (system : System) → outcome_of outcome system.descriptors ≡ make_outcome (with_tree system tree.old) request.now name kind mode) }
+    ensures tree { IfOk result (λ outcome. tree.new ≡ tree_after tree.old outcome.changes) }
+    ensures err { OnErr result (tree.new ≡ tree.old) }
+{
+    match may_make(tree, request, &name) {
+        Ok(()) => make_object(tree, alloc, request.ids, name, kind, mode, 0),
+        Err(errno) => Ok(Outcome::failure(alloc, errno)),
+    }
+}
+
+/// mkdir(name, mode): makes a directory, with the low nine bits of the mode.
+pub fn mkdir(tree: &mut Tree, alloc: Global, request: &Request<'_>) -> Result<Outcome, AllocError>
+    ensures outcome { IfOk result (λ outcome. (system : System) → outcome_of outcome system.descriptors ≡ mkdir_outcome (with_tree system tree.old) request.now) }
+    ensures tree { IfOk result (λ outcome. tree.new ≡ tree_after tree.old outcome.changes) }
+    ensures err { OnErr result (tree.new ≡ tree.old) }
+{
+    let name = request.name(alloc, 0)?;
+    let mode = request.mode(1);
+    make(tree, alloc, request, name, NewKind::Dir, mode)
+}
+
+/// symlink(text, name): makes a link whose target is the text.
+pub fn symlink(tree: &mut Tree, alloc: Global, request: &Request<'_>) -> Result<Outcome, AllocError>
+    ensures outcome { IfOk result (λ outcome. (system : System) → outcome_of outcome system.descriptors ≡ symlink_outcome (with_tree system tree.old) request.now) }
+    ensures tree { IfOk result (λ outcome. tree.new ≡ tree_after tree.old outcome.changes) }
+    ensures err { OnErr result (tree.new ≡ tree.old) }
+{
+    let target = request.text(0);
+    if target.is_empty() {
+        return Ok(Outcome::failure(alloc, Errno::ENOENT));
+    }
+    let kind = NewKind::Link(Text::of(alloc, target)?);
+    let name = request.name(alloc, 1)?;
+    make(tree, alloc, request, name, kind, LINK_MODE)
+}
+
+// The object that link(2) gives a new name, or why it fails.
+fn may_link(tree: &Tree, request: &Request<'_>, old: &AbsName, new: &AbsName) -> Result<Obj, Errno>
+    requires old { old.now ≡ arg_name_at request.now 0 }
+    requires new { new.now ≡ arg_name_at request.now 1 }
+    ensures made { IfOk result (IsMade tree.now) }
+    ensures outcome { (system : System) → link_outcome (with_tree system tree.now) request.now ≡ unless_err system result (λ obj. success system 0 (Change.Linked new.now obj ∷ [])) }
+    ensures may { IfOk result (λ obj. link_refused tree.now obj new.now ≡ None) }
+{
+    let obj = walking::find(tree, request.ids, old)?;
+    if walking::is_directory(tree, obj) {
+        return Err(Errno::EPERM);
+    }
+    may_name(tree, request.ids, new)?;
+    Ok(obj)
+}
+
+/// link(old, new): gives an object that is no directory one more name.
+pub fn link(tree: &mut Tree, alloc: Global, request: &Request<'_>) -> Result<Outcome, AllocError>
+    ensures outcome { IfOk result (λ outcome. (system : System) → outcome_of outcome system.descriptors ≡ link_outcome (with_tree system tree.old) request.now) }
+    ensures tree { IfOk result (λ outcome. tree.new ≡ tree_after tree.old outcome.changes) }
+    ensures err { OnErr result (tree.new ≡ tree.old) }
+{
+    let old = request.name(alloc, 0)?;
+    let new = request.name(alloc, 1)?;
+    let obj = match may_link(tree, request, &old, &new) {
+        Ok(obj) => obj,
+        Err(errno) => return Ok(Outcome::failure(alloc, errno)),
+    };
+    let name = new.copy(alloc)?;
+    let outcome = Outcome::change(alloc, 0, Change::Linked { name, obj })?;
+    unrefused(tree.link(alloc, obj, &new))?;
+    Ok(outcome)
+}
