@@ -1,4 +1,4 @@
-use crate::{Walk, WalkFault, WalkStep};
+use crate::{Walk, WalkFault, WalkStep, first_step};
 use st_base::{Errno, Text};
 use st_names::{AbsName, Seen};
 use std::alloc::{AllocError, Global};
@@ -155,5 +155,14 @@ fn a_found_name_is_given_away(rt: HostRuntime) -> Result<(), Fail> {
         }
         step => assert!(rt; false, "{step:?}"),
     }
+    Ok(())
+}
+
+#[test]
+fn a_text_that_leads_up_alone_needs_no_look(rt: HostRuntime) -> Result<(), Fail> {
+    let cwd = AbsName::root(rt.alloc());
+    assert_eq!(rt; first_step(b"..//./..", &cwd), WalkStep::Name);
+    assert_eq!(rt; first_step(b"../a", &cwd), WalkStep::More);
+    assert_eq!(rt; first_step(b"", &cwd), WalkStep::Fault(Errno::ENOENT));
     Ok(())
 }
