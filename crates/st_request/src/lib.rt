@@ -7,7 +7,7 @@ pub mod outcome;
 pub mod request;
 mod want_of_memory;
 
-pub use laws::open_files_stay_real;
+pub use laws::{a_system_has_its_parts, open_files_stay_real, the_same_processes_live};
 pub use memory::put_bytes;
 pub use outcome::Outcome;
 pub use request::Request;
