@@ -12,11 +12,11 @@ use Rattle.st_trace.specs.declared.entry.Change.TheVariants.{Put, Written}
 use Rattle.st_tree.specs.Refusals.{IsFile}
 use Rattle.st_effects.specs.Descriptors.{buffer_fault, is_open_directory, is_socket}
 
--- what is open is a file, if it is an object
+-- what is open is the console or a file
 abbrev pub IsPlainFile : Tree → FileKind → Type 0
 IsPlainFile tree Console = Unit {0}
 IsPlainFile tree (Node obj) = IsFile tree obj
-IsPlainFile tree (Socket port connected) = Unit {0}
+IsPlainFile tree (Socket port connected) = ⊥
 
 -- so many bytes can't be read to this byte of memory from what a descriptor leads to
 abbrev pub read_refused : Tree → Option OpenFile → ℕ → ℕ → Option Errno

@@ -1,7 +1,7 @@
 // The calls on descriptors that move no bytes.
-ghost use Rattle.std.specs.Prelude.{◌≡◌, true, false};
+ghost use Rattle.std.specs.Prelude.{◌≡◌, true};
 ghost use Rattle.st_effects.specs.System as effects;
-ghost use Rattle.st_effects.specs.Descriptors.{close_outcome, dup_outcome, lseek_outcome, offset_in_file, seek_base, seek_offset, signed_sum, sum_from};
+ghost use Rattle.st_effects.specs.Descriptors.{close_outcome, dup_outcome, lseek_outcome, offset_in_file, seek_offset, signed_sum};
 ghost use Rattle.st_fds.specs.Table.{KeepsTables};
 ghost use Rattle.st_model.specs.Descriptors.{has_table};
 ghost use Rattle.st_model.specs.Tree.{Tree};

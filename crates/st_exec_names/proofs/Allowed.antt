@@ -1,5 +1,5 @@
 -- Changes of names that the tree doesn't refuse, since a call's own tests came before.
-use Rattle.std.proofs.Common.{◌≡◌, ◌≢◌, ◌∙◌, ap, refl, ℕ, Bool, true, false, List, [], ◌∷◌, length, Option, Some, None, Result, Err, is_some, nat_le, nat_lt}
+use Rattle.std.proofs.Common.{◌≡◌, ◌∙◌, ap, refl, ℕ, Bool, true, false, List, [], ◌∷◌, length, Option, Some, None, is_some, nat_le, nat_lt}
 use Rattle.std.specs.Prelude.{◌↔◌, IsTrue}
 use Rattle.st_base.specs.Errno.{error_if, first_error}
 use Rattle.st_base.specs.declared.errno.Errno.{Errno}
@@ -11,10 +11,7 @@ use Rattle.st_model.specs.declared.limits.TheConstants.{MOST_OBJECTS}
 use Rattle.st_model.specs.declared.object.Kind.{Kind}
 use Rattle.st_model.specs.declared.object.Kind.TheVariants as kind
 use Rattle.st_model.specs.Tree.{Tree, entry_count, is_directory, node_at, node_with_number, object_of, seen_of, seen_of_kind}
-use Rattle.st_tree.specs.Answers.{Refuses}
 use Rattle.st_tree.specs.Refusals.{add_refused, has_entries, is_missing, is_no_directory, is_not_dir, link_refused, no_directory, no_object, place_refused, remove_refused, IsMade}
-use Rattle.st_tree.specs.declared.tree.TreeFault.{TreeFault}
-use Rattle.st_tree.specs.declared.tree.TreeFault.TheVariants.{Os}
 use Rattle.st_effects.specs.NameTests.{walk_error}
 use Rattle.st_exec_names.proofs.Looked.{holder_looked, looked}
 use Rattle.st_exec_names.proofs.Objects.{numbered}
