@@ -7,6 +7,7 @@ pub mod procs;
 mod rows;
 mod threads;
 
+pub use identity::ids_after;
 pub use laws::rows_stay_apart;
 pub use procs::Procs;
 pub use rows::ProcRow;

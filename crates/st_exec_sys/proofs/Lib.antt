@@ -1,0 +1,4 @@
+pub mod Binding
+pub mod Executed
+pub mod Left
+pub mod Ports

@@ -1,0 +1,67 @@
+-- The calls on processes, ids and sockets: what each needs, and what making one leaves.
+use Rattle.std.specs.Prelude.{◌≡◌, ℕ, suc, ◌^◌, ◌-◌, ◌<◌, ◌==◌, if◌then◌else◌, true, false, [], None}
+use Rattle.st_calls.specs.declared.call.SysCall.{SysCall}
+use Rattle.st_calls.specs.declared.call.SysCall.TheVariants.{Fork, Exit, Kill, GetPid, GetUid, GetEuid, SetUid, SetEuid, SetGid, SetEgid, Socket, Bind, Connect}
+use Rattle.st_memory.specs.Memory.{Memories, byte_in, is_live, next_space, ChangesLive}
+use Rattle.st_model.specs.Descriptors.{Table, has_table}
+use Rattle.st_model.specs.Processes.{Processes, IsPid, next_pid, pid_of, process_at}
+use Rattle.st_effects.specs.Effect.{effect}
+use Rattle.st_effects.specs.System as effects
+use Rattle.st_request.specs.Outcome.{outcome_of, with_descriptors, with_memories, with_processes}
+use Rattle.st_request.specs.declared.outcome.Outcome.{Outcome}
+use Rattle.st_exec_sys.specs.Changes.{has_table_after, AreMemoriesAfter, AreProcessesAfter}
+use Rattle.st_exec_sys.specs.Sockets.{HasPort}
+
+-- a process has descriptors and a memory
+pub record CanCall (descriptors : Table) (processes : Processes) (memories : Memories) (pid : ℕ) : Type 0 where
+  pub table : has_table descriptors pid ≡ true
+  pub process : IsPid processes pid
+  pub space : is_live memories (process_at processes pid).space ≡ true
+
+-- the thread of the child hasn't started, the next process has no descriptors, and there are numbers left
+pub record CanFork (descriptors : Table) (processes : Processes) (memories : Memories) (request : effects.Request) : Type 0 where
+  pub thread : pid_of processes request.child ≡ None
+  pub table : has_table descriptors (next_pid processes) ≡ false
+  pub pids : next_pid processes < 2 ^ 32 - 1
+  pub spaces : next_space memories < 2 ^ 32
+
+-- a call sets the ids of its process under its own
+abbrev pub HasOwnIds : Processes → effects.Request → Type 0
+HasOwnIds processes request = request.ids ≡ (process_at processes request.pid).ids
+
+-- the call is one of these, and has what it needs besides
+abbrev pub Allows : SysCall → Table → Processes → Memories → effects.Request → Type 0
+Allows Fork descriptors processes memories request = CanFork descriptors processes memories request
+Allows Exit descriptors processes memories request = Unit {0}
+Allows Kill descriptors processes memories request = Unit {0}
+Allows GetPid descriptors processes memories request = Unit {0}
+Allows GetUid descriptors processes memories request = Unit {0}
+Allows GetEuid descriptors processes memories request = Unit {0}
+Allows SetUid descriptors processes memories request = HasOwnIds processes request
+Allows SetEuid descriptors processes memories request = HasOwnIds processes request
+Allows SetGid descriptors processes memories request = HasOwnIds processes request
+Allows SetEgid descriptors processes memories request = HasOwnIds processes request
+Allows Socket descriptors processes memories request = Unit {0}
+Allows Bind descriptors processes memories request = HasPort request
+Allows Connect descriptors processes memories request = HasPort request
+Allows _ descriptors processes memories request = ⊥
+
+-- a call that tells who the process is
+abbrev pub IsQuestion : SysCall → Type 0
+IsQuestion GetPid = Unit {0}
+IsQuestion GetUid = Unit {0}
+IsQuestion GetEuid = Unit {0}
+IsQuestion _ = ⊥
+
+-- one more space is there, with the bytes of this one
+pub record IsCopied (old : Memories) (from : ℕ) (new : Memories) : Type 0 where
+  pub next : next_space new ≡ suc (next_space old)
+  pub live : ChangesLive old (next_space old) true new
+  pub bytes : (s b : ℕ) → byte_in new s b ≡ (if s == next_space old then byte_in old from b else byte_in old s b)
+
+-- a call had its outcome over these parts of a system where no call is held, and left those after its changes
+pub record IsExecuted (call : SysCall) (request : effects.Request) (given : Outcome) (old_descriptors : Table) (old_processes : Processes) (old_memories : Memories) (new_descriptors : Table) (new_processes : Processes) (new_memories : Memories) : Type 0 where
+  pub outcome : (system : effects.System) → system.held ≡ [] → outcome_of given new_descriptors ≡ effect (with_descriptors (with_processes (with_memories system old_memories) old_processes) old_descriptors) call request
+  pub tables : (p : ℕ) → has_table new_descriptors p ≡ has_table_after p (has_table old_descriptors p) given.changes
+  pub processes : AreProcessesAfter old_processes request.pid given.changes new_processes
+  pub memories : AreMemoriesAfter old_memories (process_at old_processes request.pid).space given.changes new_memories

@@ -1,0 +1,4 @@
+pub mod Changes
+pub mod Execution
+pub mod Signals
+pub mod Sockets

@@ -1,0 +1,67 @@
+// Any call on processes, ids and sockets, made as its own function makes it.
+ghost use Rattle.std.specs.Prelude.{◌≡◌, ℕ, [], IfOk, OnOk, OnErr};
+ghost use Rattle.st_calls.specs.declared.call.SysCall.TheVariants.{Fork};
+ghost use Rattle.st_effects.specs.Effect.{effect};
+ghost use Rattle.st_effects.specs.System as effects;
+ghost use Rattle.st_exec_sys.specs.Execution.{Allows, CanCall, IsExecuted, IsQuestion};
+ghost use Rattle.st_model.specs.Processes.{next_pid};
+ghost use Rattle.st_model.specs.Tree.{Tree};
+ghost use Rattle.st_request.specs.Outcome.{outcome_of};
+ghost use Rattle.st_request.specs.Ready.{IsReady};
+
+use crate::forking::fork;
+use crate::identity::{geteuid, getpid, getuid, set_ids};
+use crate::signals::{exit, kill};
+use crate::sockets::{bind, connect, socket};
+use st_calls::SysCall;
+use st_fds::Fds;
+use st_memory::Spaces;
+use st_procs::Procs;
+use st_request::{Outcome, Request};
+use std::alloc::{AllocError, Global};
+
+// A call that tells who the process is.
+fn tell(alloc: Global, call: SysCall, request: &Request<'_>) -> Outcome
+    requires { IsQuestion call }
+    ensures outcome { (system : effects.System) → outcome_of result system.descriptors ≡ effect system call request.now }
+    ensures changes { result.changes ≡ [] }
+{
+    match call {
+        SysCall::GetPid => getpid(alloc, request),
+        SysCall::GetUid => getuid(alloc, request),
+        SysCall::GetEuid => geteuid(alloc, request),
+        _ => unreachable!(),
+    }
+}
+
+/// Makes any call on processes, ids and sockets, as its own function makes it. It changes what the changes say, and nothing else; that
+/// calls which are held draw new numbers, and that threads end, is not done here. Without memory nothing changes.
+pub fn execute_sys(
+    fds: &mut Fds,
+    procs: &mut Procs,
+    spaces: &mut Spaces,
+    alloc: Global,
+    call: SysCall,
+    request: &Request<'_>,
+) -> Result<Outcome, AllocError>
+    requires process { CanCall fds.old procs.old spaces.old request.now.pid }
+    requires call { Allows call fds.old procs.old spaces.old request.now }
+    ensures executed { IfOk result (λ outcome. IsExecuted call request.now outcome fds.old procs.old spaces.old fds.new procs.new spaces.new) }
+    ensures ready { (tree : Tree) (pid : ℕ) → IsReady tree fds.old procs.old spaces.old pid → IsReady tree fds.new procs.new spaces.new pid }
+    ensures child { call ≡ Fork → OnOk result ((tree : Tree) → IsReady tree fds.old procs.old spaces.old request.now.pid → IsReady tree fds.new procs.new spaces.new (next_pid procs.old)) }
+    ensures err { OnErr result ((fds.new ≡ fds.old) × ((procs.new ≡ procs.old) × (spaces.new ≡ spaces.old))) }
+{
+    match call {
+        SysCall::Fork => fork(fds, procs, spaces, alloc, request),
+        SysCall::Exit => exit(alloc, request),
+        SysCall::Kill => kill(procs, alloc, request),
+        SysCall::GetPid | SysCall::GetUid | SysCall::GetEuid => Ok(tell(alloc, call, request)),
+        SysCall::SetUid | SysCall::SetEuid | SysCall::SetGid | SysCall::SetEgid => {
+            set_ids(procs, alloc, call, request)
+        }
+        SysCall::Socket => socket(fds, alloc, request),
+        SysCall::Bind => Ok(bind(fds, alloc, request)),
+        SysCall::Connect => Ok(connect(fds, alloc, request)),
+        _ => unreachable!(),
+    }
+}
