@@ -1,5 +1,5 @@
 -- The tree that the objects make: what is seen of its names, and what its objects are.
-use Rattle.std.proofs.Common.{◌≡◌, ap, refl, subst, sym, ◌∙◌, ℕ, zero, suc, ◌-◌, Bool, true, false, List, [], ◌∷◌, ◌++◌, length, get_or, Option, Some, None, Result, Ok, Err, IfOk, arith}
+use Rattle.std.proofs.Common.{◌≡◌, ap, refl, subst, sym, ◌∙◌, ℕ, zero, suc, ◌-◌, Bool, true, false, List, [], ◌∷◌, ◌++◌, length, get_or, Option, Some, None, Result, Ok, Err, IfOk, option_and_then, arith}
 use Rattle.std.proofs.lemmas.Bool.{true≢false}
 use Rattle.std.proofs.lemmas.List.{get_or-map, length-map}
 use Rattle.std.proofs.lemmas.Option.{slice_get-map}
@@ -20,7 +20,7 @@ use Rattle.st_tree.specs.declared.object.Body.TheVariants.{Dir, File, Link}
 use Rattle.st_tree.specs.declared.object.Object.{Object}
 use Rattle.st_tree.specs.declared.places.Gap.{Gap}
 use Rattle.st_tree.specs.declared.places.Gap.TheVariants.{Missing, NotDir}
-use Rattle.st_tree.proofs.Flat.{entries_counted, object_reached}
+use Rattle.st_tree.proofs.Flat.{entries_counted, leads-append, object_reached}
 use Rattle.st_tree.proofs.Leads.{leads_end}
 use Rattle.st_tree.proofs.Numbers.{dirs_at, is_dir_at_number, numbered-get}
 use Rattle.st_tree.proofs.Ways.{entry_within, leads_reached, reached_within}
@@ -171,6 +171,12 @@ pub child_led : (objects : List Object) → IsWhole objects → (tree : Tree) �
 child_led objects whole tree is name at part found =
     let led : object_from (dirs_of objects) 1 name ≡ Some at = sym (object_led objects whole name) ∙ ap (λ (t : Tree). object_of t name) is ∙ found in
     sym (ap (λ (t : Tree). object_of t (name ++ part ∷ [])) (sym is) ∙ object_led objects whole (name ++ part ∷ []) ∙ leads_end (dirs_of objects) 1 at name part led)
+
+-- where a name has nothing, no longer one has anything
+pub lost_below : (objects : List Object) → IsWhole objects → (tree : Tree) → tree_of objects ≡ tree → (name rest : Components) → object_of tree name ≡ None → object_of tree (name ++ rest) ≡ None
+lost_below objects whole tree is name rest none =
+    ap (λ (t : Tree). object_of t (name ++ rest)) (sym is) ∙ object_led objects whole (name ++ rest) ∙ leads-append (dirs_of objects) 1 name rest
+    ∙ ap (option_and_then (λ number. object_from (dirs_of objects) number rest)) (sym (object_led objects whole name) ∙ ap (λ (t : Tree). object_of t name) is ∙ none)
 
 -- and is there
 pub child_made : (objects : List Object) → IsWhole objects → (tree : Tree) → tree_of objects ≡ tree → (at : ℕ) (part : List ℕ) (held : Option ℕ) → held ≡ dir_entry (dirs_of objects) at part → IfSome held (IsMade tree)

@@ -1,6 +1,6 @@
 -- The objects that a tree keeps, as the tree of names that they make.
 use Rattle.st_base.specs.Numbered.{item_at_number}
-use Rattle.std.specs.Prelude.{◌≤◌, ℕ, zero, suc, Bool, false, List, [], map, length, slice_get, Option, Some, None}
+use Rattle.std.specs.Prelude.{◌≤◌, ℕ, Bool, false, List, [], map, length, Option, Some, None}
 use Rattle.st_model.specs.Tree.{Node, Tree, is_directory}
 use Rattle.st_model.specs.declared.object.Kind.{Kind}
 use Rattle.st_model.specs.declared.object.Kind.TheVariants as object_kind

@@ -114,10 +114,11 @@ impl Tree {
         places::ROOT
     }
 
-    /// The object that a component has in this one; none in what is no directory.
+    /// The object that a component has in this one; none in what is no directory. Where there is none, no name leads on from there.
     pub fn child(&self, obj: Obj, part: &[u8]) -> Option<Obj>
         requires { IsMade self.now obj }
         ensures object { (name : Components) → object_of self.now name ≡ Some obj → result ≡ object_of self.now (name ++ part.now ∷ []) }
+        ensures below { result ≡ None → (name rest : Components) → object_of self.now name ≡ Some obj → object_of self.now (name ++ part.now ∷ rest) ≡ None }
         ensures made { IfSome result (IsMade self.now) }
     {
         table::entry(&self.objects, obj, part)

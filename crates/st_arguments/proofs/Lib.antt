@@ -1,0 +1,5 @@
+pub mod FirstMet
+pub mod Fronts
+pub mod InOrder
+pub mod Spelled
+pub mod WayDown

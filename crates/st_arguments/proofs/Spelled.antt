@@ -1,0 +1,86 @@
+-- An argument that is copied word after word: what its words come to over a memory.
+use native.Mathlib.Omega.{arith}
+use Rattle.std.proofs.Common.{◌≡◌, ◌≤◌, ℕ, zero, suc, ◌+◌, ◌-◌, List, [], ◌∷◌, ◌++◌, length, refl, sym, ap, subst, ◌∙◌, Some, None, IsSome, length-append}
+use Rattle.st_calls.specs.declared.argument.PartKind.{PartKind}
+use Rattle.st_model.specs.Memory.{word_of}
+use Rattle.st_model.specs.Spelling.{Spelled, Text, Fault, More, spell}
+use Rattle.st_model.specs.declared.limits.TheConstants.{SPACE_WORDS}
+use Rattle.st_law.specs.Arguments.{spelled_in, spelled_on, spelled_within}
+use Rattle.st_translate.specs.Copied.{Copied, asked_word, fault_of, spelled, with_word}
+use Rattle.st_translate.proofs.Asked.{few_words}
+use Rattle.st_arguments.specs.Parts.{IsSpelled}
+
+-- where the word at a place is asked for, what is spelled goes on with it
+on_more : (further : ℕ → Spelled) (s : Spelled) (place : ℕ) → Some place ≡ asked_word s → spelled_on further s ≡ further place
+on_more further (Text text) place e = cc
+on_more further (Fault errno) place e = cc
+on_more further (More other) place e = let same : place ≡ other = by e in ap further (sym same) where
+  by : Some place ≡ Some other → place ≡ other
+  by e = cc
+
+-- where none is asked for, that is what is spelled
+on_end : (further : ℕ → Spelled) (s : Spelled) → asked_word s ≡ None → spelled_on further s ≡ s
+on_end further (Text text) e = refl
+on_end further (Fault errno) e = refl
+on_end further (More place) e = cc
+
+-- words of a memory, behind which as much is left to copy as the memory has
+pub record IsCopying (bytes : ℕ → ℕ) (kind : PartKind) (at : ℕ) (copied : Copied) : Type 0 where
+  pub kind_is : copied.kind ≡ kind
+  pub at_is : copied.at ≡ at
+  pub few : length copied.words ≤ 193
+  pub comes_to : (left : ℕ) → left + length copied.words ≡ SPACE_WORDS → spelled_within left kind at bytes copied.words ≡ spelled_in bytes kind at
+
+module _ (bytes : ℕ → ℕ) (kind : PartKind) (at : ℕ) where
+  pub copying_begun : (copied : Copied) → copied ≡ record { kind = kind; at = at; words = [] } → IsCopying bytes kind at copied
+  copying_begun copied is = subst (IsCopying bytes kind at) (sym is) (record {
+    kind_is = refl;
+    at_is = refl;
+    few = omega arith;
+    comes_to = λ left all. let full : left ≡ SPACE_WORDS = omega (arith, all) in ap (λ n. spelled_within n kind at bytes []) full;
+  })
+
+  spelled_is : (copied : Copied) → IsCopying bytes kind at copied → spelled copied ≡ spell kind at copied.words
+  spelled_is copied x = ap (λ (k : PartKind). spell k copied.at copied.words) x.kind_is ∙ ap (λ (n : ℕ). spell kind n copied.words) x.at_is
+
+  -- few words are copied where one more is asked for
+  pub few_copied : (copied : Copied) → IsCopying bytes kind at copied → IsSome (asked_word (spelled copied)) → length copied.words ≤ 192
+  few_copied copied x some = few_words copied.kind copied.at copied.words some
+
+  pub copying_on : (copied : Copied) (place word : ℕ) → IsCopying bytes kind at copied → Some place ≡ asked_word (spelled copied) → word ≡ word_of bytes place → IsCopying bytes kind at (with_word copied word)
+  copying_on copied place word x asked is =
+      let more : length (copied.words ++ word ∷ []) ≡ length copied.words + 1 = length-append copied.words (word ∷ []) in
+      let few : length copied.words ≤ 192 = few_copied copied x (subst IsSome asked refl) in
+      record {
+        kind_is = x.kind_is;
+        at_is = x.at_is;
+        few = omega (arith, more, few);
+        comes_to = λ left all.
+            ap (λ (w : ℕ). spelled_within left kind at bytes (copied.words ++ w ∷ [])) is
+            ∙ sym (on_more (λ place. spelled_within left kind at bytes (copied.words ++ word_of bytes place ∷ [])) (spell kind at copied.words) place (asked ∙ ap asked_word (spelled_is copied x)))
+            ∙ x.comes_to (suc left) (omega (arith, more, all));
+      }
+
+  end_within : (left : ℕ) (words : List ℕ) → asked_word (spell kind at words) ≡ None → spelled_within left kind at bytes words ≡ spell kind at words
+  end_within zero words e = refl
+  end_within (suc left) words e = on_end _ (spell kind at words) e
+
+  pub copying_ended : (copied : Copied) → IsCopying bytes kind at copied → None ≡ asked_word (spelled copied) → IsSpelled bytes kind at (spelled copied)
+  copying_ended copied x quiet = record {
+    is =
+        let few : length copied.words ≤ 193 = x.few in
+        let all : (SPACE_WORDS - length copied.words) + length copied.words ≡ SPACE_WORDS = omega (arith, few) in
+        sym (x.comes_to (SPACE_WORDS - length copied.words) all)
+        ∙ end_within (SPACE_WORDS - length copied.words) copied.words (ap asked_word (sym (spelled_is copied x)) ∙ sym quiet)
+        ∙ sym (spelled_is copied x);
+  }
+
+  -- what lies in a register is spelled without a word
+  pub spelled_plain : (text : List ℕ) → spell kind at [] ≡ Text text → IsSpelled bytes kind at (Text text)
+  spelled_plain text e = record { is = end_within SPACE_WORDS [] (ap asked_word e) ∙ e }
+
+-- a fault that words came to
+pub fault_spelled : (s : Spelled) {errno : _} → Some errno ≡ fault_of s → s ≡ Fault errno
+fault_spelled (Text text) e = cc
+fault_spelled (Fault other) e = cc
+fault_spelled (More place) e = cc
