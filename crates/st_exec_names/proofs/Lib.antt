@@ -1,4 +1,5 @@
 pub mod Allowed
+pub mod Executing
 pub mod Looked
 pub mod Objects
 pub mod Renamed

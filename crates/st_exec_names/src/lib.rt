@@ -3,6 +3,7 @@
 
 mod directory;
 mod entries;
+mod execution;
 mod looks;
 mod making;
 mod permission;
@@ -12,6 +13,7 @@ pub mod walking;
 
 pub use directory::chdir;
 pub use entries::{rmdir, unlink};
+pub use execution::execve;
 pub use looks::{readlink, stat};
 pub use making::{link, make_object, mkdir, symlink};
 pub use permission::{access, chmod, chown};

@@ -1,10 +1,10 @@
 ghost use Rattle.std.specs.Prelude.{◌≡◌, true, IfOk};
-ghost use Rattle.st_memory.specs.Memory.{is_live};
+ghost use Rattle.st_memory.specs.Memory.{is_live, next_space};
 ghost use Rattle.st_model.specs.Processes.{process_at, IsPid};
 
 use crate::{
-    access, chdir, chmod, chown, link, mkdir, readlink, rename, resolve, rmdir, stat, symlink,
-    unlink,
+    access, chdir, chmod, chown, execve, link, mkdir, readlink, rename, resolve, rmdir, stat,
+    symlink, unlink,
 };
 use st_base::{Errno, Ids, Text};
 use st_calls::{ArgText, Label, SysCall};
@@ -207,6 +207,7 @@ struct Caller {
 fn start_caller(alloc: Global) -> Result<Caller, AllocError>
     ensures pid { IfOk result (λ caller. IsPid caller.procs 1) }
     ensures space { IfOk result (λ caller. is_live caller.spaces (process_at caller.procs 1).space ≡ true) }
+    ensures room { IfOk result (λ caller. next_space caller.spaces ≡ 2) }
 {
     let mut spaces = Spaces::new(alloc);
     let space = spaces.make(alloc)?;
@@ -261,5 +262,36 @@ fn a_directory_is_entered(rt: HostRuntime) -> Result<(), Fail> {
         caller.procs.cwd(1).print(alloc)?.bytes(),
         b"/d/q".as_slice()
     );
+    Ok(())
+}
+
+// A name, and what user 7 gets who executes it. The policy is then the binary's, where there is one.
+#[test]
+fn binaries_are_executed(rt: HostRuntime) -> Result<(), Fail> {
+    let cases: [(&[u8], CallResult); 5] = [
+        (b"/x", Failed(Errno::ENOENT)),
+        (b"/d/q", Failed(Errno::EACCES)),
+        (b"/d/f", Failed(Errno::EACCES)),
+        (b"/n", Failed(Errno::ENOEXEC)),
+        (b"/b", Value(0)),
+    ];
+    let alloc = rt.alloc();
+    let mut tree = files(alloc)?;
+    let binary = NewKind::File(Text::of(alloc, b"#!")?);
+    add(&mut tree, alloc, b"/b", binary, 0, 0o755)?;
+    let empty = NewKind::File(Text::new(alloc));
+    add(&mut tree, alloc, b"/n", empty, 0, 0o755)?;
+    for (name, wanted) in cases {
+        let Caller {
+            mut procs,
+            mut spaces,
+        } = start_caller(alloc)?;
+        let args = [argument(alloc, 0, name)?];
+        let request = request_of(7, &args, [0, 0]);
+        let outcome = execve(&tree, &mut procs, &mut spaces, alloc, &request)?;
+        assert_eq!(rt; outcome.result, wanted);
+        let policy: &[u8] = if wanted == Value(0) { name } else { b"" };
+        assert_eq!(rt; procs.policy(1).bytes(), policy);
+    }
     Ok(())
 }
