@@ -1,4 +1,4 @@
-mod Lookups
+pub mod Lookups
 mod Ordered
 mod Runs
-mod Whole
+pub mod Whole

@@ -37,7 +37,7 @@ module _ (calls : HeldCalls) (seq : ℕ) (state : MsgState) where
   states_moved live other =
       ap state_of (found_moved calls.live seq other state) ∙ under_cond state_of (other == seq) _ _ ∙ ap (λ (s : Option MsgState). cond (other == seq) s (state_at calls other)) (state_moved (message_at calls seq) state live)
 
-  threads_moved : (other : ℕ) → thread_at (with_state calls seq state) other ≡ thread_at calls other
+  pub threads_moved : (other : ℕ) → thread_at (with_state calls seq state) other ≡ thread_at calls other
   threads_moved other =
       ap thread_of (found_moved calls.live seq other state) ∙ under_cond thread_of (other == seq) _ _ ∙ elim (cases_eq other seq) [
         | inl e ↦ rw (eq-eqb other seq e) (thread_moved (message_at calls seq) state ∙ ap (thread_at calls) (sym e))
@@ -60,7 +60,7 @@ module _ (calls : HeldCalls) (seq : ℕ) where
   pub states_cancelled : ChangesState calls seq None (calls_after_cancel calls seq)
   states_cancelled other = ap state_of (found_without calls.live seq other) ∙ under_cond state_of (other == seq) None (message_at calls other)
 
-  threads_cancelled : (other : ℕ) → thread_at (calls_after_cancel calls seq) other ≡ cond (other == seq) None (thread_at calls other)
+  pub threads_cancelled : (other : ℕ) → thread_at (calls_after_cancel calls seq) other ≡ cond (other == seq) None (thread_at calls other)
   threads_cancelled other = ap thread_of (found_without calls.live seq other) ∙ under_cond thread_of (other == seq) None (message_at calls other)
 
   -- what a number has that is still live, it had

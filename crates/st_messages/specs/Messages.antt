@@ -50,6 +50,10 @@ is_waiting_state (Faulted errno) = false
 abbrev pub is_waiting : Message → Bool
 is_waiting message = is_waiting_state message.state
 
+-- the number of the first message that waits
+abbrev pub first_waiting : HeldCalls → Option ℕ
+first_waiting calls = option_map (λ (message : Message). message.seq) (find is_waiting calls.live)
+
 -- whether a state is that of a message whose worker has neither answered nor met a fault
 abbrev pub is_claimed_state : Option MsgState → Bool
 is_claimed_state None = false

@@ -1,7 +1,7 @@
 ghost use Rattle.std.specs.Prelude.{◌≡◌, ◌≢◌, ℕ, ◌-◌, ◌^◌, ◌<◌, ◌↔◌, [], Some, None, true, IsNone, IfSome, IfOk, OnOk, OnErr};
 ghost use Rattle.st_messages.specs.declared.message.Delivered.TheVariants.{Applied, Stale};
 ghost use Rattle.st_messages.specs.declared.message.MsgState.TheVariants.{Waiting, Claimed, Answered, Faulted};
-ghost use Rattle.st_messages.specs.Messages.{is_claimed, is_live, state_at, thread_at, with_state, calls_after_post, calls_after_cancel, calls_after_renew, ChangesState, HasNoNumber, IsLeastWaiting, IsWorker, RenewsState};
+ghost use Rattle.st_messages.specs.Messages.{first_waiting, is_claimed, is_live, state_at, thread_at, with_state, calls_after_post, calls_after_cancel, calls_after_renew, ChangesState, HasNoNumber, IsLeastWaiting, IsWorker, RenewsState};
 
 use crate::live;
 use crate::message::{Delivered, Message, MsgState};
@@ -107,6 +107,7 @@ impl Messages {
         requires { IsWorker self.old worker }
         ensures none { IsNone result ↔ ((seq : ℕ) → state_at self.old seq ≢ Some Waiting) }
         ensures least { IfSome result (λ seq. IsLeastWaiting self.old seq) }
+        ensures first { result ≡ first_waiting self.old }
         ensures ok { IfSome result (λ seq. self.new ≡ with_state self.old seq (Claimed worker)) }
         ensures states { IfSome result (λ seq. ChangesState self.old seq (Some (Claimed worker)) self.new) }
         ensures unchanged { result ≡ None → self.new ≡ self.old }
@@ -116,8 +117,9 @@ impl Messages {
         Some(seq)
     }
 
-    // The least number that waits.
-    fn least_waiting(&self) -> Option<Seq>
+    /// The least number that waits, which is claimed next; none exactly where no number waits.
+    pub fn least_waiting(&self) -> Option<Seq>
+        ensures first { result ≡ first_waiting self.now }
         ensures none { IsNone result ↔ ((seq : ℕ) → state_at self.now seq ≢ Some Waiting) }
         ensures least { IfSome result (λ seq. IsLeastWaiting self.now seq) }
         ensures live { IfSome result (λ seq. is_live self.now seq ≡ true) }

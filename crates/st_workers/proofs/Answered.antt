@@ -1,0 +1,233 @@
+-- What is kept agrees once a worker has answered, in time or too late.
+use Rattle.std.proofs.Common.{◌≡◌, ◌≢◌, ◌↔◌, ◌≤◌, ◌-◌, ℕ, ◌==◌, ◌&&◌, ◌||◌, Bool, true, false, cond, List, set, Option, Some, None, inl, inr, refl, ap, sym, ◌∙◌}
+use Rattle.std.proofs.lemmas.Bool.{cases_lt, eq-eqb, ne_eqb, true≢false}
+use Rattle.std.proofs.lemmas.Option.{none-some, same_Some}
+use Rattle.st_calls.specs.declared.judged.Snapshot.{Snapshot}
+use Rattle.st_calls.specs.declared.judged.Verdict.{Verdict}
+use Rattle.st_filter.specs.Judging as judging
+use Rattle.st_lookaside.specs.Slot.{Slot}
+use Rattle.st_lookaside.specs.Slots.{slot_at}
+use Rattle.st_messages.specs.declared.message.Delivered.{Delivered}
+use Rattle.st_messages.specs.declared.message.Delivered.TheVariants.{Applied, Stale}
+use Rattle.st_messages.specs.declared.message.MsgState.{MsgState}
+use Rattle.st_messages.specs.declared.message.MsgState.TheVariants.{Answered, Claimed}
+use Rattle.st_messages.specs.Messages.{is_claimed, is_claimed_state, is_live, state_at, thread_at, with_state, HeldCalls}
+use Rattle.st_messages.proofs.Whole.{states_moved, threads_moved}
+use Rattle.st_trace.specs.declared.entry.Entry.TheVariants as entry
+use Rattle.st_law.specs.declared.input.Input.{Input}
+use Rattle.st_law.specs.State.{progress_of_message, read_for, snapshot_of_message, Message, State}
+use Rattle.st_workers.specs.Kept.{at_work, Agrees, HasCome, IsDead, IsKept, IsKeptAfter, IsLive, IsTurn, IsWhole}
+use Rattle.st_workers.specs.UnderWay.{found_in, turn_at, UnderWay}
+use Rattle.st_workers.specs.declared.turn.Turn.TheVariants.{Idle, Ready}
+use Rattle.st_workers.proofs.Ended.{dead_not_live, state_live, turned_claimed}
+use Rattle.st_workers.proofs.Steps.{all_turned, all_worked, count_kept, message_worked, stepped, verdicts_kept, IsStep}
+use Rattle.st_workers.proofs.Tasks.{sealed_ready}
+use Rattle.st_workers.proofs.Turns.{number_within}
+
+-- what became of the answer, and of the calls
+pub record IsDelivered (old new : HeldCalls) (q : ℕ) (v : Verdict) (delivered : Delivered) : Type 0 where
+  pub applied : (delivered ≡ Applied) ↔ (is_claimed old q ≡ true)
+  pub ok : delivered ≡ Applied → new ≡ with_state old q (Answered v)
+  pub stale : delivered ≡ Stale → new ≡ old
+
+and_false : (b : Bool) → (b && false) ≡ false
+and_false true = refl
+and_false false = refl
+
+stale_by : (d : Delivered) → (d ≡ Applied → ⊥) → d ≡ Stale
+stale_by Applied unlike = absurd (unlike refl)
+stale_by Stale unlike = refl
+
+module _ (old new : UnderWay) (w : ℕ) (s : Snapshot) (v : Verdict) (delivered : Delivered) (ready : turn_at old w ≡ Some (Ready s)) (is : IsDelivered old.calls new.calls s.seq v delivered)
+    (slots : new.slots ≡ old.slots) (put : new.turns ≡ set old.turns (w - 1) Idle) where
+  answered_other : (a : Bool) (q : ℕ) (m : Message) → q ≢ s.seq → message_worked (entry.Answered w s v a) q m ≡ m
+  answered_other a q m ne =
+      let e : (s.seq == q) ≡ false = ne_eqb s.seq q (λ x. ne (sym x)) in
+      λ k. record { head = m.head; claimed = m.claimed; words = m.words; lookups = m.lookups; fault = m.fault; answered = (e k && a) || m.answered; closed = m.closed }
+
+  answered_come : (m : Message) → HasCome m true None false → HasCome (message_worked (entry.Answered w s v true) s.seq m) true None true
+  answered_come m was = record { claimed = was.claimed; fault = was.fault; answered = ap (λ (b : Bool). (b && true) || m.answered) (eq-eqb s.seq s.seq refl) }
+
+  stale_come : (m : Message) → HasCome m true None false → HasCome (message_worked (entry.Answered w s v false) s.seq m) true None false
+  stale_come m was = record { claimed = was.claimed; fault = was.fault; answered = ap (λ (b : Bool). b || m.answered) (and_false (s.seq == s.seq)) ∙ was.answered }
+
+  module _ (messages : ℕ → Message) (turns : ℕ → Option ℕ) (alive : ℕ → Bool) (posted : ℕ) (agrees : Agrees messages turns alive posted (found_in old)) where
+    at : IsTurn messages alive (turns w) (Ready s)
+    at = agrees.workers w (Ready s) ready
+
+    came : HasCome (messages s.seq) true None false
+    came = agrees.turned w s.seq at.0
+
+    gone : (a : Bool) → all_turned (entry.Answered w s v a) turns w ≡ None
+    gone a = ap (λ (b : Bool). cond b None (turns w)) (eq-eqb w w refl)
+
+    stay : (a : Bool) (x : ℕ) → x ≢ w → all_turned (entry.Answered w s v a) turns x ≡ turns x
+    stay a x ne = ap (λ (b : Bool). cond b None (turns x)) (ne_eqb w x (λ e. ne (sym e)))
+
+    -- ---- in time
+
+    module _ (live : alive s.seq ≡ true) where
+      claimed : (x : ℕ) × (state_at old.calls s.seq ≡ Some (Claimed x))
+      claimed = turned_claimed messages turns alive posted (found_in old) agrees w s.seq at.0 live
+
+      pub is_applied : delivered ≡ Applied
+      is_applied = is.applied.1 (ap is_claimed_state claimed.1)
+
+      calls : new.calls ≡ with_state old.calls s.seq (Answered v)
+      calls = is.ok is_applied
+
+      live_calls : is_live old.calls s.seq ≡ true
+      live_calls = state_live old.calls s.seq (Claimed claimed.0) claimed.1
+
+      states : (q : ℕ) → q ≢ s.seq → state_at new.calls q ≡ state_at old.calls q
+      states q ne = ap (λ (c : HeldCalls). state_at c q) calls ∙ states_moved old.calls s.seq (Answered v) live_calls q ∙ ap (λ (b : Bool). cond b (Some (Answered v)) (state_at old.calls q)) (ne_eqb q s.seq ne)
+
+      state : state_at new.calls s.seq ≡ Some (Answered v)
+      state = ap (λ (c : HeldCalls). state_at c s.seq) calls ∙ states_moved old.calls s.seq (Answered v) live_calls s.seq ∙ ap (λ (b : Bool). cond b (Some (Answered v)) (state_at old.calls s.seq)) (eq-eqb s.seq s.seq refl)
+
+      threads : (q : ℕ) → thread_at new.calls q ≡ thread_at old.calls q
+      threads q = ap (λ (c : HeldCalls). thread_at c q) calls ∙ threads_moved old.calls s.seq (Answered v) q
+
+      was : IsLive turns s.seq (messages s.seq) (found_in old)
+      was = agrees.live s.seq live
+
+      applied_step : IsStep messages (all_worked (entry.Answered w s v true) messages) turns (all_turned (entry.Answered w s v true) turns) alive posted old new w s.seq Idle
+      applied_step = record {
+        from = (number_within old.turns w (Ready s) ready).0;
+        to = (number_within old.turns w (Ready s) ready).1;
+        put = put;
+        next = ap (λ (c : HeldCalls). c.next) calls;
+        others = λ q ne. answered_other true q (messages q) ne;
+        states = states;
+        threads = threads;
+        slots = λ q ne. ap (λ (l : List Slot). slot_at l q) slots;
+        only = λ x ne turned. ne (agrees.apart x w s.seq turned at.0);
+        stay = λ x ne other. stay true x ne;
+        was = λ q turned alive_q. same_Some q s.seq (sym turned ∙ at.0);
+        onto = λ q turned. absurd (none-some q (sym (gone true) ∙ turned));
+        come = λ turned. absurd (none-some s.seq (sym (gone true) ∙ turned));
+        turn = ap (at_work (all_worked (entry.Answered w s v true) messages) alive) (gone true);
+        within = (agrees.given s.seq live).1;
+        live = λ lives. record {
+          state = Answered v;
+          tid = was.tid;
+          slot = was.slot;
+          state_is = state;
+          thread_is = threads s.seq ∙ was.thread_is;
+          slot_is = ap (λ (l : List Slot). slot_at l s.seq) slots ∙ was.slot_is;
+          is_state = (answered_come (messages s.seq) came, sealed_ready s.seq (messages s.seq).head (progress_of_message (messages s.seq)) s at.1);
+          is_slot = record { head = was.is_slot.head; count = was.is_slot.count; words = was.is_slot.words; lookups = was.is_slot.lookups };
+        };
+        dead = λ none. absurd (true≢false (sym live ∙ none));
+      }
+
+    -- ---- too late
+
+    module _ (dead : alive s.seq ≡ false) where
+      none_there : IsDead s.seq (found_in old)
+      none_there = agrees.dead s.seq dead
+
+      not_applied : delivered ≡ Applied → ⊥
+      not_applied e = true≢false (sym (is.applied.0 e) ∙ ap is_claimed_state none_there.state)
+
+      stale_calls : new.calls ≡ old.calls
+      stale_calls = is.stale (stale_by delivered not_applied)
+
+      stale_step : s.seq ≤ posted → IsStep messages (all_worked (entry.Answered w s v false) messages) turns (all_turned (entry.Answered w s v false) turns) alive posted old new w s.seq Idle
+      stale_step within = record {
+        from = (number_within old.turns w (Ready s) ready).0;
+        to = (number_within old.turns w (Ready s) ready).1;
+        put = put;
+        next = ap (λ (c : HeldCalls). c.next) stale_calls;
+        others = λ q ne. answered_other false q (messages q) ne;
+        states = λ q ne. ap (λ (c : HeldCalls). state_at c q) stale_calls;
+        threads = λ q. ap (λ (c : HeldCalls). thread_at c q) stale_calls;
+        slots = λ q ne. ap (λ (l : List Slot). slot_at l q) slots;
+        only = λ x ne turned. ne (agrees.apart x w s.seq turned at.0);
+        stay = λ x ne other. stay false x ne;
+        was = λ q turned alive_q. same_Some q s.seq (sym turned ∙ at.0);
+        onto = λ q turned. absurd (none-some q (sym (gone false) ∙ turned));
+        come = λ turned. absurd (none-some s.seq (sym (gone false) ∙ turned));
+        turn = ap (at_work (all_worked (entry.Answered w s v false) messages) alive) (gone false);
+        within = within;
+        live = λ lives. absurd (true≢false (sym lives ∙ dead));
+        dead = λ none. record {
+          state = ap (λ (c : HeldCalls). state_at c s.seq) stale_calls ∙ none_there.state;
+          thread = ap (λ (c : HeldCalls). thread_at c s.seq) stale_calls ∙ none_there.thread;
+          slot = ap (λ (l : List Slot). slot_at l s.seq) slots ∙ none_there.slot;
+        };
+      }
+
+    -- a number that is a worker's turn was posted
+    within_posted : s.seq ≤ posted
+    within_posted = elim (cases_lt posted s.seq) [
+      | inl lt ↦ absurd (true≢false (sym came.claimed ∙ (agrees.later s.seq lt).come.claimed))
+      | inr ge ↦ ge
+    ]
+
+    step_by : (b : Bool) → alive s.seq ≡ b → IsStep messages (all_worked (entry.Answered w s v b) messages) turns (all_turned (entry.Answered w s v b) turns) alive posted old new w s.seq Idle
+    step_by true e = applied_step e
+    step_by false e = stale_step e within_posted
+
+    answered_step : IsStep messages (all_worked (entry.Answered w s v (alive s.seq)) messages) turns (all_turned (entry.Answered w s v (alive s.seq)) turns) alive posted old new w s.seq Idle
+    answered_step = step_by (alive s.seq) refl
+
+    answered_agrees : Agrees (all_worked (entry.Answered w s v (alive s.seq)) messages) (all_turned (entry.Answered w s v (alive s.seq)) turns) alive posted (found_in new)
+    answered_agrees = stepped messages (all_worked (entry.Answered w s v (alive s.seq)) messages) turns (all_turned (entry.Answered w s v (alive s.seq)) turns) alive posted old new w s.seq Idle answered_step agrees
+
+    workers_by : (b : Bool) → alive s.seq ≡ b → new.calls.workers ≡ old.calls.workers
+    workers_by true e = ap (λ (c : HeldCalls). c.workers) (calls e)
+    workers_by false e = ap (λ (c : HeldCalls). c.workers) (stale_calls e)
+
+    states_by : (b : Bool) → alive s.seq ≡ b → (q : ℕ) → q ≢ s.seq → state_at new.calls q ≡ state_at old.calls q
+    states_by true e q ne = states e q ne
+    states_by false e q ne = ap (λ (c : HeldCalls). state_at c q) (stale_calls e)
+
+    same_answer : (a b : Verdict) → Answered a ≡ Answered b → a ≡ b
+    same_answer a b e = cc
+
+    verdict_by : (i : Input) → v ≡ judging.verdict (read_for i s.policy s.rule) s → (b : Bool) → alive s.seq ≡ b → (x : Verdict) (t : Snapshot) → state_at new.calls s.seq ≡ Some (Answered x)
+        → snapshot_of_message s.seq (all_worked (entry.Answered w s v b) messages s.seq) ≡ Some t → x ≡ judging.verdict (read_for i t.policy t.rule) t
+    verdict_by i is_verdict true e x t answered copies =
+        let same : s ≡ t = same_Some s t (sym at.1 ∙ copies) in
+        sym (same_answer v x (same_Some (Answered v) (Answered x) (sym (state e) ∙ answered))) ∙ is_verdict ∙ ap (λ (u : Snapshot). judging.verdict (read_for i u.policy u.rule) u) same
+    verdict_by i is_verdict false e x t answered copies =
+        absurd (none-some (Answered x) (sym (ap (λ (c : HeldCalls). state_at c s.seq) (stale_calls e) ∙ (none_there e).state) ∙ answered))
+
+  -- it stays whole
+  pub answered_whole : IsWhole old → IsWhole new
+  answered_whole whole =
+      let e = entry.Answered w s v (whole.alive s.seq) in
+      record {
+        count = count_kept whole.messages (all_worked e whole.messages) whole.turns (all_turned e whole.turns) whole.alive whole.posted old new w s.seq Idle
+            (answered_step whole.messages whole.turns whole.alive whole.posted whole.agrees) whole.count (workers_by whole.messages whole.turns whole.alive whole.posted whole.agrees (whole.alive s.seq) refl);
+        messages = all_worked e whole.messages;
+        turns = all_turned e whole.turns;
+        alive = whole.alive;
+        posted = whole.posted;
+        agrees = answered_agrees whole.messages whole.turns whole.alive whole.posted whole.agrees;
+      }
+
+  pub answered_workers : IsWhole old → new.calls.workers ≡ old.calls.workers
+  answered_workers whole = workers_by whole.messages whole.turns whole.alive whole.posted whole.agrees (whole.alive s.seq) refl
+
+  -- it follows the machine
+  pub answered_kept : (i : Input) (st : State) (alive : ℕ → Bool) → IsKept i st alive old → v ≡ judging.verdict (read_for i s.policy s.rule) s → IsKeptAfter i st (entry.Answered w s v (alive s.seq)) alive new
+  answered_kept i st alive kept is_verdict = record {
+    workers = workers_by st.messages st.turns alive st.posted kept.agrees (alive s.seq) refl ∙ kept.workers;
+    agrees = answered_agrees st.messages st.turns alive st.posted kept.agrees;
+    verdicts = verdicts_kept i st.messages (all_worked (entry.Answered w s v (alive s.seq)) st.messages) old.calls new.calls s.seq (λ q ne. answered_other (alive s.seq) q (st.messages q) ne)
+        (states_by st.messages st.turns alive st.posted kept.agrees (alive s.seq) refl) (verdict_by st.messages st.turns alive st.posted kept.agrees i is_verdict (alive s.seq) refl) kept.verdicts;
+  }
+
+  applied_by : (whole : IsWhole old) (b : Bool) → whole.alive s.seq ≡ b → is_live old.calls s.seq ≡ true → delivered ≡ Applied
+  applied_by whole true e live = is_applied whole.messages whole.turns whole.alive whole.posted whole.agrees e
+  applied_by whole false e live = absurd (dead_not_live old.calls s.seq (whole.agrees.dead s.seq e).state live)
+
+  claimed_live : (held : HeldCalls) (q : ℕ) (o : Option MsgState) → state_at held q ≡ o → is_claimed_state o ≡ true → is_live held q ≡ true
+  claimed_live held q None e claimed_is = absurd (true≢false (sym claimed_is))
+  claimed_live held q (Some x) e claimed_is = state_live held q x e
+
+  -- an answer is applied exactly where its number is live
+  pub applied_where : IsWhole old → (delivered ≡ Applied) ↔ (is_live old.calls s.seq ≡ true)
+  applied_where whole = (λ e. claimed_live old.calls s.seq (state_at old.calls s.seq) refl (is.applied.0 e), λ live. applied_by whole (whole.alive s.seq) refl live)

@@ -1,0 +1,151 @@
+-- What is kept agrees once a worker has told an error, or answered.
+use Rattle.std.proofs.Common.{◌≡◌, ◌≢◌, ◌-◌, ℕ, ◌==◌, Bool, true, false, cond, List, set, Option, Some, None, refl, ap, sym, ◌∙◌}
+use Rattle.std.specs.Prelude.{is_some}
+use Rattle.std.specs.Option.{option_map}
+use Rattle.std.proofs.lemmas.Bool.{eq-eqb, ne_eqb, true≢false}
+use Rattle.std.proofs.lemmas.Option.{none-some, same_Some}
+use Rattle.st_base.specs.declared.errno.Errno.{Errno}
+use Rattle.st_calls.specs.declared.judged.Verdict.{Verdict}
+use Rattle.st_lookaside.specs.Slot.{Slot}
+use Rattle.st_lookaside.specs.Slots.{slot_at}
+use Rattle.st_messages.specs.declared.message.Message as message
+use Rattle.st_messages.specs.declared.message.MsgState.{MsgState}
+use Rattle.st_messages.specs.declared.message.MsgState.TheVariants.{Claimed, Answered, Faulted}
+use Rattle.st_messages.specs.Messages.{is_live, message_at, state_at, thread_at, with_state, HeldCalls}
+use Rattle.st_messages.proofs.Whole.{states_moved, threads_moved}
+use Rattle.st_trace.specs.declared.entry.Entry.TheVariants as entry
+use Rattle.st_law.specs.Messages.{unless_same}
+use Rattle.st_law.specs.State.{Message}
+use Rattle.st_workers.specs.Kept.{at_work, Agrees, Follows, HasCome, IsLive, IsTurn, IsWhole}
+use Rattle.st_workers.specs.UnderWay.{found_in, turn_at, Found, UnderWay}
+use Rattle.st_workers.specs.declared.turn.Turn.TheVariants.{Idle, Working}
+use Rattle.st_workers.proofs.Steps.{all_turned, all_worked, count_kept, message_worked, stepped, turned_state, verdicts_kept, IsStep}
+use Rattle.st_workers.proofs.Turns.{number_within}
+
+-- ---- the number of a worker
+
+-- a number with a state is live
+pub state_live : (calls : HeldCalls) (q : ℕ) (state : MsgState) → state_at calls q ≡ Some state → is_live calls q ≡ true
+state_live calls q state is = by (message_at calls q) is where
+  by : (o : Option message.Message) → option_map (λ (m : message.Message). m.state) o ≡ Some state → is_some o ≡ true
+  by None is = absurd (none-some state is)
+  by (Some m) is = refl
+
+-- and one without a state isn't
+pub dead_not_live : (calls : HeldCalls) (q : ℕ) → state_at calls q ≡ None → is_live calls q ≡ true → ⊥
+dead_not_live calls q is live = by (message_at calls q) is live where
+  by : (o : Option message.Message) → option_map (λ (m : message.Message). m.state) o ≡ None → is_some o ≡ true → ⊥
+  by None is live = true≢false (sym live)
+  by (Some m) is live = none-some m.state (sym is)
+
+-- a number that is a worker's turn, and lives, is claimed
+pub turned_claimed : (messages : ℕ → Message) (turns : ℕ → Option ℕ) (alive : ℕ → Bool) (posted : ℕ) (found : Found) → Agrees messages turns alive posted found → (w q : ℕ) → turns w ≡ Some q → alive q ≡ true → (v : ℕ) × (found.state q ≡ Some (Claimed v))
+turned_claimed messages turns alive posted found agrees w q turned live =
+    let was : IsLive turns q (messages q) found = agrees.live q live in
+    let claimed = turned_state turns q (messages q) was.state (agrees.turned w q turned) was.is_state in
+    (claimed.0, was.state_is ∙ ap Some claimed.1)
+
+-- the number that a worker is at is claimed
+pub working_claimed : (kept : UnderWay) → IsWhole kept → (w q : ℕ) → turn_at kept w ≡ Some (Working q) → (v : ℕ) × (state_at kept.calls q ≡ Some (Claimed v))
+working_claimed kept whole w q working =
+    let at : IsTurn whole.messages whole.alive (whole.turns w) (Working q) = whole.agrees.workers w (Working q) working in
+    turned_claimed whole.messages whole.turns whole.alive whole.posted (found_in kept) whole.agrees w q at.0 at.1
+
+-- ---- a fault
+
+unless_other : (p : ℕ) (o : Option ℕ) → o ≢ Some p → unless_same p o ≡ o
+unless_other p None ne = refl
+unless_other p (Some q) ne = ap (λ (b : Bool). cond b None (Some q)) (ne_eqb p q (λ e. ne (ap Some (sym e))))
+
+unless_gone : (p : ℕ) (o : Option ℕ) → o ≡ Some p → unless_same p o ≡ None
+unless_gone p o is = ap (unless_same p) is ∙ ap (λ (b : Bool). cond b None (Some p)) (eq-eqb p p refl)
+
+module _ (old new : UnderWay) (w p : ℕ) (errno : Errno) (working : turn_at old w ≡ Some (Working p)) (claimed_is : (v : ℕ) × (state_at old.calls p ≡ Some (Claimed v)))
+    (calls : new.calls ≡ with_state old.calls p (Faulted errno)) (slots : new.slots ≡ old.slots) (put : new.turns ≡ set old.turns (w - 1) Idle) where
+  fault_live : is_live old.calls p ≡ true
+  fault_live = state_live old.calls p (Claimed claimed_is.0) claimed_is.1
+
+  fault_states : (q : ℕ) → q ≢ p → state_at new.calls q ≡ state_at old.calls q
+  fault_states q ne = ap (λ (c : HeldCalls). state_at c q) calls ∙ states_moved old.calls p (Faulted errno) fault_live q ∙ ap (λ (b : Bool). cond b (Some (Faulted errno)) (state_at old.calls q)) (ne_eqb q p ne)
+
+  fault_state : state_at new.calls p ≡ Some (Faulted errno)
+  fault_state = ap (λ (c : HeldCalls). state_at c p) calls ∙ states_moved old.calls p (Faulted errno) fault_live p ∙ ap (λ (b : Bool). cond b (Some (Faulted errno)) (state_at old.calls p)) (eq-eqb p p refl)
+
+  fault_threads : (q : ℕ) → thread_at new.calls q ≡ thread_at old.calls q
+  fault_threads q = ap (λ (c : HeldCalls). thread_at c q) calls ∙ threads_moved old.calls p (Faulted errno) q
+
+  fault_other : (q : ℕ) (m : Message) → q ≢ p → message_worked (entry.Faulted p errno) q m ≡ m
+  fault_other q m ne =
+      let e : (p == q) ≡ false = ne_eqb p q (λ x. ne (sym x)) in
+      λ k. record { head = m.head; claimed = m.claimed; words = m.words; lookups = m.lookups; fault = cond (e k) (Some errno) m.fault; answered = m.answered; closed = m.closed }
+
+  fault_come : (m : Message) → HasCome m true None false → HasCome (message_worked (entry.Faulted p errno) p m) true (Some errno) false
+  fault_come m was = record { claimed = was.claimed; fault = ap (λ (b : Bool). cond b (Some errno) m.fault) (eq-eqb p p refl); answered = was.answered }
+
+  module _ (messages : ℕ → Message) (turns : ℕ → Option ℕ) (alive : ℕ → Bool) (posted : ℕ) (agrees : Agrees messages turns alive posted (found_in old)) where
+    fault_at : IsTurn messages alive (turns w) (Working p)
+    fault_at = agrees.workers w (Working p) working
+
+    fault_was : IsLive turns p (messages p) (found_in old)
+    fault_was = agrees.live p fault_at.1
+
+    fault_gone : all_turned (entry.Faulted p errno) turns w ≡ None
+    fault_gone = unless_gone p (turns w) fault_at.0
+
+    fault_step : IsStep messages (all_worked (entry.Faulted p errno) messages) turns (all_turned (entry.Faulted p errno) turns) alive posted old new w p Idle
+    fault_step = record {
+      from = (number_within old.turns w (Working p) working).0;
+      to = (number_within old.turns w (Working p) working).1;
+      put = put;
+      next = ap (λ (c : HeldCalls). c.next) calls;
+      others = λ q ne. fault_other q (messages q) ne;
+      states = fault_states;
+      threads = fault_threads;
+      slots = λ q ne. ap (λ (l : List Slot). slot_at l q) slots;
+      only = λ v ne is. ne (agrees.apart v w p is fault_at.0);
+      stay = λ v ne other. unless_other p (turns v) other;
+      was = λ q is live. same_Some q p (sym is ∙ fault_at.0);
+      onto = λ q is. absurd (none-some q (sym fault_gone ∙ is));
+      come = λ is. absurd (none-some p (sym fault_gone ∙ is));
+      turn = ap (at_work (all_worked (entry.Faulted p errno) messages) alive) fault_gone;
+      within = (agrees.given p fault_at.1).1;
+      live = λ is. record {
+        state = Faulted errno;
+        tid = fault_was.tid;
+        slot = fault_was.slot;
+        state_is = fault_state;
+        thread_is = fault_threads p ∙ fault_was.thread_is;
+        slot_is = ap (λ (l : List Slot). slot_at l p) slots ∙ fault_was.slot_is;
+        is_state = fault_come (messages p) (agrees.turned w p fault_at.0);
+        is_slot = record { head = fault_was.is_slot.head; count = fault_was.is_slot.count; words = fault_was.is_slot.words; lookups = fault_was.is_slot.lookups };
+      };
+      dead = λ none. absurd (true≢false (sym fault_at.1 ∙ none));
+    }
+
+    fault_agrees : Agrees (all_worked (entry.Faulted p errno) messages) (all_turned (entry.Faulted p errno) turns) alive posted (found_in new)
+    fault_agrees = stepped messages (all_worked (entry.Faulted p errno) messages) turns (all_turned (entry.Faulted p errno) turns) alive posted old new w p Idle fault_step agrees
+
+  fault_workers : new.calls.workers ≡ old.calls.workers
+  fault_workers = ap (λ (c : HeldCalls). c.workers) calls
+
+  pub fault_whole : IsWhole old → IsWhole new
+  fault_whole whole = record {
+    count = count_kept whole.messages (all_worked (entry.Faulted p errno) whole.messages) whole.turns (all_turned (entry.Faulted p errno) whole.turns) whole.alive whole.posted old new w p Idle
+        (fault_step whole.messages whole.turns whole.alive whole.posted whole.agrees) whole.count fault_workers;
+    messages = all_worked (entry.Faulted p errno) whole.messages;
+    turns = all_turned (entry.Faulted p errno) whole.turns;
+    alive = whole.alive;
+    posted = whole.posted;
+    agrees = fault_agrees whole.messages whole.turns whole.alive whole.posted whole.agrees;
+  }
+
+  fault_no_answer : (v : Verdict) → Faulted errno ≡ Answered v → ⊥
+  fault_no_answer v e = cc
+
+  pub fault_follows : Follows old (entry.Faulted p errno) new
+  fault_follows i st alive kept = record {
+    workers = fault_workers ∙ kept.workers;
+    agrees = fault_agrees st.messages st.turns alive st.posted kept.agrees;
+    verdicts = verdicts_kept i st.messages (all_worked (entry.Faulted p errno) st.messages) old.calls new.calls p (λ q ne. fault_other q (st.messages q) ne) fault_states
+        (λ v s is copies. absurd (fault_no_answer v (same_Some (Faulted errno) (Answered v) (sym fault_state ∙ is)))) kept.verdicts;
+  }

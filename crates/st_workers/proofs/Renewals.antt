@@ -1,0 +1,154 @@
+-- What is kept agrees once a number is renewed: it has ended, and its call is posted anew.
+use Rattle.std.proofs.Common.{◌≡◌, ◌≢◌, ℕ, suc, ◌==◌, Bool, true, false, cond, length, IfSome, Option, Some, None, inl, inr, refl, ap, sym, ◌∙◌, subst}
+use Rattle.std.specs.Prelude.{if◌then◌else◌}
+use Rattle.std.specs.Option.{option_map}
+use Rattle.std.proofs.lemmas.Bool.{cases_eq, eq-eqb, ne_eqb}
+use Rattle.std.proofs.lemmas.Option.{none-some, same_Some}
+use Rattle.st_base.specs.declared.ids.Ids.{Ids}
+use Rattle.st_calls.specs.declared.judged.Verdict.{Verdict}
+use Rattle.st_lookaside.specs.Slot.{renewed, Slot}
+use Rattle.st_lookaside.specs.Slots.{slot_at, RenewsSlot}
+use Rattle.st_lookaside.specs.declared.head.Head as kept
+use Rattle.st_messages.specs.declared.message.Message as message
+use Rattle.st_messages.specs.declared.message.MsgState.TheVariants.{Waiting, Answered}
+use Rattle.st_messages.specs.Messages.{calls_after_cancel, calls_after_post, calls_after_renew, calls_after_renew_of, is_live, message_at, state_at, thread_at, HeldCalls, RenewsState}
+use Rattle.st_messages.proofs.Whole.{threads_cancelled}
+use Rattle.st_model.specs.Process.{Process}
+use Rattle.st_names.specs.Name.{Components}
+use Rattle.st_law.specs.declared.input.Input.{Input}
+use Rattle.st_law.specs.Messages.{renewed_head, Head}
+use Rattle.st_law.specs.State.{snapshot_of_message, Message}
+use Rattle.st_workers.specs.Kept.{head_of, messages_renewed, Agrees, AreKept, IsLive, IsWhole, RenewsLife}
+use Rattle.st_workers.specs.Leaving.{HasLeft}
+use Rattle.st_workers.specs.UnderWay.{found_in, Found, UnderWay}
+use Rattle.st_workers.proofs.Cancels.{ended_agrees, live_message, live_there, without_live, IsEnded}
+use Rattle.st_workers.proofs.Filled.{told}
+use Rattle.st_workers.proofs.Posts.{head_other, not_answer, posted_agrees, thread_other, with_head, with_live, IsPosted}
+
+-- what is found once a number has ended, where turns are found so
+abbrev pub found_without : Found → ℕ → Found → Found
+found_without old p new = record {
+  next = old.next;
+  state = λ q. if q == p then None else old.state q;
+  thread = λ q. if q == p then None else old.thread q;
+  slot = λ q. if q == p then None else old.slot q;
+  turn = new.turn;
+}
+
+renewed_calls : (calls : HeldCalls) (p : ℕ) (m : message.Message) → message_at calls p ≡ Some m → calls_after_renew calls p ≡ calls_after_post (calls_after_cancel calls p) m.tid
+renewed_calls calls p m is = ap (calls_after_renew_of calls p) is
+
+-- a head under another number, with these ids and this directory
+abbrev pub fresh_head : kept.Head → ℕ → Ids → Components → kept.Head
+fresh_head head seq ids cwd = record head { seq = seq; ids = ids; cwd = cwd }
+
+module _ (old new : UnderWay) (p : ℕ) (ids : Ids) (cwd : Components) (here : is_live old.calls p ≡ true) (calls : new.calls ≡ calls_after_renew old.calls p) (thread : thread_at new.calls old.calls.next ≡ thread_at old.calls p)
+    (states : RenewsState old.calls p old.calls.next new.calls) (slots : IfSome (slot_at old.slots p) (λ slot. RenewsSlot old.slots p old.calls.next (renewed slot old.calls.next ids cwd) new.slots))
+    (turns_left : HasLeft old.turns (state_at old.calls p) new.turns) (count : length new.turns ≡ length old.turns) where
+  message_there : (m : message.Message) × (message_at old.calls p ≡ Some m)
+  message_there = live_message old.calls p here
+
+  calls_are : new.calls ≡ calls_after_post (calls_after_cancel old.calls p) message_there.0.tid
+  calls_are = calls ∙ renewed_calls old.calls p message_there.0 message_there.1
+
+  threads_now : (q : ℕ) → q ≢ old.calls.next → thread_at new.calls q ≡ cond (q == p) None (thread_at old.calls q)
+  threads_now q ne = ap (λ (c : HeldCalls). thread_at c q) calls_are ∙ thread_other (calls_after_cancel old.calls p) message_there.0.tid q ne ∙ threads_cancelled old.calls p q
+
+  states_now : (q : ℕ) → q ≢ old.calls.next → state_at new.calls q ≡ cond (q == p) None (state_at old.calls q)
+  states_now q ne = states q ∙ ap (λ (b : Bool). cond b (Some Waiting) (cond (q == p) None (state_at old.calls q))) (ne_eqb q old.calls.next ne)
+
+  state_now : state_at new.calls old.calls.next ≡ Some Waiting
+  state_now = states old.calls.next ∙ ap (λ (b : Bool). cond b (Some Waiting) (cond (old.calls.next == p) None (state_at old.calls old.calls.next))) (eq-eqb old.calls.next old.calls.next refl)
+
+  ended : IsEnded (found_in old) (found_without (found_in old) p (found_in new)) p
+  ended =
+      let same : (p == p) ≡ true = eq-eqb p p refl in
+      record {
+        next = refl;
+        dead = record {
+          state = ap (λ (b : Bool). cond b None (state_at old.calls p)) same;
+          thread = ap (λ (b : Bool). cond b None (thread_at old.calls p)) same;
+          slot = ap (λ (b : Bool). cond b None (slot_at old.slots p)) same;
+        };
+        states = λ q ne. ap (λ (b : Bool). cond b None (state_at old.calls q)) (ne_eqb q p ne);
+        threads = λ q ne. ap (λ (b : Bool). cond b None (thread_at old.calls q)) (ne_eqb q p ne);
+        slots = λ q ne. ap (λ (b : Bool). cond b None (slot_at old.slots q)) (ne_eqb q p ne);
+        turn = turns_left;
+      }
+
+  module _ (messages : ℕ → Message) (turns : ℕ → Option ℕ) (alive : ℕ → Bool) (posted : ℕ) (agrees : Agrees messages turns alive posted (found_in old)) where
+    live : alive p ≡ true
+    live = live_there messages turns alive posted old agrees p here
+
+    pub was : IsLive turns p (messages p) (found_in old)
+    was = agrees.live p live
+
+    slots_are : RenewsSlot old.slots p old.calls.next (renewed was.slot old.calls.next ids cwd) new.slots
+    slots_are = told (slot_at old.slots p) (λ s. RenewsSlot old.slots p old.calls.next (renewed s old.calls.next ids cwd) new.slots) was.slot was.slot_is slots
+
+    is_posted : IsPosted (found_without (found_in old) p (found_in new)) (found_in new) old.calls.next was.tid (fresh_head was.slot.head old.calls.next ids cwd)
+    is_posted =
+        let fresh : Slot = renewed was.slot old.calls.next ids cwd in
+        record {
+          next = ap (λ (c : HeldCalls). c.next) calls_are;
+          state = state_now;
+          thread = thread ∙ was.thread_is;
+          slot = slots_are old.calls.next ∙ ap (λ (b : Bool). cond b (Some fresh) (cond (old.calls.next == p) None (slot_at old.slots old.calls.next))) (eq-eqb old.calls.next old.calls.next refl);
+          states = states_now;
+          threads = threads_now;
+          slots = λ q ne. slots_are q ∙ ap (λ (b : Bool). cond b (Some fresh) (cond (q == p) None (slot_at old.slots q))) (ne_eqb q old.calls.next ne);
+          turn = λ w. refl;
+        }
+
+    pub renewed_agrees : (later : ℕ → Bool) → RenewsLife alive p old.calls.next later → Agrees (with_head (head_of was.tid (fresh_head was.slot.head old.calls.next ids cwd)) old.calls.next messages) turns later (suc posted) (found_in new)
+    renewed_agrees later lives =
+        posted_agrees (found_without (found_in old) p (found_in new)) (found_in new) old.calls.next was.tid (fresh_head was.slot.head old.calls.next ids cwd) is_posted messages turns (without_live p alive) later posted
+        (ended_agrees (found_in old) (found_without (found_in old) p (found_in new)) p ended messages turns alive (without_live p alive) posted agrees live (λ other. refl)) refl lives
+
+    -- the message of the new number is the old one's, with the ids and the directory of its process
+    pub messages_are : (process : Process) → process.ids ≡ ids → process.cwd ≡ cwd → with_head (head_of was.tid (fresh_head was.slot.head old.calls.next ids cwd)) old.calls.next messages ≡ messages_renewed process p old.calls.next messages
+    messages_are process ids_is cwd_is =
+        let its : Head = head_of was.tid was.slot.head in
+        let renews : option_map (renewed_head process) (messages p).head ≡ Some (head_of was.tid (fresh_head was.slot.head old.calls.next ids cwd)) =
+        ap (option_map (renewed_head process)) was.is_slot.head ∙ (λ k. Some (record its { ids = ids_is k; cwd = cwd_is k })) in
+        let back = sym renews in
+        λ k q. record (messages q) { head = cond (old.calls.next == q) (back k) (messages q).head }
+
+  workers_now : new.calls.workers ≡ old.calls.workers
+  workers_now = ap (λ (c : HeldCalls). c.workers) calls_are
+
+  -- it stays whole
+  pub renewed_whole : IsWhole old → IsWhole new
+  renewed_whole whole =
+      let its : IsLive whole.turns p (whole.messages p) (found_in old) = was whole.messages whole.turns whole.alive whole.posted whole.agrees in
+      record {
+        count = count ∙ whole.count ∙ sym workers_now;
+        messages = with_head (head_of its.tid (fresh_head its.slot.head old.calls.next ids cwd)) old.calls.next whole.messages;
+        turns = whole.turns;
+        alive = with_live old.calls.next (without_live p whole.alive);
+        posted = suc whole.posted;
+        agrees = renewed_agrees whole.messages whole.turns whole.alive whole.posted whole.agrees (with_live old.calls.next (without_live p whole.alive)) (λ other. refl);
+      }
+
+  answered_before : (q : ℕ) (v : Verdict) → q ≢ old.calls.next → state_at new.calls q ≡ Some (Answered v) → state_at old.calls q ≡ Some (Answered v)
+  answered_before q v ne is = by (q == p) (sym (states_now q ne) ∙ is) where
+    by : (b : Bool) → cond b None (state_at old.calls q) ≡ Some (Answered v) → state_at old.calls q ≡ Some (Answered v)
+    by true e = absurd (none-some (Answered v) e)
+    by false e = e
+
+  -- it is what the machine keeps then
+  pub renewed_kept : (i : Input) (messages : ℕ → Message) (turns : ℕ → Option ℕ) (alive later : ℕ → Bool) (posted : ℕ) (process : Process) → AreKept i messages turns alive posted old → process.ids ≡ ids → process.cwd ≡ cwd
+      → RenewsLife alive p (suc posted) later → AreKept i (messages_renewed process p (suc posted) messages) turns later (suc posted) new
+  renewed_kept i messages turns alive later posted process kept ids_is cwd_is lives =
+      let its : IsLive turns p (messages p) (found_in old) = was messages turns alive posted kept.agrees in
+      let head : Head = head_of its.tid (fresh_head its.slot.head old.calls.next ids cwd) in
+      let lives_next : RenewsLife alive p old.calls.next later = subst (λ (n : ℕ). RenewsLife alive p n later) (sym kept.agrees.next) lives in
+      subst (λ (n : ℕ). AreKept i (messages_renewed process p n messages) turns later (suc posted) new) kept.agrees.next
+      (subst (λ (all : ℕ → Message). AreKept i all turns later (suc posted) new) (messages_are messages turns alive posted kept.agrees process ids_is cwd_is) (record {
+        workers = workers_now ∙ kept.workers;
+        agrees = renewed_agrees messages turns alive posted kept.agrees later lives_next;
+        verdicts = λ q v s is copies. elim (cases_eq q old.calls.next) [
+          | inl e ↦ absurd (not_answer v (same_Some Waiting (Answered v) (sym (ap (state_at new.calls) e ∙ state_now) ∙ is)))
+          | inr ne ↦ kept.verdicts q v s (answered_before q v ne is) (ap (snapshot_of_message q) (sym (head_other head old.calls.next messages q ne)) ∙ copies)
+        ];
+      }))

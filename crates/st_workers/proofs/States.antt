@@ -1,0 +1,41 @@
+-- How far a number has come, by what is kept and by the machine.
+use Rattle.std.proofs.Common.{◌≡◌, ℕ, Bool, true, false, Option, Some, None, refl, sym, subst}
+use Rattle.std.proofs.lemmas.Bool.{true≢false}
+use Rattle.std.proofs.lemmas.Option.{none-some}
+use Rattle.st_calls.specs.declared.judged.Snapshot.{Snapshot}
+use Rattle.st_effects.specs.Progress.{Look, Progress, Stuck, Word}
+use Rattle.st_effects.specs.Progress.{Ready as Whole}
+use Rattle.st_messages.specs.declared.message.MsgState.{MsgState}
+use Rattle.st_messages.specs.declared.message.MsgState.TheVariants.{Waiting, Claimed, Answered, Faulted}
+use Rattle.st_messages.specs.Messages.{state_at}
+use Rattle.st_law.specs.declared.input.Input.{Input}
+use Rattle.st_law.specs.Messages.{Head}
+use Rattle.st_law.specs.State.{is_live, is_ready, progress_in, snapshot_of_progress, snapshot_with, State}
+use Rattle.st_workers.specs.Kept.{head_of, HasComeTo, IsKept, IsLive, IsState}
+use Rattle.st_workers.specs.UnderWay.{found_in, UnderWay}
+
+ready_copies : (q : ℕ) (o : Option Head) (p : Progress) (head : Head) → o ≡ Some head → is_ready p ≡ true → (s : Snapshot) × (snapshot_of_progress q o p ≡ Some s)
+ready_copies q None p head is ready = absurd (none-some head is)
+ready_copies q (Some h) (Whole args) head is ready = (snapshot_with q h args, refl)
+ready_copies q (Some h) (Word part place) head is ready = absurd (true≢false (sym ready))
+ready_copies q (Some h) (Look part name) head is ready = absurd (true≢false (sym ready))
+ready_copies q (Some h) (Stuck errno) head is ready = absurd (true≢false (sym ready))
+
+module _ (i : Input) (st : State) (kept : UnderWay) (is : IsKept i st (is_live st) kept) (q : ℕ) where
+  come_live : is_live st q ≡ true → (state : MsgState) → state_at kept.calls q ≡ Some state → IsState st.turns q (st.messages q) state → IsLive st.turns q (st.messages q) (found_in kept) → HasComeTo i st q (Some state)
+  come_live live Waiting found come was = (live, come)
+  come_live live (Claimed w) found come was = (live, come.0)
+  come_live live (Answered v) found come was =
+      let copies = ready_copies q (st.messages q).head (progress_in st q) (head_of was.tid was.slot.head) was.is_slot.head come.1 in
+      (live, come.0, copies.0, copies.1, is.verdicts q v copies.0 found copies.1)
+  come_live live (Faulted errno) found come was = (live, come)
+
+  come_by : (b : Bool) → is_live st q ≡ b → HasComeTo i st q (state_at kept.calls q)
+  come_by true live =
+      let was : IsLive st.turns q (st.messages q) (found_in kept) = is.agrees.live q live in
+      subst (HasComeTo i st q) (sym was.state_is) (come_live live was.state was.state_is was.is_state was)
+  come_by false live = subst (HasComeTo i st q) (sym (is.agrees.dead q live).state) live
+
+  -- what is kept of a number is what the machine has of it
+  pub has_come_to : HasComeTo i st q (state_at kept.calls q)
+  has_come_to = come_by (is_live st q) refl

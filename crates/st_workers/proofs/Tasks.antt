@@ -1,0 +1,283 @@
+-- What a worker does next is what the machine has it do.
+use Rattle.std.proofs.Common.{◌≡◌, ◌≢◌, ◌≤◌, ℕ, ◌&&◌, ◌||◌, not, nat_lt, nat_le, Bool, true, false, cond, Option, Some, None, IfSome, IsSome, inl, inr, refl, ap, sym, ◌∙◌, subst, arith}
+use Rattle.std.proofs.lemmas.Bool.{cases_lt, le-leb, lt-ltb, true≢false}
+use Rattle.std.proofs.lemmas.Option.{none-some, same_Some}
+use Rattle.st_base.specs.declared.errno.Errno.{Errno}
+use Rattle.st_names.specs.Name.{Components}
+use Rattle.st_calls.specs.declared.judged.Snapshot.{Snapshot}
+use Rattle.st_effects.specs.Progress.{Progress, Word, Look, Stuck, Ready as Whole}
+use Rattle.st_filter.specs.Judging.{verdict}
+use Rattle.st_lookaside.specs.Slot.{Slot, progress_of, IsLookNext}
+use Rattle.st_lookaside.specs.Slots.{slot_at}
+use Rattle.st_messages.specs.declared.message.MsgState.{MsgState}
+use Rattle.st_messages.specs.declared.message.MsgState.TheVariants.{Waiting, Claimed, Answered, Faulted}
+use Rattle.st_messages.specs.Messages.{first_waiting, state_at, IsLeastWaiting}
+use Rattle.st_trace.specs.declared.entry.Entry.TheVariants as entry
+use Rattle.st_law.specs.declared.input.Input.{Input}
+use Rattle.st_law.specs.Machine.{answer_entry, claimed_entry, least_waiting, turn_entry, worker_entry, working_entry}
+use Rattle.st_law.specs.Messages.{Head}
+use Rattle.st_law.specs.State.{Message, State, is_live, is_ready, is_waiting, is_worker, progress_in, read_for, seq_at_work, snapshot_of_progress, worker_at}
+use Rattle.st_law.proofs.Least.{least}
+use Rattle.st_workers.specs.Kept.{at_work, Agrees, HasCome, IsKept, IsLive, IsState, IsTurn, IsWhole}
+use Rattle.st_workers.specs.Tasks.{idle_task, task_at, task_of, task_of_slot, task_of_turn, IsCopy, IsFault, IsLook, IsTask}
+use Rattle.st_workers.specs.UnderWay.{UnderWay, found_in, turn_at}
+use Rattle.st_workers.specs.declared.task.Task.TheVariants as task
+use Rattle.st_workers.specs.declared.turn.Turn.{Turn}
+use Rattle.st_workers.specs.declared.turn.Turn.TheVariants.{Idle, Working, Ready}
+use Rattle.st_workers.proofs.Claims.{live_by_state}
+use Rattle.st_workers.proofs.Copies.{same_progress}
+
+-- ---- what a task says of the worker
+
+idle_claims : (o : Option ℕ) → idle_task o ≡ task.Claim → IsSome o
+idle_claims None e = cc
+idle_claims (Some seq) e = refl
+
+slot_claims : (seq : ℕ) (o : Option Slot) → task_of_slot seq o ≡ task.Claim → ⊥
+slot_claims seq None e = cc
+slot_claims seq (Some slot) e = by (progress_of slot) e where
+  by : (p : Progress) → task_at seq p ≡ task.Claim → ⊥
+  by (Word part place) e = cc
+  by (Look part name) e = cc
+  by (Stuck errno) e = cc
+  by (Whole args) e = cc
+
+-- a worker that is to claim is idle, and a number waits
+pub claims_idle : (kept : UnderWay) (o : Option Turn) → task_of_turn kept o ≡ task.Claim → (o ≡ Some Idle) × IsSome (first_waiting kept.calls)
+claims_idle kept None e = cc
+claims_idle kept (Some Idle) e = (refl, idle_claims (first_waiting kept.calls) e)
+claims_idle kept (Some (Working seq)) e = absurd (slot_claims seq (slot_at kept.slots seq) e)
+claims_idle kept (Some (Ready s)) e = cc
+
+idle_rests : (o : Option ℕ) → idle_task o ≡ task.Answer → ⊥
+idle_rests None e = cc
+idle_rests (Some seq) e = cc
+
+ready_task : (seq : ℕ) (p : Progress) → task_at seq p ≡ task.Answer → is_ready p ≡ true
+ready_task seq (Word part place) e = cc
+ready_task seq (Look part name) e = cc
+ready_task seq (Stuck errno) e = cc
+ready_task seq (Whole args) e = refl
+
+module _ (kept : UnderWay) (whole : IsWhole kept) (w : ℕ) where
+  not_working : (seq : ℕ) → turn_at kept w ≡ Some (Working seq) → task_of_slot seq (slot_at kept.slots seq) ≡ task.Answer → ⊥
+  not_working seq working e =
+      let at : IsTurn whole.messages whole.alive (whole.turns w) (Working seq) = whole.agrees.workers w (Working seq) working in
+      let live : IsLive whole.turns seq (whole.messages seq) (found_in kept) = whole.agrees.live seq at.1 in
+      let same = same_progress (whole.messages seq) live.tid live.slot live.is_slot in
+      true≢false (sym (ready_task seq (progress_of live.slot) (sym (ap (task_of_slot seq) live.slot_is) ∙ e)) ∙ sym (ap is_ready same) ∙ at.2)
+
+  answers_by : (o : Option Turn) → turn_at kept w ≡ o → task_of_turn kept o ≡ task.Answer → (s : Snapshot) × (turn_at kept w ≡ Some (Ready s))
+  answers_by None o_is e = cc
+  answers_by (Some Idle) o_is e = absurd (idle_rests (first_waiting kept.calls) e)
+  answers_by (Some (Working seq)) o_is e = absurd (not_working seq o_is e)
+  answers_by (Some (Ready s)) o_is e = (s, o_is)
+
+  -- a worker that is to answer is ready
+  pub answers_ready : task_of kept w ≡ task.Answer → (s : Snapshot) × (turn_at kept w ≡ Some (Ready s))
+  answers_ready e = answers_by (turn_at kept w) refl e
+
+-- ---- the entry of the machine
+
+and_true : (a b : Bool) → a ≡ true → b ≡ true → (a && b) ≡ true
+and_true a b a_is b_is = ap (λ (x : Bool). x && b) a_is ∙ b_is
+
+-- a worker whose turn is kept is one of the input's
+pub worker_there : (i : Input) (st : State) (alive : ℕ → Bool) (kept : UnderWay) (w : ℕ) → 1 ≤ w → w ≤ kept.calls.workers → IsKept i st alive kept → is_worker i w ≡ true
+worker_there i st alive kept w from to is = and_true (nat_lt 0 w) (nat_le w i.options.workers) (lt-ltb 0 w from) (le-leb w i.options.workers (subst (λ (n : ℕ). w ≤ n) is.workers to))
+
+work_same : (st : State) (o : Option ℕ) → seq_at_work st o ≡ at_work st.messages (is_live st) o
+work_same st None = refl
+work_same st (Some q) = refl
+
+entry_by : (i : Input) (st : State) (w : ℕ) (o : Option ℕ) → is_worker i w ≡ true → worker_at st w ≡ o → worker_entry i st w ≡ turn_entry i st w o
+entry_by i st w o there at = ap (λ (b : Bool). cond b (turn_entry i st w (worker_at st w)) None) there ∙ ap (turn_entry i st w) at
+
+-- of what is sealed all is there
+pub sealed_ready : (q : ℕ) (o : Option Head) (p : Progress) (s : Snapshot) → snapshot_of_progress q o p ≡ Some s → is_ready p ≡ true
+sealed_ready q (Some head) (Whole args) s e = refl
+sealed_ready q (Some head) (Word part place) s e = absurd (none-some s e)
+sealed_ready q (Some head) (Look part name) s e = absurd (none-some s e)
+sealed_ready q (Some head) (Stuck errno) s e = absurd (none-some s e)
+sealed_ready q None p s e = absurd (none-some s e)
+
+-- ---- an idle worker
+
+waits_state : (turns : ℕ → Option ℕ) (q : ℕ) (m : Message) (state : MsgState) → IsState turns q m state → m.claimed ≡ false → state ≡ Waiting
+waits_state turns q m Waiting is e = refl
+waits_state turns q m (Claimed w) is e = absurd (true≢false (sym is.0.claimed ∙ e))
+waits_state turns q m (Answered v) is e = absurd (true≢false (sym is.0.claimed ∙ e))
+waits_state turns q m (Faulted errno) is e = absurd (true≢false (sym is.claimed ∙ e))
+
+and_not_parts : (a b : Bool) → (a && not b) ≡ true → (a ≡ true) × (b ≡ false)
+and_not_parts true true e = cc
+and_not_parts true false e = (refl, refl)
+and_not_parts false b e = cc
+
+module _ (st : State) (kept : UnderWay) (agrees : Agrees st.messages st.turns (is_live st) st.posted (found_in kept)) where
+  -- a number that waits in the machine waits here
+  waits_here : (q : ℕ) → is_waiting st q ≡ true → state_at kept.calls q ≡ Some Waiting
+  waits_here q is =
+      let parts = and_not_parts (is_live st q) (st.messages q).claimed is in
+      let live : IsLive st.turns q (st.messages q) (found_in kept) = agrees.live q parts.0 in
+      live.state_is ∙ ap Some (waits_state st.turns q (st.messages q) live.state live.is_state parts.1)
+
+  -- and the other way round
+  waits_there : (q : ℕ) → state_at kept.calls q ≡ Some Waiting → (is_waiting st q ≡ true) × (1 ≤ q) × (q ≤ st.posted)
+  waits_there q is =
+      let alive : is_live st q ≡ true = live_by_state st.messages st.turns (is_live st) st.posted (found_in kept) agrees q Waiting is (is_live st q) refl in
+      let live : IsLive st.turns q (st.messages q) (found_in kept) = agrees.live q alive in
+      let come : HasCome (st.messages q) false None false = subst (IsState st.turns q (st.messages q)) (same_Some live.state Waiting (sym live.state_is ∙ is)) live.is_state in
+      let given = agrees.given q alive in
+      (and_true (is_live st q) (not (st.messages q).claimed) alive (ap not come.claimed), given.0, given.1)
+
+  -- the number that is claimed is the machine's
+  pub least_is : (p : ℕ) → IsLeastWaiting kept.calls p → least_waiting st ≡ Some p
+  least_is p is = least (λ o. o ≡ Some p) (is_waiting st) 1 st.posted
+      (λ q x. ap Some (elim (cases_lt p q) [
+        | inl lt ↦ absurd (true≢false (sym (waits_there p is.waiting).0 ∙ x.least p (waits_there p is.waiting).1 lt))
+        | inr ge ↦ let le = is.least q (waits_here q x.holds) in omega (arith, ge, le)
+      ]))
+      (λ none. let there = waits_there p is.waiting in absurd (true≢false (sym there.0 ∙ none p there.1 (let inside = there.2 in omega (arith, inside)))))
+
+  pub least_none : ((q : ℕ) → state_at kept.calls q ≢ Some Waiting) → least_waiting st ≡ None
+  least_none none = least (λ o. o ≡ None) (is_waiting st) 1 st.posted (λ q x. absurd (none q (waits_here q x.holds))) (λ all. refl)
+
+module _ (i : Input) (st : State) (kept : UnderWay) (w : ℕ) (is : IsKept i st (is_live st) kept) (there : is_worker i w ≡ true) where
+  module _ (idle : turn_at kept w ≡ Some Idle) where
+    idle_at : worker_at st w ≡ None
+    idle_at = work_same st (st.turns w) ∙ is.agrees.workers w Idle idle
+
+    pub claim_entry : (p : ℕ) → IsLeastWaiting kept.calls p → worker_entry i st w ≡ Some (entry.Claimed w p)
+    claim_entry p least_p = entry_by i st w None there idle_at ∙ ap (claimed_entry w) (least_is st kept is.agrees p least_p)
+
+    pub rest_entry : ((q : ℕ) → state_at kept.calls q ≢ Some Waiting) → worker_entry i st w ≡ None
+    rest_entry none = entry_by i st w None there idle_at ∙ ap (claimed_entry w) (least_none st kept is.agrees none)
+
+  -- ---- a worker at a number
+
+  working_task : (q : ℕ) (p : Progress) → worker_at st w ≡ Some q → progress_in st q ≡ p → is_ready p ≡ false → IsTask i st kept w (task_at q p)
+  working_task q (Word part place) at p_is unready = entry_by i st w (Some q) there at ∙ ap (working_entry i st w q) p_is
+  working_task q (Look part name) at p_is unready = (name, entry_by i st w (Some q) there at ∙ ap (working_entry i st w q) p_is)
+  working_task q (Stuck errno) at p_is unready = entry_by i st w (Some q) there at ∙ ap (working_entry i st w q) p_is
+  working_task q (Whole args) at p_is unready = absurd (true≢false unready)
+
+  at_live : (o : Option ℕ) (q : ℕ) → o ≡ Some q → is_live st q ≡ true → seq_at_work st o ≡ Some q
+  at_live o q is live = ap (seq_at_work st) is ∙ ap (λ (b : Bool). cond (b || is_ready (progress_in st q)) (Some q) None) live
+
+  pub working_is : (q : ℕ) (slot : Slot) → turn_at kept w ≡ Some (Working q) → slot_at kept.slots q ≡ Some slot → IsTask i st kept w (task_at q (progress_of slot))
+  working_is q slot working slot_is =
+      let turn : IsTurn st.messages (is_live st) (st.turns w) (Working q) = is.agrees.workers w (Working q) working in
+      let live : IsLive st.turns q (st.messages q) (found_in kept) = is.agrees.live q turn.1 in
+      let same : progress_in st q ≡ progress_of slot = same_progress (st.messages q) live.tid live.slot live.is_slot ∙ ap progress_of (same_Some live.slot slot (sym live.slot_is ∙ slot_is)) in
+      working_task q (progress_of slot) (at_live (st.turns w) q turn.0 turn.1) same (ap is_ready (sym same) ∙ turn.2)
+
+  -- the machine's entry at a number that has come so far
+  pub working_entry_is : (q : ℕ) (slot : Slot) (p : Progress) → turn_at kept w ≡ Some (Working q) → slot_at kept.slots q ≡ Some slot → progress_of slot ≡ p → worker_entry i st w ≡ working_entry i st w q p
+  working_entry_is q slot p working slot_is p_is =
+      let turn : IsTurn st.messages (is_live st) (st.turns w) (Working q) = is.agrees.workers w (Working q) working in
+      let live : IsLive st.turns q (st.messages q) (found_in kept) = is.agrees.live q turn.1 in
+      let same : progress_in st q ≡ progress_of slot = same_progress (st.messages q) live.tid live.slot live.is_slot ∙ ap progress_of (same_Some live.slot slot (sym live.slot_is ∙ slot_is)) in
+      entry_by i st w (Some q) there (at_live (st.turns w) q turn.0 turn.1) ∙ ap (working_entry i st w q) (same ∙ p_is)
+
+  -- ---- a worker that is ready
+
+  or_right : (a b : Bool) → b ≡ true → (a || b) ≡ true
+  or_right true b e = refl
+  or_right false b e = e
+
+  answer_by : (q : ℕ) (p : Progress) (s : Snapshot) → progress_in st q ≡ p → is_ready p ≡ true → snapshot_of_progress q (st.messages q).head p ≡ Some s → working_entry i st w q p ≡ answer_entry i st w q (Some s)
+  answer_by q (Whole args) s p_is ready e = ap (answer_entry i st w q) e
+  answer_by q (Word part place) s p_is ready e = absurd (true≢false (sym ready))
+  answer_by q (Look part name) s p_is ready e = absurd (true≢false (sym ready))
+  answer_by q (Stuck errno) s p_is ready e = absurd (true≢false (sym ready))
+
+  pub ready_is : (s : Snapshot) → turn_at kept w ≡ Some (Ready s) → worker_entry i st w ≡ Some (entry.Answered w s (verdict (read_for i s.policy s.rule) s) (is_live st s.seq))
+  ready_is s ready =
+      let turn : IsTurn st.messages (is_live st) (st.turns w) (Ready s) = is.agrees.workers w (Ready s) ready in
+      let whole : is_ready (progress_in st s.seq) ≡ true = sealed_ready s.seq (st.messages s.seq).head (progress_in st s.seq) s turn.1 in
+      let at : worker_at st w ≡ Some s.seq = ap (seq_at_work st) turn.0 ∙ ap (λ (b : Bool). cond b (Some s.seq) None) (or_right (is_live st s.seq) (is_ready (progress_in st s.seq)) whole) in
+      entry_by i st w (Some s.seq) there at ∙ answer_by s.seq (progress_in st s.seq) s refl whole turn.1
+
+-- ---- what the code asks
+
+-- a number that has come so far has a slot
+pub state_slot : (kept : UnderWay) → IsWhole kept → (q : ℕ) (state : MsgState) → state_at kept.calls q ≡ Some state → (slot : Slot) × (slot_at kept.slots q ≡ Some slot)
+state_slot kept whole q state is =
+    let alive = live_by_state whole.messages whole.turns whole.alive whole.posted (found_in kept) whole.agrees q state is (whole.alive q) refl in
+    let live : IsLive whole.turns q (whole.messages q) (found_in kept) = whole.agrees.live q alive in
+    (live.slot, live.slot_is)
+
+-- and so has the number that a worker is at
+pub working_slot : (kept : UnderWay) → IsWhole kept → (w q : ℕ) → turn_at kept w ≡ Some (Working q) → (slot : Slot) × (slot_at kept.slots q ≡ Some slot)
+working_slot kept whole w q working =
+    let live : IsLive whole.turns q (whole.messages q) (found_in kept) = whole.agrees.live q (whole.agrees.workers w (Working q) working).1 in
+    (live.slot, live.slot_is)
+
+-- ---- what a task asks for
+
+word_by : (seq : ℕ) (p : Progress) → IsCopy (task_at seq p) → (part : ℕ) × (place : ℕ) × (p ≡ Word part place)
+word_by seq (Word part place) is = (part, place, refl)
+word_by seq (Look part name) is = absurd is
+word_by seq (Stuck errno) is = absurd is
+word_by seq (Whole args) is = absurd is
+
+look_by : (seq : ℕ) (p : Progress) → IsLook (task_at seq p) → (part : ℕ) × (name : Components) × (p ≡ Look part name)
+look_by seq (Word part place) is = absurd is
+look_by seq (Look part name) is = (part, name, refl)
+look_by seq (Stuck errno) is = absurd is
+look_by seq (Whole args) is = absurd is
+
+fault_by : (seq : ℕ) (p : Progress) → IsFault (task_at seq p) → (errno : Errno) × (p ≡ Stuck errno)
+fault_by seq (Word part place) is = absurd is
+fault_by seq (Look part name) is = absurd is
+fault_by seq (Stuck errno) is = (errno, refl)
+fault_by seq (Whole args) is = absurd is
+
+copy_parts : (seq : ℕ) (p : Progress) (q part place : ℕ) → task_at seq p ≡ task.Copy q part place → (seq ≡ q) × (p ≡ Word part place)
+copy_parts seq (Word a b) q part place e = (cc, cc)
+copy_parts seq (Look a b) q part place e = cc
+copy_parts seq (Stuck errno) q part place e = cc
+copy_parts seq (Whole args) q part place e = cc
+
+look_parts : (seq : ℕ) (p : Progress) (q part : ℕ) → task_at seq p ≡ task.Look q part → (seq ≡ q) × (name : Components) × (p ≡ Look part name)
+look_parts seq (Word a b) q part e = cc
+look_parts seq (Look a b) q part e = (cc, b, cc)
+look_parts seq (Stuck errno) q part e = cc
+look_parts seq (Whole args) q part e = cc
+
+fault_parts : (seq : ℕ) (p : Progress) (q : ℕ) (errno : Errno) → task_at seq p ≡ task.Fault q errno → (seq ≡ q) × (p ≡ Stuck errno)
+fault_parts seq (Word a b) q errno e = cc
+fault_parts seq (Look a b) q errno e = cc
+fault_parts seq (Stuck x) q errno e = (cc, cc)
+fault_parts seq (Whole args) q errno e = cc
+
+module _ (kept : UnderWay) (w seq : ℕ) (slot : Slot) (working : turn_at kept w ≡ Some (Working seq)) (there : slot_at kept.slots seq ≡ Some slot) where
+  -- the task of a worker at a number is what its slot asks for
+  pub task_is : task_of kept w ≡ task_at seq (progress_of slot)
+  task_is = ap (task_of_turn kept) working ∙ ap (task_of_slot seq) there
+
+  pub word_asked : IsCopy (task_of kept w) → (part : ℕ) × (place : ℕ) × (progress_of slot ≡ Word part place)
+  word_asked is = word_by seq (progress_of slot) (subst IsCopy task_is is)
+
+  pub look_asked : IsLook (task_of kept w) → (part : ℕ) × (name : Components) × (progress_of slot ≡ Look part name)
+  look_asked is = look_by seq (progress_of slot) (subst IsLook task_is is)
+
+  pub fault_asked : IsFault (task_of kept w) → (errno : Errno) × (progress_of slot ≡ Stuck errno)
+  fault_asked is = fault_by seq (progress_of slot) (subst IsFault task_is is)
+
+  pub copy_is : (q part place : ℕ) → task_of kept w ≡ task.Copy q part place → (seq ≡ q) × (progress_of slot ≡ Word part place)
+  copy_is q part place e = copy_parts seq (progress_of slot) q part place (sym task_is ∙ e)
+
+  pub look_is : (q part : ℕ) → task_of kept w ≡ task.Look q part → (seq ≡ q) × (name : Components) × (progress_of slot ≡ Look part name)
+  look_is q part e = look_parts seq (progress_of slot) q part (sym task_is ∙ e)
+
+  pub fault_is : (q : ℕ) (errno : Errno) → task_of kept w ≡ task.Fault q errno → (seq ≡ q) × (progress_of slot ≡ Stuck errno)
+  fault_is q errno e = fault_parts seq (progress_of slot) q errno (sym task_is ∙ e)
+
+-- the slot of a number at which a name is looked at
+pub look_slot : (kept : UnderWay) (w seq : ℕ) → IsWhole kept → turn_at kept w ≡ Some (Working seq) → IsLook (task_of kept w) → IsSome (slot_at kept.slots seq) × IfSome (slot_at kept.slots seq) (λ slot. IsLookNext (progress_of slot))
+look_slot kept w seq whole working is =
+    let slot = working_slot kept whole w seq working in
+    let asked = look_asked kept w seq slot.0 working slot.1 is in
+    (subst IsSome (sym slot.1) refl, subst (λ (o : Option Slot). IfSome o (λ s. IsLookNext (progress_of s))) (sym slot.1) (subst IsLookNext (sym asked.2) tt))

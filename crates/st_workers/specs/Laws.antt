@@ -1,0 +1,38 @@
+-- What holds of what is kept, whatever it is.
+use Rattle.std.specs.Prelude.{◌≡◌, ◌≢◌, ℕ, Bool, true, Some, Option}
+use Rattle.st_base.specs.declared.errno.Errno.{Errno}
+use Rattle.st_calls.specs.declared.judged.Snapshot.{Snapshot}
+use Rattle.st_calls.specs.declared.judged.Verdict.{Verdict}
+use Rattle.st_messages.specs.Messages.{HasNoNumber}
+use Rattle.st_names.specs.Name.{Components}
+use Rattle.st_names.specs.declared.seen.SeenText.{SeenText}
+use Rattle.st_trace.specs.declared.entry.Entry.{Entry}
+use Rattle.st_trace.specs.declared.entry.Entry.TheVariants.{Claimed, Copied, Looked, Faulted, Answered}
+use Rattle.st_law.specs.declared.input.Input.{Input}
+use Rattle.st_law.specs.Machine.{state_after}
+use Rattle.st_law.specs.Messages.{Head}
+use Rattle.st_law.specs.State.{Message, State, is_live}
+use Rattle.st_workers.specs.Kept.{AreKept}
+use Rattle.st_workers.specs.UnderWay.{UnderWay}
+
+-- whether messages are closed is not kept but by which are live
+abbrev pub ClosingIsNotKept : Type 0
+ClosingIsNotKept = (i : Input) (messages after : ℕ → Message) (turns : ℕ → Option ℕ) (alive : ℕ → Bool) (posted : ℕ) (kept : UnderWay) → AreKept i messages turns alive posted kept
+    → ((q : ℕ) → after q ≡ record (messages q) { closed = (after q).closed }) → AreKept i after turns alive posted kept
+
+-- a thread of which no live message is has no number
+abbrev pub OthersHaveNoNumber : Type 0
+OthersHaveNoNumber = (i : Input) (messages : ℕ → Message) (turns : ℕ → Option ℕ) (alive : ℕ → Bool) (posted : ℕ) (kept : UnderWay) (tid : ℕ) → AreKept i messages turns alive posted kept
+    → ((q : ℕ) (head : Head) → alive q ≡ true → (messages q).head ≡ Some head → head.tid ≢ tid) → HasNoNumber kept.calls tid
+
+-- an entry makes no number live and none dead
+abbrev pub LeavesLife : Entry → Type 0
+LeavesLife e = (i : Input) (st : State) (q : ℕ) → is_live (state_after i st e) q ≡ is_live st q
+
+-- no entry of a worker does
+pub record WorkersLeaveLife : Type 0 where
+  pub claimed : (w p : ℕ) → LeavesLife (Claimed w p)
+  pub copied : (p part place word : ℕ) → LeavesLife (Copied p part place word)
+  pub looked : (p part : ℕ) (name : Components) (seen : SeenText) → LeavesLife (Looked p part name seen)
+  pub faulted : (p : ℕ) (errno : Errno) → LeavesLife (Faulted p errno)
+  pub answered : (w : ℕ) (s : Snapshot) (v : Verdict) (applied : Bool) → LeavesLife (Answered w s v applied)

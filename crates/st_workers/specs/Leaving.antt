@@ -1,0 +1,26 @@
+-- The worker of a message that ends leaves it.
+use Rattle.std.specs.Prelude.{◌≡◌, ◌==◌, ℕ, Bool, false, if◌then◌else◌, List, Option, Some, None}
+use Rattle.st_base.specs.Numbered.{item_at_number}
+use Rattle.st_messages.specs.declared.message.MsgState.{MsgState}
+use Rattle.st_messages.specs.declared.message.MsgState.TheVariants.{Waiting, Claimed, Answered, Faulted}
+use Rattle.st_workers.specs.declared.turn.Turn.{Turn}
+use Rattle.st_workers.specs.declared.turn.Turn.TheVariants.{Idle, Working, Ready}
+
+-- whether a message is claimed by this worker
+abbrev pub is_claimed_by : Option MsgState → ℕ → Bool
+is_claimed_by None worker = false
+is_claimed_by (Some Waiting) worker = false
+is_claimed_by (Some (Claimed its)) worker = its == worker
+is_claimed_by (Some (Answered verdict)) worker = false
+is_claimed_by (Some (Faulted errno)) worker = false
+
+-- a worker that is ready stays so, and any other is idle
+abbrev pub left : Option Turn → Option Turn
+left None = None
+left (Some Idle) = Some Idle
+left (Some (Working seq)) = Some Idle
+left (Some (Ready copies)) = Some (Ready copies)
+
+-- the worker of a message has left it, and each other is at what it was
+abbrev pub HasLeft : List Turn → Option MsgState → List Turn → Type 0
+HasLeft old state new = (worker : ℕ) → item_at_number new worker ≡ (if is_claimed_by state worker then left (item_at_number old worker) else item_at_number old worker)

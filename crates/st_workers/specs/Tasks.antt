@@ -1,0 +1,92 @@
+-- What a worker does next, by what is kept and by the machine.
+use Rattle.std.specs.Prelude.{◌≡◌, ℕ, Option, Some, None}
+use Rattle.st_calls.specs.declared.judged.Snapshot.{Snapshot}
+use Rattle.st_effects.specs.Progress.{Progress, Word, Look, Stuck, Ready}
+use Rattle.st_filter.specs.Judging.{verdict}
+use Rattle.st_lookaside.specs.Slot.{Slot, progress_of}
+use Rattle.st_lookaside.specs.Slots.{slot_at}
+use Rattle.st_messages.specs.Messages.{first_waiting}
+use Rattle.st_model.specs.Tree.{look}
+use Rattle.st_names.specs.Name.{Components}
+use Rattle.st_trace.specs.declared.entry.Entry.TheVariants as entry
+use Rattle.st_law.specs.declared.input.Input.{Input}
+use Rattle.st_law.specs.Machine.{word_for, worker_entry}
+use Rattle.st_law.specs.State.{State, is_live, read_for}
+use Rattle.st_workers.specs.UnderWay.{UnderWay, turn_at}
+use Rattle.st_workers.specs.declared.task.Task.{Task}
+use Rattle.st_workers.specs.declared.task.Task.TheVariants.{Rest, Claim, Copy, Look as LookAt, Fault, Answer}
+use Rattle.st_workers.specs.declared.turn.Turn.{Turn}
+use Rattle.st_workers.specs.declared.turn.Turn.TheVariants as turn
+
+-- what an idle worker does, by the first number that waits
+abbrev pub idle_task : Option ℕ → Task
+idle_task None = Rest
+idle_task (Some seq) = Claim
+
+-- what a worker does at a number that has come so far
+abbrev pub task_at : ℕ → Progress → Task
+task_at seq (Word part place) = Copy seq part place
+task_at seq (Look part name) = LookAt seq part
+task_at seq (Stuck errno) = Fault seq errno
+task_at seq (Ready args) = Answer
+
+-- the same by its slot
+abbrev pub task_of_slot : ℕ → Option Slot → Task
+task_of_slot seq None = Rest
+task_of_slot seq (Some slot) = task_at seq (progress_of slot)
+
+-- what a worker does, by what it is at
+abbrev pub task_of_turn : UnderWay → Option Turn → Task
+task_of_turn kept None = Rest
+task_of_turn kept (Some turn.Idle) = idle_task (first_waiting kept.calls)
+task_of_turn kept (Some (turn.Working seq)) = task_of_slot seq (slot_at kept.slots seq)
+task_of_turn kept (Some (turn.Ready s)) = Answer
+
+-- what a worker does
+abbrev pub task_of : UnderWay → ℕ → Task
+task_of kept worker = task_of_turn kept (turn_at kept worker)
+
+-- a word is copied, a name is looked at, or an error is told
+abbrev pub IsBusy : Task → Type 0
+IsBusy Rest = ⊥
+IsBusy Claim = ⊥
+IsBusy (Copy seq part place) = Unit {0}
+IsBusy (LookAt seq part) = Unit {0}
+IsBusy (Fault seq errno) = Unit {0}
+IsBusy Answer = ⊥
+
+-- a word is copied
+abbrev pub IsCopy : Task → Type 0
+IsCopy Rest = ⊥
+IsCopy Claim = ⊥
+IsCopy (Copy seq part place) = Unit {0}
+IsCopy (LookAt seq part) = ⊥
+IsCopy (Fault seq errno) = ⊥
+IsCopy Answer = ⊥
+
+-- a name is looked at
+abbrev pub IsLook : Task → Type 0
+IsLook Rest = ⊥
+IsLook Claim = ⊥
+IsLook (Copy seq part place) = ⊥
+IsLook (LookAt seq part) = Unit {0}
+IsLook (Fault seq errno) = ⊥
+IsLook Answer = ⊥
+
+-- an error is told
+abbrev pub IsFault : Task → Type 0
+IsFault Rest = ⊥
+IsFault Claim = ⊥
+IsFault (Copy seq part place) = ⊥
+IsFault (LookAt seq part) = ⊥
+IsFault (Fault seq errno) = Unit {0}
+IsFault Answer = ⊥
+
+-- the machine has the worker do that: its next entry is that of the task
+abbrev pub IsTask : Input → State → UnderWay → ℕ → Task → Type 0
+IsTask i st kept worker Rest = worker_entry i st worker ≡ None
+IsTask i st kept worker Claim = (q : ℕ) × (worker_entry i st worker ≡ Some (entry.Claimed worker q))
+IsTask i st kept worker (Copy seq part place) = worker_entry i st worker ≡ Some (entry.Copied seq part place (word_for st seq place))
+IsTask i st kept worker (LookAt seq part) = (name : Components) × (worker_entry i st worker ≡ Some (entry.Looked seq part name (look st.tree name)))
+IsTask i st kept worker (Fault seq errno) = worker_entry i st worker ≡ Some (entry.Faulted seq errno)
+IsTask i st kept worker Answer = (s : Snapshot) × (turn_at kept worker ≡ Some (turn.Ready s)) × (worker_entry i st worker ≡ Some (entry.Answered worker s (verdict (read_for i s.policy s.rule) s) (is_live st s.seq)))

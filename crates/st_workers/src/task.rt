@@ -1,0 +1,18 @@
+use st_base::{Errno, Seq};
+
+/// What a worker does next. A message's arguments are numbered from 0 in their order.
+#[derive(Clone, Copy, Debug, PartialEq, Eq)]
+pub enum Task {
+    /// Nothing: it is at no number, and none waits.
+    Rest,
+    /// It claims the least number that waits.
+    Claim,
+    /// It copies the word at this place of memory for an argument.
+    Copy { seq: Seq, part: u32, place: u32 },
+    /// It looks at the next name of an argument's walk.
+    Look { seq: Seq, part: u32 },
+    /// It tells this error of a message.
+    Fault { seq: Seq, errno: Errno },
+    /// It answers a message of which all is there.
+    Answer,
+}
