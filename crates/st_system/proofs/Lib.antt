@@ -1,0 +1,10 @@
+mod Begun
+mod Ends
+mod Failures
+mod First
+mod Kept
+mod Living
+mod Plain
+mod Same
+mod Started
+mod Whole

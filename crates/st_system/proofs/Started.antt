@@ -1,0 +1,139 @@
+-- The parts that a run starts with are those of the machine's first record.
+use native.Mathlib.Omega.{arith}
+use Rattle.std.proofs.Common.{◌≡◌, ◌≢◌, ◌≤◌, ◌<◌, ◌∙◌, ℕ, zero, suc, ◌+◌, Bool, true, false, cond, ◌&&◌, ◌==◌, List, [], ◌∷◌, length, Option, Some, None, get_or, inl, inr, refl, ap, subst, sym}
+use Rattle.std.proofs.Math.ListN.{get_or-eq_default}
+use Rattle.std.proofs.lemmas.Bool.{and_from, and_parts, cases_lt, le-leb, leb-true, lt-leb, ne_eqb}
+use Rattle.std.proofs.lemmas.Option.{slice_get-get_or}
+use Rattle.std.specs.List.{fold}
+use Rattle.std.specs.Prelude.{nat_le, slice_get}
+use Rattle.st_base.specs.Numbered.{item_at_number}
+use Rattle.st_memory.specs.Memory.{Memories, is_live}
+use Rattle.st_model.specs.Descriptors.{Table, has_table}
+use Rattle.st_model.specs.Process.{Process}
+use Rattle.st_model.specs.Processes.{Processes, StartedThread, IsPid, no_process, next_pid, process_at, thread_at}
+use Rattle.st_model.specs.Tree.{Tree, root_only}
+use Rattle.st_request.specs.Ready.{IsReady}
+use Rattle.st_trace.specs.declared.start.ProcessRow.{ProcessRow}
+use Rattle.st_trace.specs.declared.start.ThreadRow.{ThreadRow}
+use Rattle.st_law.specs.declared.input.Input.{Input}
+use Rattle.st_law.specs.Machine.{first_state, first_thread}
+use Rattle.st_law.specs.Processes.{first_process, first_tree, process_count, process_of_row, tree_with_row}
+use Rattle.st_law.specs.State.{thread_count}
+use Rattle.st_law.specs.Threads.{first_owner, owner_of_row}
+use Rattle.st_system.specs.Start.{first_thread_of, AreFirst, HaveStarted}
+use Rattle.st_system.specs.System.{HasOwner, IsAmong, IsSystem, IsThread, IsWhole, Parts}
+
+-- nothing stands behind the last item of a list
+beyond : {X : Type 0} (items : List X) (k : ℕ) → length items ≤ k → slice_get items k ≡ None
+beyond [] k past = refl
+beyond (x ∷ items) zero past = absurd (omega (arith, past))
+beyond (x ∷ items) (suc k) past = beyond items k (omega (arith, past))
+
+-- within it something stands
+inside : {X : Type 0} (items : List X) (k : ℕ) → k < length items → (x : X) × (slice_get items k ≡ Some x)
+inside [] k low = absurd (omega (arith, low))
+inside (x ∷ items) zero low = (x, refl)
+inside (x ∷ items) (suc k) low = inside items k (omega (arith, low))
+
+module _ (i : Input) (tree : Tree) (table : Table) (first processes : Processes) (memories : Memories) (tree_is : tree ≡ fold tree_with_row root_only i.start.tree)
+    (x : AreFirst i (process_count i) table first memories) (y : HaveStarted i (thread_count i) first processes) (owners : (t : ℕ) → first_owner i t ≤ process_count i) where
+  abbrev parts : Parts
+  parts = record { tree = tree; descriptors = table; processes = processes; memories = memories }
+
+  next : next_pid processes ≡ suc (process_count i)
+  next = ap (λ rows. next_pid (record { rows = rows; threads = processes.threads })) y.rows ∙ x.next
+
+  same_row : (p : ℕ) → process_at processes p ≡ process_at first p
+  same_row p = ap (λ rows. process_at (record { rows = rows; threads = processes.threads }) p) y.rows
+
+  -- each process, whether it is there or not
+  process_is : (p : ℕ) → first_process i p ≡ process_at processes p
+  process_is zero = refl
+  process_is (suc k) = elim (cases_lt k (process_count i)) [
+    | inl inside ↦ sym (same_row (suc k) ∙ x.rows (suc k) (omega arith) (omega (arith, inside)))
+    | inr past ↦ ap (process_of_row i (suc k)) (beyond i.start.processes k past) ∙ sym (get_or-eq_default processes.rows no_process (let n = next in omega (arith, past, n)))
+  ]
+
+  own_space : (p : ℕ) → 1 ≤ p → p ≤ process_count i → (process_at processes p).space ≡ p
+  own_space zero low high = absurd (omega (arith, low))
+  own_space (suc k) low high =
+      let row = inside i.start.processes k (omega (arith, high)) in
+      ap (λ (process : Process). process.space) (sym (process_is (suc k)) ∙ ap (process_of_row i (suc k)) row.1)
+
+  among_pids : (p : ℕ) → IsPid processes p → (1 ≤ p) × (p ≤ process_count i)
+  among_pids p is = let n = next in let low = is.0 in let high = is.1 in (omega (arith, low), omega (arith, high, n))
+
+  is_pid : (p : ℕ) → 1 ≤ p → p ≤ process_count i → IsPid processes p
+  is_pid p low high = let n = next in (omega (arith, low), omega (arith, high, n))
+
+  -- ---- threads
+
+  -- of a thread of the script, by its number's place
+  none_behind : (t : ℕ) → thread_count i < t → first_owner i t ≡ 0
+  none_behind zero past = absurd (omega (arith, past))
+  none_behind (suc k) past = ap owner_of_row (beyond i.start.threads k (omega (arith, past)))
+
+  started : (t : ℕ) → t ≤ thread_count i → thread_at processes t ≡ first_thread_of (first_owner i t)
+  started t low = y.threads t ∙ ap (λ b. cond b (first_thread_of (first_owner i t)) None) (le-leb t (thread_count i) low)
+
+  unstarted : (t : ℕ) → thread_count i < t → thread_at processes t ≡ None
+  unstarted t past = y.threads t ∙ ap (λ b. cond b (first_thread_of (first_owner i t)) None) (lt-leb t (thread_count i) past)
+
+  module _ (t : ℕ) where
+    row_of : (owner : ℕ) → first_owner i t ≡ owner → IsThread (first_thread_of owner) (first_thread i t)
+    row_of zero e = (e, refl)
+    row_of (suc p) e = subst (λ (b : Bool). IsThread (cond b None (Some (record { pid = suc p; ended = false }))) (first_thread i t)) (sym (ne_eqb (suc p) 0 (λ z. omega (arith, z)))) (e, refl)
+
+    thread_is : IsThread (thread_at processes t) (first_thread i t)
+    thread_is = elim (cases_lt (thread_count i) t) [
+      | inl past ↦ subst (λ o. IsThread o (first_thread i t)) (sym (unstarted t past)) (none_behind t past, refl)
+      | inr low ↦ subst (λ o. IsThread o (first_thread i t)) (sym (started t low)) (row_of (first_owner i t) refl)
+    ]
+
+    among_of : (owner : ℕ) → first_owner i t ≡ owner → t ≤ thread_count i → IsAmong (thread_count i) t (first_thread_of owner)
+    among_of zero e low = tt
+    among_of (suc p) e low = subst (λ (b : Bool). IsAmong (thread_count i) t (cond b None (Some (record { pid = suc p; ended = false })))) (sym (ne_eqb (suc p) 0 (λ z. omega (arith, z)))) (positive t e, low) where
+      positive : (u : ℕ) → first_owner i u ≡ suc p → 1 ≤ u
+      positive zero e = absurd cc
+      positive (suc u) e = omega arith
+
+    thread_among : IsAmong (thread_count i) t (thread_at processes t)
+    thread_among = elim (cases_lt (thread_count i) t) [
+      | inl past ↦ subst (IsAmong (thread_count i) t) (sym (unstarted t past)) tt
+      | inr low ↦ subst (IsAmong (thread_count i) t) (sym (started t low)) (among_of (first_owner i t) refl low)
+    ]
+
+    owner_of : (owner : ℕ) → owner ≤ process_count i → HasOwner processes (first_thread_of owner)
+    owner_of zero low = tt
+    owner_of (suc p) low = subst (λ (b : Bool). HasOwner processes (cond b None (Some (record { pid = suc p; ended = false })))) (sym (ne_eqb (suc p) 0 (λ z. omega (arith, z)))) (is_pid (suc p) (omega arith) low)
+
+    owner_is : HasOwner processes (thread_at processes t)
+    owner_is = elim (cases_lt (thread_count i) t) [
+      | inl past ↦ subst (HasOwner processes) (sym (unstarted t past)) tt
+      | inr low ↦ subst (HasOwner processes) (sym (started t low)) (owner_of (first_owner i t) (owners t))
+    ]
+
+  pub whole_first : IsWhole parts
+  whole_first = record {
+    ordered = y.ordered;
+    owners = owner_is;
+    ready = λ p is. let at = among_pids p is in record {
+      table = x.has p ∙ and_from _ _ (le-leb 1 p at.0) (le-leb p (process_count i) at.1);
+      process = is;
+      space = ap (λ s. is_live memories s) (own_space p at.0 at.1) ∙ x.live p at.0 at.1;
+      real = x.real tree;
+    };
+    tables = λ p has. let both = and_parts (nat_le 1 p) (nat_le p (process_count i)) (sym (x.has p) ∙ has) in is_pid p (leb-true 1 p both.0) (leb-true p (process_count i) both.1);
+  }
+
+  pub system_first : IsSystem i (first_state i) parts
+  system_first = record {
+    tree = sym tree_is;
+    descriptors = sym x.table_is;
+    processes = process_is;
+    next_process = sym next;
+    memory = λ s b. sym (x.zeros s b);
+    next_space = sym x.next_space_is;
+    threads = thread_is;
+    among = thread_among;
+  }

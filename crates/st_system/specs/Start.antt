@@ -1,0 +1,55 @@
+-- Where a run starts: the parts, as the rows of a script leave them one after the other.
+use Rattle.std.specs.Prelude.{◌≡◌, ◌≤◌, ◌<◌, ◌^◌, ◌-◌, ℕ, suc, Bool, true, false, if◌then◌else◌, ◌==◌, ◌&&◌, nat_le, take, slice_get, List, [], ◌∷◌, ◌++◌, length, Option, Some, None}
+use Rattle.std.specs.List.{fold, range_with_len}
+use Rattle.st_memory.specs.Memory.{Memories, byte_in, is_live, next_space}
+use Rattle.st_model.specs.DescriptorCalls.{table_after_start}
+use Rattle.st_model.specs.Descriptors.{Table, has_table}
+use Rattle.st_model.specs.Process.{Process}
+use Rattle.st_model.specs.Processes.{Processes, StartedThread, IsPid, next_pid, process_at, thread_at}
+use Rattle.st_model.specs.Tree.{Tree, root_only}
+use Rattle.st_procs.specs.Laws.{AreOrdered}
+use Rattle.st_request.specs.Ready.{IsReal}
+use Rattle.st_tree.specs.Refusals.{add_refused}
+use Rattle.st_trace.specs.declared.start.ProcessRow.{ProcessRow}
+use Rattle.st_trace.specs.declared.start.TreeRow.{TreeRow}
+use Rattle.st_law.specs.declared.input.Input.{Input}
+use Rattle.st_law.specs.Processes.{first_ids, first_process, no_descriptors, process_count, tree_with_row}
+use Rattle.st_law.specs.State.{thread_count}
+use Rattle.st_law.specs.Threads.{first_owner}
+
+-- each of some rows can be put into the tree of those before it: nothing refuses it
+abbrev pub CanStand : List TreeRow → Type 0
+CanStand rows = (k : ℕ) (row : TreeRow) → slice_get rows k ≡ Some row → add_refused (fold tree_with_row root_only (take k rows)) row.name ≡ None
+
+-- an input whose run can start
+pub record CanStart (i : Input) : Type 0 where
+  pub tree : CanStand i.start.tree
+  pub few_processes : process_count i < 2 ^ 31
+  pub few_threads : thread_count i < 2 ^ 31
+  pub owners : (t : ℕ) → first_owner i t ≤ process_count i
+
+-- a process of a row, with a memory of this number
+abbrev pub process_of : Option (ℕ × ℕ) → ℕ → ProcessRow → Process
+process_of given space row = record { traced = row.traced; policy = row.binary; ids = first_ids given row.traced row.uid row.gid; cwd = row.cwd; space = space }
+
+-- so many processes have started, with descriptors and memories, and no thread
+pub record AreFirst (i : Input) (count : ℕ) (table : Table) (processes : Processes) (memories : Memories) : Type 0 where
+  pub table_is : table ≡ fold table_after_start no_descriptors (range_with_len 1 count)
+  pub has : (p : ℕ) → has_table table p ≡ (nat_le 1 p && nat_le p count)
+  pub real : (tree : Tree) → IsReal tree table
+  pub next : next_pid processes ≡ suc count
+  pub rows : (p : ℕ) → 1 ≤ p → p ≤ count → process_at processes p ≡ first_process i p
+  pub threads : processes.threads ≡ []
+  pub next_space_is : next_space memories ≡ suc count
+  pub live : (s : ℕ) → 1 ≤ s → s ≤ count → is_live memories s ≡ true
+  pub zeros : (s b : ℕ) → byte_in memories s b ≡ 0
+
+-- a thread that has started by its row, if it has
+abbrev pub first_thread_of : ℕ → Option StartedThread
+first_thread_of owner = if owner == 0 then None else Some (record { pid = owner; ended = false })
+
+-- the threads up to this number have started whose rows name a process, and no other
+pub record HaveStarted (i : Input) (count : ℕ) (before after : Processes) : Type 0 where
+  pub rows : after.rows ≡ before.rows
+  pub ordered : AreOrdered after
+  pub threads : (t : ℕ) → thread_at after t ≡ (if nat_le t count then first_thread_of (first_owner i t) else None)

@@ -1,0 +1,54 @@
+-- The parts of the modelled system as they are kept, against what the law's machine keeps of them.
+use Rattle.std.specs.Prelude.{◌≡◌, ◌≤◌, ℕ, true, false, Option, Some, None}
+use Rattle.st_request.specs.Ready.{IsReady}
+use Rattle.st_memory.specs.Memory.{Memories, byte_in, next_space}
+use Rattle.st_model.specs.Descriptors.{Table, has_table}
+use Rattle.st_model.specs.Processes.{Processes, StartedThread, IsPid, next_pid, process_at, thread_at}
+use Rattle.st_model.specs.Tree.{Tree}
+use Rattle.st_procs.specs.Laws.{AreOrdered}
+use Rattle.st_law.specs.declared.input.Input.{Input}
+use Rattle.st_law.specs.State.{State, ThreadState, thread_count}
+
+-- what calls are made over
+pub record Parts : Type 0 where
+  pub tree : Tree
+  pub descriptors : Table
+  pub processes : Processes
+  pub memories : Memories
+
+-- ---- what holds of the parts at all times
+
+-- the process of a thread that has started is there
+abbrev pub HasOwner : Processes → Option StartedThread → Type 0
+HasOwner processes None = Unit {0}
+HasOwner processes (Some thread) = IsPid processes thread.pid
+
+-- every process can make calls, and nothing else has descriptors or threads
+pub record IsWhole (parts : Parts) : Type 0 where
+  pub ordered : AreOrdered parts.processes
+  pub owners : (t : ℕ) → HasOwner parts.processes (thread_at parts.processes t)
+  pub ready : (p : ℕ) → IsPid parts.processes p → IsReady parts.tree parts.descriptors parts.processes parts.memories p
+  pub tables : (p : ℕ) → has_table parts.descriptors p ≡ true → IsPid parts.processes p
+
+-- ---- the parts against the machine's record
+
+-- a thread that has started, and whether it has ended; or one that hasn't started
+abbrev pub IsThread : Option StartedThread → ThreadState → Type 0
+IsThread None row = (row.owner ≡ 0) × (row.ended ≡ false)
+IsThread (Some thread) row = (row.owner ≡ thread.pid) × (row.ended ≡ thread.ended)
+
+-- a thread that has started is one of so many
+abbrev pub IsAmong : ℕ → ℕ → Option StartedThread → Type 0
+IsAmong count t None = Unit {0}
+IsAmong count t (Some thread) = (1 ≤ t) × (t ≤ count)
+
+-- the parts are those of the record
+pub record IsSystem (i : Input) (st : State) (parts : Parts) : Type 0 where
+  pub tree : st.tree ≡ parts.tree
+  pub descriptors : st.descriptors ≡ parts.descriptors
+  pub processes : (p : ℕ) → st.processes p ≡ process_at parts.processes p
+  pub next_process : st.next_process ≡ next_pid parts.processes
+  pub memory : (s b : ℕ) → st.memory s b ≡ byte_in parts.memories s b
+  pub next_space : st.next_space ≡ next_space parts.memories
+  pub threads : (t : ℕ) → IsThread (thread_at parts.processes t) (st.threads t)
+  pub among : (t : ℕ) → IsAmong (thread_count i) t (thread_at parts.processes t)

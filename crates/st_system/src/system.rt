@@ -1,0 +1,194 @@
+ghost use Rattle.std.specs.Prelude.{◌≡◌, ◌<◌, ℕ, true, cond, Option, IsSome, IfSome, IfOk, OnErr};
+ghost use Rattle.st_fds.specs.Table.{KeepsTables};
+ghost use Rattle.st_model.specs.DescriptorCalls.{table_after_close_all};
+ghost use Rattle.st_model.specs.Descriptors.{has_table};
+ghost use Rattle.st_calls.specs.Call.{follows};
+ghost use Rattle.st_effects.specs.System as effects;
+ghost use Rattle.st_model.specs.Processes.{IsPid, is_running, pid_of, process_at};
+ghost use Rattle.st_memory.specs.Memory.{byte_in};
+ghost use Rattle.st_model.specs.Memory.{word_of};
+ghost use Rattle.st_model.specs.Tree.{look};
+ghost use Rattle.st_names.specs.Seen.{seen_text};
+ghost use Rattle.st_model.specs.declared.limits.TheConstants.{SPACE_WORDS};
+ghost use Rattle.st_trace.specs.declared.entry.Entry.TheVariants.{Ended, Stored};
+ghost use Rattle.st_exec_fs.specs.Execution.{IsOnFiles};
+ghost use Rattle.st_exec_fs.specs.Open.{IsNoLink};
+ghost use Rattle.st_law.specs.declared.input.Input.{Input};
+ghost use Rattle.st_law.specs.Machine.{first_state, state_after};
+ghost use Rattle.st_law.specs.State.{State};
+ghost use Rattle.st_system.specs.Start.{CanStart};
+ghost use Rattle.st_system.specs.Steps.{IsMade, IsRequest};
+ghost use Rattle.st_system.specs.System.{IsSystem};
+
+use crate::start::{begin_threads, processes_of, tree_of};
+use st_base::{Ids, Pid, Text, Tid};
+use st_calls::SysCall;
+use st_exec_fs::execute_fs;
+use st_fds::Fds;
+use st_law::Input;
+use st_memory::Spaces;
+use st_names::{AbsName, Seen};
+use st_procs::Procs;
+use st_request::{Outcome, Request};
+use st_tree::Tree;
+use std::alloc::{AllocError, Global};
+use std::marker::Model;
+
+/// What system calls are made over: the file tree, descriptors, processes with their threads, and memories.
+#[derive(Debug, Drop)]
+pub struct System {
+    tree: Tree,
+    fds: Fds,
+    procs: Procs,
+    spaces: Spaces,
+}
+
+impl Model for System {
+    ghost use Rattle.st_system.specs.System.{IsWhole, Parts};
+
+    ghost Value = { Parts };
+
+    ghost view = { λ s. record { tree = s.tree; descriptors = s.fds; processes = s.procs; memories = s.spaces } };
+
+    ghost invariant = { λ s. IsWhole (record { tree = s.tree; descriptors = s.fds; processes = s.procs; memories = s.spaces }) };
+}
+
+// Closes the descriptors of a process, if it has ended.
+fn close_if(fds: &mut Fds, pid: Pid, has_ended: bool)
+    requires { has_table fds.old pid ≡ true }
+    ensures table { fds.new ≡ cond has_ended (table_after_close_all fds.old pid) fds.old }
+    ensures tables { KeepsTables fds.old fds.new }
+{
+    if has_ended {
+        fds.close_all(pid);
+    }
+}
+
+impl System {
+    /// The system that a run starts with: the tree, processes and threads of its script. An object, a process or a thread that a row
+    /// names can be there, as the reader of scripts sees to it.
+    pub fn start(alloc: Global, input: &Input) -> Result<Self, AllocError>
+        requires { CanStart input.now }
+        ensures { IfOk result (λ system. IsSystem input.now (first_state input.now) system) }
+    {
+        let tree = tree_of(alloc, input.start.tree.as_slice())?;
+        let (fds, mut procs, spaces) = processes_of(alloc, input)?;
+        begin_threads(&mut procs, input)?;
+        Ok(System {
+            tree,
+            fds,
+            procs,
+            spaces,
+        })
+    }
+
+    /// The process of a thread; none where it hasn't started.
+    pub fn pid_of(&self, tid: Tid) -> Option<Pid>
+        ensures pid { result ≡ pid_of self.now.processes tid }
+        ensures there { IfSome result (IsPid self.now.processes) }
+    {
+        self.procs.pid_of(tid)
+    }
+
+    /// Who a process is.
+    pub fn ids(&self, pid: Pid) -> Ids
+        requires { IsPid self.now.processes pid }
+        ensures { result ≡ (process_at self.now.processes pid).ids }
+    {
+        self.procs.ids(pid)
+    }
+
+    /// Where a process's names begin that aren't absolute.
+    pub fn cwd(&self, pid: Pid) -> &AbsName
+        requires { IsPid self.now.processes pid }
+        ensures { result.now ≡ (process_at self.now.processes pid).cwd }
+    {
+        self.procs.cwd(pid)
+    }
+
+    /// The binary whose policy applies to a process.
+    pub fn policy(&self, pid: Pid) -> &Text
+        requires { IsPid self.now.processes pid }
+        ensures { result.now ≡ (process_at self.now.processes pid).policy }
+    {
+        self.procs.policy(pid)
+    }
+
+    /// Whether policies apply to a process.
+    pub fn traced(&self, pid: Pid) -> bool
+        requires { IsPid self.now.processes pid }
+        ensures { result ≡ (process_at self.now.processes pid).traced }
+    {
+        self.procs.traced(pid)
+    }
+
+    /// The word at a place of a process's memory.
+    pub fn word(&self, pid: Pid, place: u32) -> u64
+        requires process { IsPid self.now.processes pid }
+        requires place { place < SPACE_WORDS }
+        ensures { result ≡ word_of (byte_in self.now.memories (process_at self.now.processes pid).space) place }
+    {
+        match self.spaces.word(self.procs.space(pid), place) {
+            Some(word) => word,
+            None => unreachable!(),
+        }
+    }
+
+    /// What is seen of a name.
+    pub fn look<'a>(&'a self, name: &AbsName) -> Seen<'a>
+        ensures { seen_text result ≡ look self.now.tree name.now }
+    {
+        self.tree.look(name)
+    }
+
+    /// Stores a word in the memory of a thread's process.
+    pub fn store(&mut self, tid: Tid, place: u32, word: u64)
+        requires started { IsSome (pid_of self.old.processes tid) }
+        requires place { place < SPACE_WORDS }
+        ensures processes { self.new.processes ≡ self.old.processes }
+        ensures system { (i : Input) (st : State) → IsSystem i st self.old → IsSystem i (state_after i st (Stored tid place word)) self.new }
+    {
+        let Some(pid) = self.procs.pid_of(tid) else {
+            unreachable!()
+        };
+        let space = self.procs.space(pid);
+        // The place lies in memory, so nothing refuses it.
+        let _ = self.spaces.put_word(space, place, word);
+    }
+
+    /// Ends a thread. With the last of its process the process ends, and its descriptors are closed.
+    pub fn end_thread(&mut self, tid: Tid)
+        requires { is_running self.old.processes tid ≡ true }
+        ensures { (i : Input) (st : State) → IsSystem i st self.old → IsSystem i (state_after i st (Ended tid)) self.new }
+    {
+        let Some(pid) = self.procs.pid_of(tid) else {
+            unreachable!()
+        };
+        let is_last = self.procs.end_thread(tid);
+        close_if(&mut self.fds, pid, is_last);
+    }
+
+    /// Makes a call on names and files. Without memory nothing changes.
+    pub fn execute(
+        &mut self,
+        alloc: Global,
+        call: SysCall,
+        request: &Request<'_>,
+    ) -> Result<Outcome, AllocError>
+        requires call { IsOnFiles call }
+        requires process { IsPid self.old.processes request.now.pid }
+        requires no_link { follows call request.now.regs 0 ≡ true → IsNoLink self.old.tree (effects.arg_name_at request.now 0) }
+        ensures made { IfOk result (λ outcome. (i : Input) (st : State) → IsSystem i st self.old → IsRequest i st request.now → (seq : Option ℕ) → IsMade i st seq call request.now outcome self.new) }
+        ensures err { OnErr result (self.new ≡ self.old) }
+    {
+        execute_fs(
+            &mut self.tree,
+            &mut self.fds,
+            &mut self.procs,
+            &mut self.spaces,
+            alloc,
+            call,
+            request,
+        )
+    }
+}
