@@ -193,6 +193,18 @@ impl AbsName {
         Ok(AbsName { text })
     }
 
+    /// The name that a component has below this one, which takes one piece of memory.
+    pub fn child(&self, alloc: Global, part: &[u8]) -> Result<Self, AllocError>
+        requires { has_slash part.now ≡ false }
+        ensures { IfOk result (λ name. name ≡ self.now ++ part.now ∷ []) }
+    {
+        let mut text = Vec::with_capacity(alloc, self.text.len() + 1 + part.len())?;
+        text.extend_from_slice(&self.text)?;
+        let mut name = AbsName { text };
+        name.push(part)?;
+        Ok(name)
+    }
+
     /// The name's text: `/` for the root, else a slash before each component.
     pub fn print(&self, alloc: Global) -> Result<Text, AllocError>
         ensures { IfOk result (λ text. text ≡ printed_name self.now) }

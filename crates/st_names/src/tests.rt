@@ -17,6 +17,7 @@ fn names_are_printed(rt: HostRuntime) -> Result<(), Fail> {
     assert!(rt; prints(alloc, &name.copy(alloc)?, b"/etc/passwd")?);
     name.pop();
     assert!(rt; prints(alloc, &name, b"/etc")?);
+    assert!(rt; prints(alloc, &name.child(alloc, b"group")?, b"/etc/group")?);
     assert!(rt; name.len() == 1 && name.last() == b"etc".as_slice());
     name.pop();
     name.pop();

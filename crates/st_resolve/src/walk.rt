@@ -174,8 +174,7 @@ impl Walk {
         let Some(part) = self.left.first() else {
             return Ok(None);
         };
-        let mut name = self.done.copy(alloc)?;
-        name.push(part)?;
+        let name = self.done.child(alloc, part)?;
         Ok(Some(name))
     }
 
