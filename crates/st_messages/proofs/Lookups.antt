@@ -3,13 +3,15 @@ use Rattle.std.proofs.Common.{zero, suc, ◌≡◌, ◌≢◌, ℕ, ◌<◌, ◌
 use Rattle.std.proofs.lemmas.Bool.{cases_eq, eq-eqb, ne_eqb, eqb-true, ltb-false, true≢false}
 use Rattle.std.proofs.lemmas.List.Folds.{find-append, find_at}
 use Rattle.std.proofs.lemmas.List.Quantifiers.{position-Some}
-use Rattle.std.proofs.lemmas.Option.{none-some, slice_get_past}
-use Rattle.std.specs.List.{position, position_or_len}
+use Rattle.std.proofs.lemmas.List.Sums.{position_or_len_is}
+use Rattle.std.proofs.lemmas.Option.{none-some, slice_get-get_or, slice_get_past}
+use Rattle.std.specs.List.{find, position, position_or_len}
 use Rattle.std.specs.Option.{option_map, option_or}
-use Rattle.std.specs.Prelude.{nat_lt}
+use Rattle.std.specs.Prelude.{nat_lt, slice_get}
 use Rattle.st_messages.specs.declared.message.MsgState.{MsgState}
 use Rattle.st_messages.specs.declared.message.Message.{Message}
-use Rattle.st_messages.specs.Messages.{has_number, message_in, waiting_message, with_state_in, without_number}
+use Rattle.st_messages.proofs.Ordered.{numbers_go_up}
+use Rattle.st_messages.specs.Messages.{AreBetween, has_number, message_in, waiting_message, with_state_in, without_number}
 
 cond_none : (b : Bool) → cond {A = Option Message} b None None ≡ None
 cond_none true = refl
@@ -57,17 +59,39 @@ nowhere : (n count : ℕ) (b : Bool) → nat_lt n count ≡ b → cond b (Some n
 nowhere n count true is none = absurd (none-some n (sym none))
 nowhere n count false is none = ltb-false n count is
 
--- a number that stands nowhere isn't live
-pub placed_nowhere : (live : List Message) (seq : ℕ) → position (has_number seq) live ≡ None → message_in live seq ≡ None
-placed_nowhere live seq none =
-    let n = position_or_len (has_number seq) live in
-    find_at (has_number seq) live ∙ slice_get_past live n (nowhere n (length live) (nat_lt n (length live)) refl none)
+-- what stands nowhere isn't found
+pub found_nowhere : (test : Message → Bool) (live : List Message) → position test live ≡ None → find test live ≡ None
+found_nowhere test live none =
+    let n = position_or_len test live in
+    find_at test live ∙ slice_get_past live n (nowhere n (length live) (nat_lt n (length live)) refl none)
 
--- the state of a message is changed where it stands
-pub set-placed : (live : List Message) (seq : ℕ) (state : MsgState) (i : ℕ) (m : Message) → position (has_number seq) live ≡ Some i → m ≡ get_or live i m → set live i (record m { state = state }) ≡ with_state_in live seq state
-set-placed live seq state i m is m_is =
-    let first = position-Some (has_number seq) live i m is in
-    subst (λ (x : Message). set live i (record x { state = state }) ≡ with_state_in live seq state) (sym m_is) (set-at live seq state i m first.0 first.1 first.2)
+-- what is found first stands first
+pub found_first : (test : Message → Bool) (live : List Message) (i : ℕ) (d : Message) → position test live ≡ Some i → find test live ≡ Some (get_or live i d)
+found_first test live i d is =
+    let first = position-Some test live i d is in
+    let at = position_or_len_is test live i d (omega (arith, first.0)) first.2 (λ _. first.1) in
+    find_at test live ∙ ap (slice_get live) at ∙ slice_get-get_or live i d first.0
+
+module _ (live : List Message) (from to i : ℕ) (m : Message) (are : AreBetween from live to) (inside : i < length live) (m_is : m ≡ get_or live i m) where
+  here : has_number m.seq (get_or live i m) ≡ true
+  here = eq-eqb (get_or live i m).seq m.seq (ap (λ (x : Message). x.seq) (sym m_is))
+
+  before : (k : ℕ) → k < i → has_number m.seq (get_or live k m) ≡ false
+  before k below =
+      let less : (get_or live k m).seq < m.seq = subst (λ (x : Message). (get_or live k m).seq < x.seq) (sym m_is) (numbers_go_up live from to i k m are inside below) in
+      ne_eqb (get_or live k m).seq m.seq (λ e. omega (arith, e, less))
+
+  -- a message is found where it stands
+  pub found_there : message_in live m.seq ≡ Some m
+  found_there =
+      find_at (has_number m.seq) live
+      ∙ ap (slice_get live) (position_or_len_is (has_number m.seq) live i m (omega (arith, inside)) before (λ _. here))
+      ∙ slice_get-get_or live i m inside
+      ∙ ap Some (sym m_is)
+
+  -- the state of a message is changed where it stands
+  pub set-placed : (state : MsgState) → set live i (moved state m) ≡ with_state_in live m.seq state
+  set-placed state = ap (λ (x : Message). set live i (moved state x)) m_is ∙ set-at live m.seq state i m inside here before
 
 -- ---- a message is taken out
 

@@ -1,5 +1,5 @@
 -- Messages in the order of their numbers: between which numbers they are, and which waits first.
-use Rattle.std.proofs.Common.{suc, ◌≡◌, ◌≢◌, ℕ, ◌<◌, ◌≤◌, Bool, true, false, ◌==◌, List, [], ◌∷◌, ◌++◌, Option, Some, None, inl, inr, refl, ap, sym, ◌∙◌, subst, arith}
+use Rattle.std.proofs.Common.{zero, suc, get_or, length, ◌≡◌, ◌≢◌, ℕ, ◌<◌, ◌≤◌, Bool, true, false, ◌==◌, List, [], ◌∷◌, ◌++◌, Option, Some, None, inl, inr, refl, ap, sym, ◌∙◌, subst, arith}
 use Rattle.std.proofs.lemmas.Bool.{cases_eq, eq-eqb, ne_eqb, true≢false}
 use Rattle.std.proofs.lemmas.Option.{none-some, same_Some}
 use Rattle.std.specs.List.{find}
@@ -58,6 +58,20 @@ found_below (x ∷ live) from to seq m are is = elim (cases_eq x.seq seq) [
   | inl e ↦ omega (arith, e, upper live (suc x.seq) to are.1)
   | inr ne ↦ found_below live (suc x.seq) to seq m are.1 (rw (ne_eqb x.seq seq ne) at is)
 ]
+
+-- ---- where a number stands
+
+no_less_at : (live : List Message) (from to i : ℕ) (d : Message) → AreBetween from live to → i < length live → from ≤ (get_or live i d).seq
+no_less_at [] from to i d are inside = absurd (omega (arith, inside))
+no_less_at (m ∷ live) from to zero d are inside = are.0
+no_less_at (m ∷ live) from to (suc i) d are inside = omega (arith, are.0, no_less_at live (suc m.seq) to i d are.1 (omega (arith, inside)))
+
+-- what stands before has a smaller number
+pub numbers_go_up : (live : List Message) (from to i k : ℕ) (d : Message) → AreBetween from live to → i < length live → k < i → (get_or live k d).seq < (get_or live i d).seq
+numbers_go_up [] from to i k d are inside below = absurd (omega (arith, inside))
+numbers_go_up (m ∷ live) from to zero k d are inside below = absurd (omega (arith, below))
+numbers_go_up (m ∷ live) from to (suc i) zero d are inside below = no_less_at live (suc m.seq) to i d are.1 (omega (arith, inside))
+numbers_go_up (m ∷ live) from to (suc i) (suc k) d are inside below = numbers_go_up live (suc m.seq) to i k d are.1 (omega (arith, inside)) (omega (arith, below))
 
 -- ---- which waits first
 

@@ -26,6 +26,13 @@ fn is_waiting(message: &Message) -> bool
     matches!(message.state, MsgState::Waiting)
 }
 
+/// The place of the first message that waits.
+pub fn waiting_place(live: &[Message]) -> Option<usize>
+    ensures { result ≡ position is_waiting live.now }
+{
+    live.iter().position(is_waiting)
+}
+
 /// The first message that waits.
 pub fn first_waiting(live: &[Message]) -> Option<Message>
     ensures { result ≡ find is_waiting live.now }

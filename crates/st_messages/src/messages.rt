@@ -1,5 +1,6 @@
-ghost use Rattle.std.specs.Prelude.{◌≡◌, ◌≢◌, ℕ, ◌-◌, ◌^◌, ◌<◌, ◌↔◌, [], Some, None, true, IsNone, IfSome, IfOk, OnOk, OnErr};
+ghost use Rattle.std.specs.Prelude.{◌≡◌, ◌≢◌, ℕ, ◌-◌, ◌^◌, ◌<◌, ◌↔◌, [], Some, None, true, length, get_or, IsNone, IfSome, IfOk, OnOk, OnErr};
 ghost use Rattle.st_messages.specs.declared.message.Delivered.TheVariants.{Applied, Stale};
+ghost use Rattle.st_messages.specs.declared.message.Message.{Message};
 ghost use Rattle.st_messages.specs.declared.message.MsgState.TheVariants.{Waiting, Claimed, Answered, Faulted};
 ghost use Rattle.st_messages.specs.Messages.{first_waiting, is_claimed, is_live, state_at, thread_at, with_state, calls_after_post, calls_after_cancel, calls_after_renew, ChangesState, HasNoNumber, IsLeastWaiting, IsWorker, RenewsState};
 
@@ -69,6 +70,19 @@ impl Messages {
         Some(live::message_of(&self.live, seq)?.state)
     }
 
+    // Gives the message at a place another state, and its number.
+    fn set_state_at(&mut self, place: usize, state: MsgState) -> Seq
+        requires place { place < length self.old.live }
+        requires worker { (worker : ℕ) → state ≡ Claimed worker → IsWorker self.old worker }
+        ensures seq { (default : Message) → result ≡ (get_or self.old.live place default).seq }
+        ensures calls { self.new ≡ with_state self.old result state }
+        ensures states { ChangesState self.old result (Some state) self.new }
+    {
+        let message = &mut self.live[place];
+        message.state = state;
+        message.seq
+    }
+
     // Gives a live message another state.
     fn set_state(&mut self, seq: Seq, state: MsgState)
         requires live { is_live self.old seq ≡ true }
@@ -76,8 +90,8 @@ impl Messages {
         ensures calls { self.new ≡ with_state self.old seq state }
         ensures states { ChangesState self.old seq (Some state) self.new }
     {
-        if let Some(i) = live::place_of(&self.live, seq) {
-            self.live[i].state = state;
+        if let Some(place) = live::place_of(&self.live, seq) {
+            self.set_state_at(place, state);
         }
     }
 
@@ -112,9 +126,8 @@ impl Messages {
         ensures states { IfSome result (λ seq. ChangesState self.old seq (Some (Claimed worker)) self.new) }
         ensures unchanged { result ≡ None → self.new ≡ self.old }
     {
-        let seq = self.least_waiting()?;
-        self.set_state(seq, MsgState::Claimed(worker));
-        Some(seq)
+        let place = live::waiting_place(&self.live)?;
+        Some(self.set_state_at(place, MsgState::Claimed(worker)))
     }
 
     /// The least number that waits, which is claimed next; none exactly where no number waits.

@@ -1,31 +1,29 @@
-use Rattle.std.proofs.Common.{◌≡◌, ◌∙◌, Some, None, ap, sym, subst}
-use Rattle.std.proofs.lemmas.Bool.{true≢false}
+use Rattle.std.proofs.Common.{◌≡◌, ◌∙◌, Some, None, ap, subst, sym}
+use Rattle.std.proofs.lemmas.Bool.{eqb-true, true≢false}
+use Rattle.std.proofs.lemmas.List.Quantifiers.{position-Some}
 use Rattle.std.specs.List.{position}
-use Rattle.std.specs.Prelude.{is_some, slice_set}
-use Rattle.st_messages.specs.Messages.{HeldCalls, has_number, is_live, message_in, with_state, with_state_in, ChangesState, IsWhole}
-use Rattle.st_messages.proofs.Lookups.{moved, placed_nowhere, set-placed}
-use Rattle.st_messages.proofs.Whole.{states_moved, whole-moved}
+use Rattle.std.specs.Prelude.{is_some}
+use Rattle.st_messages.specs.Messages.{HeldCalls, has_number, is_live, message_in, waiting_message, with_state, ChangesState}
+use Rattle.st_messages.proofs.Lookups.{found_nowhere}
 use Rattle.st_messages.proofs.messages.Messages.set_state.Goals as goal
 
-placed : (c : goal.After-self-1) → slice_set c.self.inside.live.items c.in-Some.i (moved c.args.state c.index_mut.result.now) ≡ with_state_in c.self.inside.live.items c.args.seq c.args.state
-placed c = set-placed c.self.inside.live.items c.args.seq c.args.state c.in-Some.i c.index_mut.result.now (sym (c.place_of.ensures ∙ ap (position (has_number c.args.seq)) c.deref.ensures.value) ∙ c.in-Some.is) c.index_mut.ensures.value
-
-left : (c : goal.After-self-1) → record { workers = c.self.inside.workers; next = c.self.inside.next; live = slice_set c.self.inside.live.items c.in-Some.i (moved c.args.state c.index_mut.result.now) } ≡ with_state c.args.self.now c.args.seq c.args.state
-left c = ap (λ live. record { workers = c.self.inside.workers; next = c.self.inside.next; live = live }) (placed c) ∙ ap (λ (calls : HeldCalls). with_state calls c.args.seq c.args.state) c.self.view_is
-
-pub invariant_of-self : goal.invariant_of-self
-invariant_of-self c = subst IsWhole (sym (left c)) (whole-moved c.args.self.now c.args.seq c.args.state (subst IsWhole c.self.view_is c.self.invariant) c.requires.live c.requires.worker)
+-- the message at the place has the number
+number : (c : goal.After-set_state_at) → c.set_state_at.result ≡ c.args.seq
+number c =
+    let default = waiting_message 0 0 in
+    let is = ap (λ (calls : HeldCalls). position (has_number c.args.seq) calls.live) (sym c.self.view_is) ∙ sym (c.place_of.ensures ∙ ap (position (has_number c.args.seq)) c.deref.ensures.value) ∙ c.in-Some.is in
+    c.set_state_at.ensures.seq default ∙ eqb-true _ c.args.seq (position-Some (has_number c.args.seq) c.args.self.now.live c.in-Some.place default is).1
 
 pub returns-in-Some-clause-calls : goal.returns-in-Some-clause-calls
-returns-in-Some-clause-calls c = left c
+returns-in-Some-clause-calls c = c.set_state_at.ensures.calls ∙ ap (λ seq. with_state c.args.self.now seq c.args.state) (number c)
 
 pub returns-in-Some-clause-states : goal.returns-in-Some-clause-states
-returns-in-Some-clause-states c = subst (ChangesState c.args.self.now c.args.seq (Some c.args.state)) (sym (left c)) (states_moved c.args.self.now c.args.seq c.args.state c.requires.live)
+returns-in-Some-clause-states c = subst (λ seq. ChangesState c.args.self.now seq (Some c.args.state) c.set_state_at.new.self) (number c) c.set_state_at.ensures.states
 
 -- a live number stands somewhere
 nowhere : (c : goal.In_default) → ⊥
 nowhere c =
-    let none : message_in c.self.inside.live.items c.args.seq ≡ None = placed_nowhere c.self.inside.live.items c.args.seq (sym (c.place_of.ensures ∙ ap (position (has_number c.args.seq)) c.deref.ensures.value) ∙ c.in_default.is) in
+    let none : message_in c.self.inside.live.items c.args.seq ≡ None = found_nowhere (has_number c.args.seq) c.self.inside.live.items (sym (c.place_of.ensures ∙ ap (position (has_number c.args.seq)) c.deref.ensures.value) ∙ c.in_default.is) in
     true≢false (sym c.requires.live ∙ sym (ap (λ (calls : HeldCalls). is_live calls c.args.seq) c.self.view_is) ∙ ap is_some none)
 
 pub returns-in_default-clause-calls : goal.returns-in_default-clause-calls
