@@ -1,0 +1,39 @@
+ghost use Rattle.std.specs.Prelude.{◌≡◌, ◌<◌, IfOk};
+
+use st_messages::Messages;
+use std::alloc::{AllocError, Global};
+
+// So many messages, of as many threads, that wait.
+#[tactic(auto, using(crate::proofs::Posted::posted))]
+fn waiting(alloc: Global, count: u32) -> Result<Messages, AllocError>
+    requires { count < 100 }
+    ensures { IfOk result (λ messages. messages.workers ≡ 1) }
+{
+    let mut messages = Messages::new(alloc, 1);
+    for tid in 0..count {
+        messages.post(tid)?;
+    }
+    Ok(messages)
+}
+
+// The sum of the numbers of 64 messages, each claimed.
+fn claim_all(mut messages: Messages) -> u64
+    requires { messages.workers ≡ 1 }
+{
+    let mut sum: u64 = 0;
+    for _ in 0..64 {
+        if let Some(seq) = messages.claim(1) {
+            sum = sum.wrapping_add(seq);
+        }
+    }
+    sum
+}
+
+/// The sum of the numbers that a worker claims, 64 at a time, so many times over.
+pub fn claims(alloc: Global, count: u64) -> Result<u64, AllocError> {
+    let mut sum: u64 = 0;
+    for _ in 0..count {
+        sum = sum.wrapping_add(claim_all(waiting(alloc, 64)?));
+    }
+    Ok(sum)
+}
