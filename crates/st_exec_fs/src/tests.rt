@@ -73,11 +73,11 @@ fn is_no_link(tree: &Tree, name: &AbsName) -> bool
     }
 }
 
-// The argument that is a call's name.
-fn argument(alloc: Global, name: &[u8]) -> Result<ArgText, AllocError> {
+// A name of a call.
+fn argument(alloc: Global, index: u32, name: &[u8]) -> Result<ArgText, AllocError> {
     Ok(ArgText {
         label: Label::Filename,
-        index: 0,
+        index,
         text: Text::of(alloc, name)?,
     })
 }
@@ -121,7 +121,7 @@ fn files_are_opened_made_and_cut(rt: HostRuntime) -> Result<(), Fail> {
     let alloc = rt.alloc();
     for (uid, name, flags, wanted, size) in cases {
         let mut world = start_world(alloc)?;
-        let args = [argument(alloc, name)?];
+        let args = [argument(alloc, 0, name)?];
         let request = request_of(uid, &args, [0, flags, 0o7640]);
         let given = opened(&mut world, alloc, &request)?;
         assert_eq!(rt; given, wanted, "{flags}");
@@ -134,7 +134,7 @@ fn files_are_opened_made_and_cut(rt: HostRuntime) -> Result<(), Fail> {
 
 // What cutting the file gives; a link, which it isn't, isn't cut.
 fn cut(tree: &mut Tree, alloc: Global, len: u64) -> Result<CallResult, AllocError> {
-    let args = [argument(alloc, b"/f")?];
+    let args = [argument(alloc, 0, b"/f")?];
     let request = request_of(0, &args, [0, len, 0]);
     if !is_no_link(tree, &request.name(alloc, 0)?) {
         return Ok(Failed(Errno::ELOOP));
@@ -156,22 +156,39 @@ fn a_file_is_cut_and_extended(rt: HostRuntime) -> Result<(), Fail> {
     Ok(())
 }
 
-// What any call gives, with this name and these registers; one on a link, of which there are none, fails.
+// Whether a call is one of those that are made below.
+fn is_made(call: SysCall) -> bool
+    ensures { result ≡ true → IsOnFiles call }
+{
+    matches!(
+        call,
+        SysCall::Open
+            | SysCall::Read
+            | SysCall::Write
+            | SysCall::Lseek
+            | SysCall::Stat
+            | SysCall::Lstat
+            | SysCall::Unlink
+            | SysCall::Rename
+            | SysCall::Mkdir
+    )
+}
+
+// What a call gives, with these texts and registers; one that isn't made, and one on a link, of which there are none, fails.
 fn called(
     world: &mut World,
     alloc: Global,
     call: SysCall,
-    name: &[u8],
+    texts: [&[u8]; 2],
     regs: [u64; 3],
 ) -> Result<CallResult, AllocError>
-    requires call { IsOnFiles call }
-    requires ready { IsReady world.old.tree world.old.fds world.old.procs world.old.spaces 1 }
+    requires { IsReady world.old.tree world.old.fds world.old.procs world.old.spaces 1 }
     ensures { OnOk result (IsReady world.new.tree world.new.fds world.new.procs world.new.spaces 1) }
 {
-    let args = [argument(alloc, name)?];
+    let args = [argument(alloc, 0, texts[0])?, argument(alloc, 1, texts[1])?];
     let request = request_of(0, &args, regs);
-    if !is_no_link(&world.tree, &request.name(alloc, 0)?) {
-        return Ok(Failed(Errno::ELOOP));
+    if !is_made(call) || !is_no_link(&world.tree, &request.name(alloc, 0)?) {
+        return Ok(Failed(Errno::ENOSYS));
     }
     let outcome = execute_fs(
         &mut world.tree,
@@ -185,17 +202,61 @@ fn called(
     Ok(outcome.result)
 }
 
+// A call, its texts and its registers, and what it gives, one after the other.
 #[test]
 fn an_unlinked_file_is_read(rt: HostRuntime) -> Result<(), Fail> {
+    let cases: [(SysCall, [&[u8]; 2], [u64; 3], CallResult); 4] = [
+        (SysCall::Open, [b"/f", b""], [0, O_RDONLY, 0], Value(3)),
+        (SysCall::Unlink, [b"/f", b""], [0; 3], Value(0)),
+        (SysCall::Stat, [b"/f", b""], [0; 3], Failed(Errno::ENOENT)),
+        (SysCall::Read, [b"", b""], [3, 8, 9], Value(5)),
+    ];
     let alloc = rt.alloc();
     let mut world = start_world(alloc)?;
-    let opened = called(&mut world, alloc, SysCall::Open, b"/f", [0, O_RDONLY, 0])?;
-    assert_eq!(rt; opened, Value(3));
-    let unlinked = called(&mut world, alloc, SysCall::Unlink, b"/f", [0, 0, 0])?;
-    assert_eq!(rt; unlinked, Value(0));
-    let read = called(&mut world, alloc, SysCall::Read, b"", [3, 8, 9])?;
-    assert_eq!(rt; read, Value(5));
+    for (call, texts, regs, wanted) in cases {
+        let given = called(&mut world, alloc, call, texts, regs)?;
+        assert_eq!(rt; given, wanted, "{regs:?}");
+    }
     let bytes = world.spaces.bytes(alloc, world.procs.space(1), 8, 5)?;
     assert_eq!(rt; bytes.bytes(), b"hello".as_slice());
+    Ok(())
+}
+
+// The same, and what is in memory then: the bytes of the file, and its size.
+#[test]
+fn a_file_below_a_renamed_directory_stays_open(rt: HostRuntime) -> Result<(), Fail> {
+    let cases: [(SysCall, [&[u8]; 2], [u64; 3], CallResult); 11] = [
+        (SysCall::Open, [b"/f", b""], [0, O_RDONLY, 0], Value(3)),
+        (SysCall::Read, [b"", b""], [3, 16, 5], Value(5)),
+        (SysCall::Mkdir, [b"/d", b""], [0, 0o755, 0], Value(0)),
+        (
+            SysCall::Open,
+            [b"/d/n", b""],
+            [0, O_CREAT | O_RDWR, 0o644],
+            Value(4),
+        ),
+        (SysCall::Write, [b"", b""], [4, 16, 2], Value(2)),
+        (SysCall::Rename, [b"/d", b"/e"], [0; 3], Value(0)),
+        (
+            SysCall::Stat,
+            [b"/d/n", b""],
+            [0, 64, 0],
+            Failed(Errno::ENOENT),
+        ),
+        (SysCall::Write, [b"", b""], [4, 18, 3], Value(3)),
+        (SysCall::Lstat, [b"/e/n", b""], [0, 64, 0], Value(0)),
+        (SysCall::Lseek, [b"", b""], [4, 0, 0], Value(0)),
+        (SysCall::Read, [b"", b""], [4, 8, 9], Value(5)),
+    ];
+    let alloc = rt.alloc();
+    let mut world = start_world(alloc)?;
+    for (call, texts, regs, wanted) in cases {
+        let given = called(&mut world, alloc, call, texts, regs)?;
+        assert_eq!(rt; given, wanted, "{regs:?}");
+    }
+    let space = world.procs.space(1);
+    let bytes = world.spaces.bytes(alloc, space, 8, 5)?;
+    assert_eq!(rt; bytes.bytes(), b"hello".as_slice());
+    assert_eq!(rt; world.spaces.word(space, 12), Some(5));
     Ok(())
 }
