@@ -2,5 +2,6 @@ pub mod Callers
 pub mod Parts
 pub mod Places
 pub mod Progress
+pub mod SlotRows
 pub mod Turns
 pub mod Undone
