@@ -1,0 +1,6 @@
+pub mod Drawn
+pub mod Life
+pub mod LifeByEntry
+pub mod Owning
+pub mod OwnedKept
+pub mod Reached

@@ -1,0 +1,67 @@
+-- What holds of every state that a run reaches: which thread a live number is of, and which numbers live behind each entry.
+use Rattle.std.specs.Prelude.{◌≡◌, ◌≢◌, ℕ, Bool, true, false, ◌==◌, if◌then◌else◌, List, Option, Some, None}
+use Rattle.std.specs.List.{fold}
+use Rattle.st_model.specs.Tree.{is_number}
+use Rattle.st_trace.specs.declared.entry.Change.{Change}
+use Rattle.st_trace.specs.declared.entry.Change.TheVariants.{Execed, Dying, Renewed}
+use Rattle.st_trace.specs.declared.entry.Entry.{Entry}
+use Rattle.st_trace.specs.declared.entry.Entry.TheVariants.{Entered, Used, Denied}
+use Rattle.st_trace.specs.declared.entry.Way.TheVariants.{Held}
+use Rattle.st_law.specs.Messages.{Head}
+use Rattle.st_law.specs.State.{State, is_live}
+use Rattle.st_law.specs.Threads.{PendingCall}
+
+-- ---- whose a live number is
+
+-- a thread that has started and not ended has its pending call held under this number
+pub record IsHolding (st : State) (t q : ℕ) : Type 0 where
+  pub entered : PendingCall
+  pub pending : (st.threads t).pending ≡ Some entered
+  pub first : ℕ
+  pub way : entered.way ≡ Held first
+  pub number : (st.threads t).number ≡ q
+  pub started : (st.threads t).owner ≢ 0
+  pub unended : (st.threads t).ended ≡ false
+
+-- each live number is that of its thread's held call
+pub record Owned (st : State) : Type 0 where
+  pub own : (q : ℕ) (head : Head) → is_live st q ≡ true → (st.messages q).head ≡ Some head → IsHolding st head.tid q
+
+-- ---- which numbers live behind an entry
+
+-- whether the thread of a head is of process p
+abbrev pub is_head_of : State → ℕ → Option Head → Bool
+is_head_of st p None = false
+is_head_of st p (Some head) = p == (st.threads head.tid).owner
+
+-- whether the thread of a number is of process p
+abbrev pub is_number_of : State → ℕ → ℕ → Bool
+is_number_of st p q = is_head_of st p (st.messages q).head
+
+-- the numbers of process p live no more, and of each other number this says whether it does
+abbrev pub life_without_process : State → ℕ → (ℕ → Bool) → ℕ → Bool
+life_without_process st p alive other = if is_number_of st p other then false else alive other
+
+-- which numbers live after a change that process m makes: a process that is killed or runs another binary has none, and a renewal
+-- gives one for another
+abbrev pub life_after_change : State → ℕ → (ℕ → Bool) → Change → ℕ → Bool
+life_after_change st m alive (Dying p) other = life_without_process st p alive other
+life_after_change st m alive (Execed binary space) other = life_without_process st m alive other
+life_after_change st m alive (Renewed old new) other = if other == new then true else if other == old then false else alive other
+life_after_change st m alive _ other = alive other
+
+-- which numbers live after changes that process m makes
+abbrev pub life_after_changes : State → ℕ → (ℕ → Bool) → List Change → ℕ → Bool
+life_after_changes st m alive changes = fold (life_after_change st m) alive changes
+
+-- the number of a call that is made or denied lives no more
+abbrev pub life_without : State → Option ℕ → ℕ → Bool
+life_without st seq other = if is_number other seq then false else is_live st other
+
+-- which numbers live after an entry
+abbrev pub life_after : State → Entry → ℕ → Bool
+life_after st (Entered t call regs (Held q)) other = if other == q then true else is_live st other
+life_after st (Used t seq call regs args ids result changes) other =
+    life_after_changes st (st.threads t).owner (life_without st seq) changes other
+life_after st (Denied t seq errno cause) other = life_without st seq other
+life_after st _ other = is_live st other
