@@ -1,0 +1,58 @@
+-- The kernel's own answers under each policy, made beforehand.
+use Rattle.std.specs.Prelude.{◌≡◌, ℕ, List, [], ◌∷◌, map, length, if◌then◌else◌, Option, Some, None, Vec}
+use Rattle.std.specs.List.{All}
+use Rattle.std.specs.Option.{option_or}
+use Rattle.std.specs.Str.{bytes_eq}
+use Rattle.std.specs.declared.alloc.Global.{Global}
+use Rattle.st_calls.specs.declared.rule.FastAnswer.{FastAnswer}
+use Rattle.st_calls.specs.Call.{every_rule}
+use Rattle.st_filter.specs.Fast.{fast}
+use Rattle.st_filter.specs.Formula.{FilterValue}
+use Rattle.st_filter.specs.Policies.{filters_of}
+use Rattle.st_filter.specs.declared.set.BinaryPolicy.{BinaryPolicy}
+
+-- the answers under the policy of one binary, in the order of the rules
+pub record BinaryAnswers : Type 0 where
+  pub binary : List ℕ
+  pub answers : List FastAnswer
+
+-- the answers for each rule under these filters, in the order of the rules
+abbrev pub fast_answers : List FilterValue → List FastAnswer
+fast_answers filters = map (λ rule. fast (filters_of rule filters)) every_rule
+
+-- the answers of the first row of a binary
+abbrev pub answers_in : List BinaryAnswers → List ℕ → Option (List FastAnswer)
+answers_in [] binary = None
+answers_in (row ∷ rows) binary = if bytes_eq row.binary binary then Some row.answers else answers_in rows binary
+
+-- the answers under the first policy of a binary
+abbrev pub answers_of : List BinaryPolicy → List ℕ → Option (List FastAnswer)
+answers_of [] binary = None
+answers_of (policy ∷ policies) binary = if bytes_eq policy.binary binary then Some (fast_answers policy.filters) else answers_of policies binary
+
+-- the rows have these answers too, for a binary that had none
+abbrev pub Gains : List BinaryAnswers → List ℕ → List FastAnswer → List BinaryAnswers → Type 0
+Gains old binary answers new =
+    (other : List ℕ) → answers_in new other ≡ option_or (answers_in old other) (if bytes_eq binary other then Some answers else None)
+
+-- the rows have, for each binary, the answers under its policy
+abbrev pub IsTableOf : List BinaryPolicy → List BinaryAnswers → Type 0
+IsTableOf policies rows = (binary : List ℕ) → answers_in rows binary ≡ answers_of policies binary
+
+-- ---- as they are kept
+
+-- what the map has for one binary: its answers
+abbrev pub AnswersEntry : Type 0
+AnswersEntry = Vec ℕ Global × Vec FastAnswer Global
+
+-- the row that a binary and its answers in the map stand for
+abbrev pub shown_entry : AnswersEntry → BinaryAnswers
+shown_entry e = record { binary = e.0.items; answers = e.1.items }
+
+-- the rows that the map stands for, in its order
+abbrev pub shown_table : List AnswersEntry → List BinaryAnswers
+shown_table entries = map shown_entry entries
+
+-- each binary has an answer for each rule
+abbrev pub AreTables : List BinaryAnswers → Type 0
+AreTables rows = All (λ row. length row.answers ≡ length every_rule) rows

@@ -1,0 +1,82 @@
+ghost use Rattle.std.specs.Prelude.{◌≡◌, List, IfOk, OnOk};
+ghost use Rattle.st_calls.specs.Call.{every_rule};
+ghost use Rattle.st_filter.specs.Fast.{fast};
+ghost use Rattle.st_filter.specs.Policies.{read_filters};
+ghost use Rattle.st_filter.specs.declared.set.BinaryPolicy.{BinaryPolicy};
+ghost use Rattle.st_compile.specs.Table.{fast_answers, Gains, IsTableOf};
+
+use indexmap::IndexMap;
+use st_base::Text;
+use st_calls::{FastAnswer, Rule};
+use st_filter::{Policy, PolicySet, fast};
+use std::alloc::{AllocError, Global};
+use std::marker::Model;
+
+/// The kernel's own answers under each policy that was read, by the binary and the rule: an answer is one look-up, however many
+/// filters there are.
+#[derive(Debug, Drop)]
+pub struct FastTable {
+    // For each binary the answers by the rules' places.
+    tables: IndexMap<Vec<u8>, Vec<FastAnswer>>,
+}
+
+impl Model for FastTable {
+    ghost use Rattle.std.specs.Prelude.{List};
+    ghost use Rattle.st_compile.specs.Table.{shown_table, AreTables, BinaryAnswers};
+
+    ghost Value = { List BinaryAnswers };
+
+    ghost view = { λ t. shown_table t.tables.entries };
+
+    ghost invariant = { λ t. AreTables (shown_table t.tables.entries) };
+}
+
+// The answers under the filters of one binary.
+fn answers_under(alloc: Global, policy: &Policy) -> Result<Vec<FastAnswer>, AllocError>
+    ensures { IfOk result (λ answers. answers.items ≡ fast_answers policy.now) }
+{
+    // No filter is added to a session yet.
+    let session = Policy::new(alloc);
+    Rule::ALL
+        .iter()
+        .map(|&rule| fast(policy, &session, rule))
+        .collect(alloc)
+}
+
+impl FastTable {
+    /// The answers under all policies of a set.
+    pub fn build(alloc: Global, policies: &PolicySet) -> Result<Self, AllocError>
+        ensures { IfOk result (λ table. IsTableOf policies.now table) }
+    {
+        let mut table = FastTable {
+            tables: IndexMap::new(alloc),
+        };
+        for i in 0..policies.len() {
+            table.add(alloc, policies.binary(i), policies.policy(i))?;
+        }
+        Ok(table)
+    }
+
+    // Adds the answers under the policy of a binary, unless it has some.
+    fn add(&mut self, alloc: Global, binary: &[u8], policy: &Policy) -> Result<(), AllocError>
+        ensures { OnOk result (Gains self.old binary.now (fast_answers policy.now) self.new) }
+    {
+        if self.tables.contains_key(binary) {
+            return Ok(());
+        }
+        let answers = answers_under(alloc, policy)?;
+        self.tables
+            .insert(Text::of(alloc, binary)?.into_bytes(), answers)?;
+        Ok(())
+    }
+
+    /// The answer for a rule under the policy of a binary.
+    pub fn get(&self, binary: &[u8], rule: Rule) -> FastAnswer
+        ensures { (policies : List BinaryPolicy) → IsTableOf policies self.now → result ≡ fast (read_filters policies binary.now rule) }
+    {
+        match self.tables.get(binary) {
+            Some(answers) => answers[rule.index()],
+            None => FastAnswer::Ask,
+        }
+    }
+}
