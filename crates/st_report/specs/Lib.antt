@@ -1,0 +1,4 @@
+pub mod ChangeText
+pub mod Fields
+pub mod ScheduleText
+pub mod TraceText

@@ -1,0 +1,78 @@
+-- What is printed of a schedule: a line for each choice that is made so many times in a row.
+use Rattle.std.specs.Prelude.{◌≡◌, ℕ, suc, ◌≤◌, ◌==◌, ◌&&◌, nat_lt, if◌then◌else◌, Bool, true, false, List, [], ◌∷◌, ◌++◌, codes, replicate, None}
+use Rattle.std.specs.List.{flat_map}
+use Rattle.st_trace.specs.declared.entry.Choice.{Choice}
+use Rattle.st_trace.specs.declared.entry.Choice.TheVariants.{Thread, Worker, Operator}
+use Rattle.st_law.specs.declared.input.ReadSchedule.{ReadSchedule}
+use Rattle.st_law.specs.declared.input.ScheduleLine.{ScheduleLine}
+use Rattle.st_law.specs.declared.input.What.TheVariants.{Choose}
+use Rattle.st_report.specs.declared.schedule.TheConstants.{MOST_TIMES}
+use Rattle.st_report.specs.Fields.{number_fields}
+
+-- a choice that is made so many times in a row
+pub record Repeat : Type 0 where
+  pub choice : Choice
+  pub times : ℕ
+
+-- a choice so many times
+abbrev pub repeat_of : Choice → ℕ → Repeat
+repeat_of choice times = record { choice = choice; times = times }
+
+-- whether two choices are the same
+abbrev pub is_same_choice : Choice → Choice → Bool
+is_same_choice (Thread t) (Thread u) = t == u
+is_same_choice (Worker v) (Worker w) = v == w
+is_same_choice Operator Operator = true
+is_same_choice _ _ = false
+
+-- a choice that was made so many times already, and these behind it: equal neighbours are joined, as many as one line may have
+abbrev pub repeats_behind : Choice → ℕ → List Choice → List Repeat
+repeats_behind choice times [] = repeat_of choice times ∷ []
+repeats_behind choice times (next ∷ choices) =
+    if is_same_choice choice next && nat_lt times MOST_TIMES then repeats_behind choice (suc times) choices
+    else repeat_of choice times ∷ repeats_behind next 1 choices
+
+-- choices with equal neighbours joined
+abbrev pub repeats_of : List Choice → List Repeat
+repeats_of [] = []
+repeats_of (choice ∷ choices) = repeats_behind choice 1 choices
+
+-- who moves
+abbrev pub choice_text : Choice → List ℕ
+choice_text (Thread t) = codes "thread" ++ number_fields (t ∷ [])
+choice_text (Worker w) = codes "worker" ++ number_fields (w ∷ [])
+choice_text Operator = codes "operator"
+
+-- how often, which is left out for once
+abbrev pub times_field : ℕ → List ℕ
+times_field times = if times == 1 then [] else number_fields (times ∷ [])
+
+-- a line
+abbrev pub repeat_line : Repeat → List ℕ
+repeat_line each = choice_text each.choice ++ times_field each.times ++ codes "\n"
+
+-- the text of a schedule
+abbrev pub schedule_text : List Choice → List ℕ
+schedule_text choices = flat_map repeat_line (repeats_of choices)
+
+-- ---- what such lines stand for
+
+-- the choices that lines stand for, in order
+abbrev pub spelled_choices : List Repeat → List Choice
+spelled_choices repeats = flat_map (λ each. replicate each.times each.choice) repeats
+
+-- each line has its choice at least once and not too often, and the line behind it another choice, unless it is full
+abbrev pub AreJoined : List Repeat → Type 0
+AreJoined [] = Unit {0}
+AreJoined (each ∷ []) = (1 ≤ each.times) × (each.times ≤ MOST_TIMES)
+AreJoined (each ∷ next ∷ repeats) =
+    (1 ≤ each.times) × (each.times ≤ MOST_TIMES) × (each.choice ≡ next.choice → each.times ≡ MOST_TIMES) × AreJoined (next ∷ repeats)
+
+-- these lines as a schedule's, from this line on
+abbrev pub lines_from : ℕ → List Repeat → List ScheduleLine
+lines_from line [] = []
+lines_from line (each ∷ repeats) = record { what = Choose each.choice; count = each.times; line = line } ∷ lines_from (suc line) repeats
+
+-- the schedule that is printed of choices
+abbrev pub printed_schedule : List Choice → ReadSchedule
+printed_schedule choices = record { lines = lines_from 1 (repeats_of choices); bad = None }

@@ -1,0 +1,19 @@
+ghost use Rattle.std.specs.Prelude.{◌≡◌, IfOk};
+ghost use Rattle.st_report.specs.TraceText.{trace_text};
+
+use crate::entry::append_entry;
+use st_base::Text;
+use st_trace::Entry;
+use std::alloc::{AllocError, Global};
+
+/// The text of a trace: a line for each entry, in order.
+pub fn render_trace(alloc: Global, trace: &[Entry]) -> Result<Text, AllocError>
+    ensures { IfOk result (λ text. text ≡ trace_text trace.now) }
+{
+    let mut text = Text::new(alloc);
+    for entry in trace {
+        append_entry(alloc, &mut text, entry)?;
+        text.push(b'\n')?;
+    }
+    Ok(text)
+}
