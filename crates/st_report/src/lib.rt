@@ -1,4 +1,4 @@
-//! The texts that are printed of a run: its trace, its schedule, and its audit.
+//! Texts that are printed of a run: its trace and its schedule.
 #![tactic(auto)]
 
 mod change;
@@ -7,5 +7,6 @@ mod fields;
 pub mod schedule;
 pub mod trace;
 
+pub use entry::append_result;
 pub use schedule::{MOST_TIMES, a_printed_schedule_is_its_choices, schedule_text};
 pub use trace::render_trace;

@@ -1,0 +1,5 @@
+pub mod Answered
+pub mod Following
+pub mod Kept
+pub mod Learnt
+pub mod Rows

@@ -1,0 +1,5 @@
+pub mod AuditText
+pub mod How
+pub mod Ledger
+pub mod Rows
+pub mod Told

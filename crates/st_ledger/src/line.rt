@@ -1,0 +1,92 @@
+ghost use Rattle.std.specs.Prelude.{◌≡◌, ◌++◌, flat_map, OnOk};
+ghost use Rattle.st_ledger.specs.AuditText.{caller_text, ending_text, log_text, told_arg};
+
+use crate::how::{How, append_how};
+use st_base::{Pid, Text, Tid};
+use st_calls::{ArgText, Rule, append_index};
+use st_lex::quote;
+use st_report::append_result;
+use st_trace::CallResult;
+use std::alloc::AllocError;
+
+/// Who makes a call, and the policy and the rule that it is judged by.
+#[derive(Clone, Copy)]
+pub struct Caller<'a> {
+    pub pid: Pid,
+    pub tid: Tid,
+    pub policy: &'a [u8],
+    pub rule: Rule,
+}
+
+/// What a line says of a call: with which arguments it was made or denied, how, with what end, and whether it is marked.
+#[derive(Drop)]
+pub struct Ending<'a> {
+    pub args: &'a [ArgText],
+    pub how: How,
+    pub outcome: CallResult,
+    pub log: bool,
+}
+
+fn append_caller(text: &mut Text, caller: &Caller<'_>) -> Result<(), AllocError>
+    ensures { OnOk result (text.new ≡ text.old ++ caller_text caller.now.pid caller.now.tid caller.now.policy.now caller.now.rule) }
+{
+    text.append_number(u64::from(caller.pid))?;
+    text.push(b'.')?;
+    text.append_number(u64::from(caller.tid))?;
+    text.push(b' ')?;
+    quote(caller.policy, text)?;
+    text.append(b" native-")?;
+    text.append(caller.rule.word())
+}
+
+// Appends a blank and an argument.
+fn append_told_arg(text: &mut Text, arg: &ArgText) -> Result<(), AllocError>
+    ensures { OnOk result (text.new ≡ text.old ++ told_arg arg.now) }
+{
+    text.push(b' ')?;
+    text.append(arg.label.word())?;
+    append_index(arg.index, text)?;
+    text.push(b'=')?;
+    quote(arg.text.bytes(), text)
+}
+
+// Appends arguments, each behind a blank.
+fn append_told_args(text: &mut Text, args: &[ArgText]) -> Result<(), AllocError>
+    ensures { OnOk result (text.new ≡ text.old ++ flat_map told_arg args.now) }
+{
+    for arg in args {
+        append_told_arg(text, arg)?;
+    }
+    Ok(())
+}
+
+// The mark of a filter that asks for one.
+fn log_word(log: bool) -> &'static [u8]
+    ensures { result.now ≡ log_text log }
+{
+    if log { b" log" } else { b"" }
+}
+
+fn append_ending(text: &mut Text, ending: &Ending<'_>) -> Result<(), AllocError>
+    ensures { OnOk result (text.new ≡ text.old ++ ending_text ending.now.args.now ending.now.how ending.now.outcome ending.now.log) }
+{
+    append_told_args(text, ending.args)?;
+    text.push(b' ')?;
+    append_how(text, &ending.how)?;
+    text.append(b" = ")?;
+    append_result(text, ending.outcome)?;
+    text.append(log_word(ending.log))?;
+    text.push(b'\n')
+}
+
+/// Appends the line of a call.
+pub fn append_call_line(
+    text: &mut Text,
+    caller: &Caller<'_>,
+    ending: &Ending<'_>,
+) -> Result<(), AllocError>
+    ensures { OnOk result (text.new ≡ text.old ++ (caller_text caller.now.pid caller.now.tid caller.now.policy.now caller.now.rule ++ ending_text ending.now.args.now ending.now.how ending.now.outcome ending.now.log)) }
+{
+    append_caller(text, caller)?;
+    append_ending(text, ending)
+}
