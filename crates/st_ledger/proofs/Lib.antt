@@ -3,3 +3,4 @@ pub mod Following
 pub mod Kept
 pub mod Learnt
 pub mod Rows
+mod WorkedRows

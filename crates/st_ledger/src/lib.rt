@@ -2,7 +2,7 @@
 #![tactic(auto)]
 
 mod answer;
-pub mod audit;
+mod audit;
 mod entered;
 mod how;
 mod ledger;
@@ -13,3 +13,6 @@ mod read;
 mod session;
 
 pub use audit::audit_text;
+
+#[cfg(test)]
+mod tests;

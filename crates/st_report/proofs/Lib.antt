@@ -1,3 +1,4 @@
 pub mod Joined
 pub mod PlayedAgain
 pub mod Repeats
+mod WorkedRows

@@ -10,3 +10,6 @@ pub mod trace;
 pub use entry::append_result;
 pub use schedule::{MOST_TIMES, a_printed_schedule_is_its_choices, schedule_text};
 pub use trace::render_trace;
+
+#[cfg(test)]
+mod tests;
