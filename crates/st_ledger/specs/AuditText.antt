@@ -1,5 +1,5 @@
 -- What is printed of a run: a line for each call that a traced process made or was denied.
-use Rattle.std.specs.Prelude.{ℕ, Bool, true, false, List, [], ◌∷◌, ◌++◌, reverse, codes, decimal, Option, Some, None, if◌then◌else◌}
+use Rattle.std.specs.Prelude.{◌≡◌, ℕ, Bool, true, false, List, [], ◌∷◌, ◌++◌, reverse, codes, decimal, Option, Some, None, if◌then◌else◌}
 use Rattle.std.specs.List.{flat_map}
 use Rattle.st_calls.specs.Argument.{index_text, name_of_label}
 use Rattle.st_calls.specs.Call.{name_of_rule, rule_of}
@@ -76,3 +76,13 @@ audit_back i (e ∷ h) = audit_back i h ++ line_of i h e
 -- the audit of a trace: the lines of its entries, in order
 abbrev pub audit : Input → List Entry → List ℕ
 audit i trace = audit_back i (reverse trace)
+
+-- ---- longer runs
+
+-- a text begins with another
+abbrev pub BeginsWith : List ℕ → List ℕ → Type 0
+BeginsWith text front = (behind : List ℕ) × (text ≡ front ++ behind)
+
+-- the audit of a longer run begins with that of the shorter one
+abbrev pub GrowsWithTheRun : Type 0
+GrowsWithTheRun = (input : Input) (trace more : List Entry) → BeginsWith (audit input (trace ++ more)) (audit input trace)

@@ -2,7 +2,7 @@ ghost use Rattle.std.specs.Prelude.{◌≡◌, ◌++◌, IfOk, OnOk};
 ghost use Rattle.st_calls.specs.Call.{rule_of};
 ghost use Rattle.st_law.specs.Inputs.{IsStartable};
 ghost use Rattle.st_law.specs.Lawful.{Lawful};
-ghost use Rattle.st_ledger.specs.AuditText.{audit, call_line, ending_text};
+ghost use Rattle.st_ledger.specs.AuditText.{GrowsWithTheRun, audit, call_line, ending_text};
 ghost use Rattle.st_ledger.specs.How.{args_used, is_logged, parts_of, seq_told};
 ghost use Rattle.st_ledger.specs.Ledger.{kept_line, owner_in, row_in};
 ghost use Rattle.st_ledger.specs.Told.{audit_told};
@@ -160,3 +160,8 @@ pub fn audit_text(alloc: Global, trace: &[Entry], input: &Input) -> Result<Text,
 {
     told_audit(alloc, trace, input)
 }
+
+/// The audit of a longer run begins with that of the shorter one.
+pub fn longer_runs_extend_the_audit()
+    ensures { GrowsWithTheRun }
+{}

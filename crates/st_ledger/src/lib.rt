@@ -12,7 +12,7 @@ mod process;
 mod read;
 mod session;
 
-pub use audit::audit_text;
+pub use audit::{audit_text, longer_runs_extend_the_audit};
 
 #[cfg(test)]
 mod tests;

@@ -1,5 +1,6 @@
-ghost use Rattle.std.specs.Prelude.{◌≡◌, IfOk};
+ghost use Rattle.std.specs.Prelude.{◌≡◌, ◌++◌, List, IfOk};
 ghost use Rattle.st_report.specs.TraceText.{trace_text};
+ghost use Rattle.st_trace.specs.declared.entry.Entry.{Entry};
 
 use crate::entry::append_entry;
 use st_base::Text;
@@ -17,3 +18,8 @@ pub fn render_trace(alloc: Global, trace: &[Entry]) -> Result<Text, AllocError>
     }
     Ok(text)
 }
+
+/// The text of a longer trace is that of its front and, behind it, that of the rest.
+pub fn a_trace_is_printed_in_order()
+    ensures { (front rest : List Entry) → trace_text (front ++ rest) ≡ trace_text front ++ trace_text rest }
+{}
