@@ -1,6 +1,6 @@
 -- The end of a thread, and of its process where it was the last.
 use native.Mathlib.Omega.{arith}
-use Rattle.std.proofs.Common.{◌≡◌, ◌≢◌, ◌≤◌, ◌<◌, ◌∙◌, ℕ, suc, ◌+◌, Bool, true, false, cond, not, ◌&&◌, ◌||◌, ◌==◌, Option, Some, None, refl, ap, subst, sym, inl, inr}
+use Rattle.std.proofs.Common.{◌≡◌, ◌≢◌, ◌≤◌, ◌∙◌, ℕ, ◌+◌, Bool, true, false, cond, not, ◌&&◌, ◌||◌, ◌==◌, Option, Some, None, refl, ap, subst, sym, inl, inr}
 use Rattle.std.proofs.lemmas.Bool.{true≢false, and_parts, cases_eq, eq-eqb, eqb-true, eqb-false, ne_eqb, false_from_ne_true, not-true}
 use Rattle.std.specs.Prelude.{◌↔◌, IsTrue, is_some}
 use Rattle.std.specs.Option.{option_map}
@@ -11,11 +11,9 @@ use Rattle.st_procs.specs.Laws.{IsLast, ThreadEnds}
 use Rattle.st_trace.specs.declared.entry.Entry.TheVariants.{Ended}
 use Rattle.st_law.specs.declared.input.Input.{Input}
 use Rattle.st_law.specs.Machine.{state_after, table_after}
-use Rattle.st_law.specs.Sessions.{least_from}
 use Rattle.st_law.specs.State.{State, ThreadState, is_last_thread, is_running_in, thread_count}
-use Rattle.st_law.proofs.Least.{least, IsLeast, NoneOf}
+use Rattle.st_law.proofs.Least.{least, NoneOf}
 use Rattle.st_system.specs.System.{IsAmong, IsSystem, IsThread, Parts}
-use Rattle.st_system.proofs.Kept.{owner_in, owner_is}
 
 -- a thread that has started, by the row of one that runs
 running_row : (o : Option StartedThread) (row : ThreadState) (p : ℕ) → p ≢ 0 → IsThread o row → row.owner ≡ p → row.ended ≡ false → (option_map (λ (thread : StartedThread). thread.pid) o ≡ Some p) × (has_not_ended o ≡ true)

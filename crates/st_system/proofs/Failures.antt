@@ -1,5 +1,5 @@
 -- A call that fails leaves the descriptors as they were.
-use Rattle.std.proofs.Common.{◌≡◌, ℕ, Bool, true, false, cond, ◌==◌, List, [], ◌∷◌, Option, Some, None, refl}
+use Rattle.std.proofs.Common.{◌≡◌, ℕ, Bool, true, false, cond, ◌==◌, List, [], Option, Some, None, refl}
 use Rattle.st_base.specs.Errno.{first_error}
 use Rattle.st_base.specs.declared.errno.Errno.{Errno}
 use Rattle.st_calls.specs.declared.call.SysCall.{SysCall}
@@ -11,7 +11,7 @@ use Rattle.st_model.specs.declared.open_file.FileKind.{FileKind}
 use Rattle.st_model.specs.declared.open_file.FileKind.TheVariants as kind
 use Rattle.st_model.specs.declared.open_file.OpenFile.{OpenFile}
 use Rattle.st_names.specs.Name.{Components}
-use Rattle.st_effects.specs.Descriptors.{open_object_outcome, open_node_outcome, read_file_outcome, write_bytes_outcome, write_kind_outcome, write_file_outcome, seek_outcome, seek_offset, seek_file_outcome, write_offset, low_mode}
+use Rattle.st_effects.specs.Descriptors.{open_node_outcome, read_file_outcome, write_bytes_outcome, write_kind_outcome, write_file_outcome, seek_outcome, seek_offset, seek_file_outcome, write_offset, low_mode}
 use Rattle.st_effects.specs.Effect.{effect}
 use Rattle.st_effects.specs.NameTests.{Object, object_at, on_found, on_object}
 use Rattle.st_effects.specs.Names.{make_outcome, move_outcome}

@@ -1,18 +1,16 @@
 -- The processes that a run starts with, one after the other.
 use native.Mathlib.Omega.{arith}
-use Rattle.std.proofs.Common.{◌≡◌, ◌≢◌, ◌≤◌, ◌<◌, ◌∙◌, ℕ, zero, suc, ◌+◌, ◌-◌, Bool, true, false, cond, ◌&&◌, ◌==◌, List, [], ◌∷◌, ◌++◌, length, Option, Some, None, get_or, inl, inr, refl, ap, subst, sym}
-use Rattle.std.proofs.Math.ListN.{get_or-append, get_or-eq_default}
+use Rattle.std.proofs.Common.{◌≡◌, ◌≤◌, ◌∙◌, ℕ, zero, suc, ◌+◌, true, cond, ◌&&◌, ◌==◌, [], ◌∷◌, ◌++◌, length, Some, get_or, inl, inr, refl, ap, subst, sym}
+use Rattle.std.proofs.Math.ListN.{get_or-append}
 use Rattle.std.proofs.Math.Seq.{get_or-append_seam}
 use Rattle.std.proofs.lemmas.Bool.{cases_eq, eq-eqb, ne_eqb}
-use Rattle.std.proofs.lemmas.List.{length-append}
 use Rattle.std.proofs.lemmas.List.Sums.{fold-append}
 use Rattle.std.specs.List.{fold, range_with_len}
 use Rattle.std.specs.Prelude.{nat_le, slice_get}
-use Rattle.st_base.specs.Numbered.{item_at_number}
 use Rattle.st_fds.specs.Table.{ChangesTable}
 use Rattle.st_memory.specs.Memory.{Memories, byte_in, is_live, next_space, ChangesLive}
 use Rattle.st_model.specs.DescriptorCalls.{table_after_start}
-use Rattle.st_model.specs.Descriptors.{Table, has_table}
+use Rattle.st_model.specs.Descriptors.{Table}
 use Rattle.st_model.specs.Process.{Process}
 use Rattle.st_model.specs.Processes.{Processes, no_process, next_pid, process_at, processes_after_start}
 use Rattle.st_request.specs.Ready.{IsReal}

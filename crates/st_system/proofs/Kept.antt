@@ -1,39 +1,32 @@
 -- Steps that leave the system as the machine's record has it.
-use native.Mathlib.Omega.{arith}
-use Rattle.std.proofs.Common.{◌≡◌, ◌≢◌, ◌≤◌, ◌∙◌, ℕ, suc, Bool, true, false, not, ◌&&◌, ◌==◌, List, [], ◌∷◌, Option, Some, None, refl, ap, subst, sym}
-use Rattle.std.proofs.lemmas.Bool.{true≢false, and_parts, cases_eq, eq-eqb, eqb-true, ne_eqb, false_from_ne_true}
-use Rattle.std.specs.Prelude.{◌<◌}
+use Rattle.std.proofs.Common.{◌≡◌, ◌∙◌, ℕ, Option, Some, None, refl, ap, subst, sym}
 use Rattle.std.specs.Option.{option_map}
 use Rattle.std.specs.Prelude.{Result, Ok, Err, IfOk, IsErr, OnOk}
-use Rattle.st_base.specs.declared.errno.Errno.{Errno}
 use Rattle.st_calls.specs.declared.call.SysCall.{SysCall}
+use Rattle.st_calls.specs.declared.call.SysCall.TheVariants.{Chdir}
 use Rattle.st_memory.specs.Memory.{Memories, byte_in, next_space, KeepsSpaces}
-use Rattle.st_model.specs.DescriptorCalls.{table_after_close_all}
-use Rattle.st_model.specs.Descriptors.{Table}
 use Rattle.st_model.specs.Memory.{memory_after_store}
-use Rattle.st_model.specs.Processes as model
-use Rattle.st_model.specs.Processes.{Processes, StartedThread, next_pid, process_at, thread_at}
-use Rattle.st_model.specs.Tree.{Tree}
+use Rattle.st_model.specs.Processes.{StartedThread, process_at, thread_at}
 use Rattle.st_procs.specs.Laws.{AreOrdered}
-use Rattle.st_effects.specs.Changes.{memory_after, owner_after, process_after, tree_after}
+use Rattle.st_effects.specs.Changes.{memory_after, process_after, tree_after}
 use Rattle.st_effects.specs.Effect.{effect}
-use Rattle.st_effects.specs.System.{Request, System}
+use Rattle.st_effects.specs.System.{Request, System, arg_name_at}
 use Rattle.st_trace.specs.declared.entry.CallResult.{CallResult}
 use Rattle.st_trace.specs.declared.entry.CallResult.TheVariants.{Value, Failed}
-use Rattle.st_trace.specs.declared.entry.Change.{Change}
-use Rattle.st_trace.specs.declared.entry.Entry.TheVariants.{Stored, Used, Ended}
+use Rattle.st_trace.specs.declared.entry.Entry.TheVariants.{Stored, Used}
 use Rattle.st_exec_fs.specs.Execution.{IsExecuted, IsOnFiles}
 use Rattle.st_request.specs.Outcome.{outcome_of}
 use Rattle.st_request.specs.declared.outcome.Outcome.{Outcome}
 use Rattle.st_exec_fs.proofs.Changed.{Each}
 use Rattle.st_law.specs.declared.input.Input.{Input}
 use Rattle.st_law.specs.Machine.{state_after, table_after}
-use Rattle.st_law.specs.State.{State, ThreadState, request_of, system_of, thread_count}
+use Rattle.st_law.specs.State.{State, ThreadState, system_of, thread_count}
 use Rattle.st_system.specs.System.{IsAmong, IsSystem, IsThread, Parts}
 use Rattle.st_system.specs.Steps.{IsMade, IsRequest}
 use Rattle.st_system.proofs.Failures.{failure_keeps}
 use Rattle.st_system.proofs.Plain.{IsPlain, next_process_same, next_space_same, owner_same, plain_changes}
 use Rattle.st_system.proofs.Same.{system_is}
+use Rattle.st_system.proofs.Short.{IsShort}
 
 -- the process of a thread, by whether it has started
 abbrev pub owner_in : Option StartedThread → ℕ
@@ -75,14 +68,14 @@ module _ (i : Input) (st : State) (parts : Parts) (x : IsSystem i st parts) wher
 
   -- ---- a call on names and files
 
-  module _ (ordered : AreOrdered parts.processes) (call : SysCall) (request : Request) (outcome : Outcome) (new : Parts) (on : IsOnFiles call) (is : IsRequest i st request)
+  module _ (ordered : AreOrdered parts.processes) (call : SysCall) (request : Request) (outcome : Outcome) (new : Parts) (on : IsOnFiles call) (move : call ≡ Chdir → IsShort (arg_name_at request 0)) (is : IsRequest i st request)
       (done : IsExecuted call request outcome parts.tree parts.descriptors parts.processes parts.memories new.tree new.descriptors new.processes new.memories)
       (spaces : KeepsSpaces parts.memories new.memories) where
     whole : outcome_of outcome new.descriptors ≡ effect (system_of i st) call request
     whole = done.outcome (system_of i st) ∙ ap (λ (system : System). effect system call request) (system_is i st parts x ordered)
 
     plain : Each IsPlain outcome.changes
-    plain = subst (Each IsPlain) (sym (ap (λ o. o.changes) whole)) (plain_changes (system_of i st) request call on)
+    plain = subst (Each IsPlain) (sym (ap (λ o. o.changes) whole)) (plain_changes (system_of i st) request call on move)
 
     owner : (st.threads request.tid).owner ≡ request.pid
     owner = sym (ap (λ (r : Request). r.pid) is)
@@ -118,8 +111,8 @@ of_ok (Ok a) on fine = on
 of_ok (Err e) on fine = absurd (fine refl)
 
 -- what making a call says, where there is memory for it
-pub made_executed : {E : Type 0} (result : Result Outcome E) (parts new : Parts) (call : SysCall) (request : Request) → AreOrdered parts.processes → IsOnFiles call
+pub made_executed : {E : Type 0} (result : Result Outcome E) (parts new : Parts) (call : SysCall) (request : Request) → AreOrdered parts.processes → IsOnFiles call → (call ≡ Chdir → IsShort (arg_name_at request 0))
     → IfOk result (λ outcome. IsExecuted call request outcome parts.tree parts.descriptors parts.processes parts.memories new.tree new.descriptors new.processes new.memories) → KeepsSpaces parts.memories new.memories
     → IfOk result (λ outcome. (i : Input) (st : State) → IsSystem i st parts → IsRequest i st request → (seq : Option ℕ) → IsMade i st seq call request outcome new)
-made_executed (Ok outcome) parts new call request ordered on done spaces = λ i st x is seq. made i st parts x ordered call request outcome new on is done spaces seq
-made_executed (Err error) parts new call request ordered on done spaces = tt
+made_executed (Ok outcome) parts new call request ordered on move done spaces = λ i st x is seq. made i st parts x ordered call request outcome new on move is done spaces seq
+made_executed (Err error) parts new call request ordered on move done spaces = tt

@@ -6,5 +6,6 @@ mod Kept
 mod Living
 mod Plain
 mod Same
+mod Short
 mod Started
 mod Whole

@@ -1,19 +1,22 @@
 -- The changes of the calls on names and files: none of them starts, ends or renews anything, or gives a process another memory.
-use Rattle.std.proofs.Common.{◌≡◌, ◌∙◌, ℕ, Bool, true, false, cond, ◌==◌, List, [], ◌∷◌, refl, ap, subst, sym}
+use Rattle.std.proofs.Common.{◌≡◌, ◌∙◌, ℕ, Bool, true, false, cond, ◌==◌, List, [], ◌∷◌, Option, Some, None, refl, ap}
 use Rattle.std.specs.List.{fold}
+use Rattle.st_base.specs.declared.errno.Errno.{Errno}
 use Rattle.st_calls.specs.declared.call.SysCall.{SysCall}
 use Rattle.st_calls.specs.declared.call.SysCall.TheVariants.{Open, Close, Read, Write, Lseek, Dup, Stat, Lstat, Access, Readlink, Unlink, Link, Symlink, Rename, Mkdir, Rmdir, Chdir, Chmod, Chown, Truncate, Fork, Execve, Exit, Kill, GetPid, GetUid, GetEuid, SetUid, SetEuid, SetGid, SetEgid, Socket, Bind, Connect}
 use Rattle.st_names.specs.Name.{Components}
 use Rattle.st_model.specs.Process.{Process}
 use Rattle.st_effects.specs.Changes.{dying_after, dying_after_change, next_process_after, next_process_after_change, next_space_after, next_space_after_change, owner_after, owner_after_change, process_after, process_after_change}
 use Rattle.st_effects.specs.Effect.{effect}
-use Rattle.st_effects.specs.System.{System, Request, Outcome}
+use Rattle.st_effects.specs.NameTests.{Object, on_found}
+use Rattle.st_effects.specs.System.{System, Request, Outcome, arg_name_at, unless_error}
 use Rattle.st_trace.specs.declared.entry.Change.{Change}
 use Rattle.st_trace.specs.declared.entry.Change.TheVariants.{Made, Linked, Removed, Renamed, Written, Cut, Moded, Owned, Put, Forked, Execed, SetIds, Cwd, Dying, Renewed, Policy}
 use Rattle.st_exec_fs.specs.Execution.{IsOnFiles}
-use Rattle.st_exec_fs.proofs.Changed.{Each, IsOfTree, IsOfMemory, IsOfDirectory, IsNone, Makes, names_change, open_changes, write_changes, read_changes, looks_change, chdir_changes, descriptors_change}
+use Rattle.st_system.proofs.Short.{IsShort, IsShortMove, short_after}
+use Rattle.st_exec_fs.proofs.Changed.{Each, IsOfTree, IsOfMemory, IsNone, Makes, names_change, open_changes, write_changes, read_changes, looks_change, descriptors_change}
 
--- a change of the tree, of memory, or of a directory
+-- a change of the tree, of memory, or of a directory, to one whose name isn't too long
 abbrev pub IsPlain : Change → Type 0
 IsPlain (Forked pid space tid) = ⊥
 IsPlain (Execed binary space) = ⊥
@@ -21,6 +24,7 @@ IsPlain (SetIds ids) = ⊥
 IsPlain (Dying pid) = ⊥
 IsPlain (Renewed old new) = ⊥
 IsPlain (Policy binary) = ⊥
+IsPlain (Cwd name) = IsShort name
 IsPlain _ = Unit {0}
 
 -- ---- which calls make them
@@ -38,7 +42,7 @@ of_tree (Put space at bytes) x = tt
 of_tree (Forked pid space tid) x = x
 of_tree (Execed binary space) x = x
 of_tree (SetIds ids) x = x
-of_tree (Cwd name) x = tt
+of_tree (Cwd name) x = absurd x
 of_tree (Dying pid) x = x
 of_tree (Renewed old new) x = x
 of_tree (Policy binary) x = x
@@ -56,28 +60,29 @@ of_memory (Put space at bytes) x = tt
 of_memory (Forked pid space tid) x = x
 of_memory (Execed binary space) x = x
 of_memory (SetIds ids) x = x
-of_memory (Cwd name) x = tt
+of_memory (Cwd name) x = absurd x
 of_memory (Dying pid) x = x
 of_memory (Renewed old new) x = x
 of_memory (Policy binary) x = x
 
-of_directory : (c : Change) → IsOfDirectory c → IsPlain c
-of_directory (Made name obj kind uid gid mode) x = tt
-of_directory (Linked name obj) x = tt
-of_directory (Removed name) x = tt
-of_directory (Renamed old new) x = tt
-of_directory (Written obj at bytes) x = tt
-of_directory (Cut obj len) x = tt
-of_directory (Moded obj mode) x = tt
-of_directory (Owned obj uid gid) x = tt
-of_directory (Put space at bytes) x = tt
-of_directory (Forked pid space tid) x = x
-of_directory (Execed binary space) x = x
-of_directory (SetIds ids) x = x
-of_directory (Cwd name) x = tt
-of_directory (Dying pid) x = x
-of_directory (Renewed old new) x = x
-of_directory (Policy binary) x = x
+-- the directory that they give a process has a name that isn't too long
+plain_move : (c : Change) → IsPlain c → IsShortMove c
+plain_move (Made name obj kind uid gid mode) x = tt
+plain_move (Linked name obj) x = tt
+plain_move (Removed name) x = tt
+plain_move (Renamed old new) x = tt
+plain_move (Written obj at bytes) x = tt
+plain_move (Cut obj len) x = tt
+plain_move (Moded obj mode) x = tt
+plain_move (Owned obj uid gid) x = tt
+plain_move (Put space at bytes) x = tt
+plain_move (Forked pid space tid) x = tt
+plain_move (Execed binary space) x = tt
+plain_move (SetIds ids) x = tt
+plain_move (Cwd name) x = x
+plain_move (Dying pid) x = tt
+plain_move (Renewed old new) x = tt
+plain_move (Policy binary) x = tt
 
 each : (P Q : Change → Type 0) → ((c : Change) → P c → Q c) → (changes : List Change) → Each P changes → Each Q changes
 each P Q f [] x = tt
@@ -96,41 +101,53 @@ module _ (system : System) (request : Request) where
   none : (call : SysCall) → Makes IsNone (effect system call request) → ArePlain call
   none call made = each IsNone IsPlain (λ c x. absurd x) (effect system call request).changes made.changes
 
-  pub plain_changes : (call : SysCall) → IsOnFiles call → ArePlain call
-  plain_changes Open on = tree Open (open_changes system request)
-  plain_changes Close on = none Close (descriptors_change system request Close tt)
-  plain_changes Read on = memory Read (read_changes system request)
-  plain_changes Write on = tree Write (write_changes system request)
-  plain_changes Lseek on = none Lseek (descriptors_change system request Lseek tt)
-  plain_changes Dup on = none Dup (descriptors_change system request Dup tt)
-  plain_changes Stat on = memory Stat (looks_change system request Stat tt)
-  plain_changes Lstat on = memory Lstat (looks_change system request Lstat tt)
-  plain_changes Access on = memory Access (looks_change system request Access tt)
-  plain_changes Readlink on = memory Readlink (looks_change system request Readlink tt)
-  plain_changes Unlink on = tree Unlink (names_change system request Unlink tt)
-  plain_changes Link on = tree Link (names_change system request Link tt)
-  plain_changes Symlink on = tree Symlink (names_change system request Symlink tt)
-  plain_changes Rename on = tree Rename (names_change system request Rename tt)
-  plain_changes Mkdir on = tree Mkdir (names_change system request Mkdir tt)
-  plain_changes Rmdir on = tree Rmdir (names_change system request Rmdir tt)
-  plain_changes Chdir on = each IsOfDirectory IsPlain of_directory (effect system Chdir request).changes (chdir_changes system request).changes
-  plain_changes Chmod on = tree Chmod (names_change system request Chmod tt)
-  plain_changes Chown on = tree Chown (names_change system request Chown tt)
-  plain_changes Truncate on = tree Truncate (names_change system request Truncate tt)
-  plain_changes Fork on = absurd on
-  plain_changes Execve on = absurd on
-  plain_changes Exit on = absurd on
-  plain_changes Kill on = absurd on
-  plain_changes GetPid on = absurd on
-  plain_changes GetUid on = absurd on
-  plain_changes GetEuid on = absurd on
-  plain_changes SetUid on = absurd on
-  plain_changes SetEuid on = absurd on
-  plain_changes SetGid on = absurd on
-  plain_changes SetEgid on = absurd on
-  plain_changes Socket on = absurd on
-  plain_changes Bind on = absurd on
-  plain_changes Connect on = absurd on
+  -- a call that is refused changes nothing, nor does one whose name has nothing
+  unless : (o : Option Errno) (outcome : Outcome) → Each IsPlain outcome.changes → Each IsPlain (unless_error system o outcome).changes
+  unless None outcome x = x
+  unless (Some errno) outcome x = tt
+
+  on : (outcome : Object → Outcome) → ((object : Object) → Each IsPlain (outcome object).changes) → (o : Option Object) → Each IsPlain (on_found system outcome o).changes
+  on outcome x None = tt
+  on outcome x (Some object) = x object
+
+  moves : IsShort (arg_name_at request 0) → ArePlain Chdir
+  moves short = search (unless, on, short)
+
+  pub plain_changes : (call : SysCall) → IsOnFiles call → (call ≡ Chdir → IsShort (arg_name_at request 0)) → ArePlain call
+  plain_changes Open on short = tree Open (open_changes system request)
+  plain_changes Close on short = none Close (descriptors_change system request Close tt)
+  plain_changes Read on short = memory Read (read_changes system request)
+  plain_changes Write on short = tree Write (write_changes system request)
+  plain_changes Lseek on short = none Lseek (descriptors_change system request Lseek tt)
+  plain_changes Dup on short = none Dup (descriptors_change system request Dup tt)
+  plain_changes Stat on short = memory Stat (looks_change system request Stat tt)
+  plain_changes Lstat on short = memory Lstat (looks_change system request Lstat tt)
+  plain_changes Access on short = memory Access (looks_change system request Access tt)
+  plain_changes Readlink on short = memory Readlink (looks_change system request Readlink tt)
+  plain_changes Unlink on short = tree Unlink (names_change system request Unlink tt)
+  plain_changes Link on short = tree Link (names_change system request Link tt)
+  plain_changes Symlink on short = tree Symlink (names_change system request Symlink tt)
+  plain_changes Rename on short = tree Rename (names_change system request Rename tt)
+  plain_changes Mkdir on short = tree Mkdir (names_change system request Mkdir tt)
+  plain_changes Rmdir on short = tree Rmdir (names_change system request Rmdir tt)
+  plain_changes Chdir on short = moves (short refl)
+  plain_changes Chmod on short = tree Chmod (names_change system request Chmod tt)
+  plain_changes Chown on short = tree Chown (names_change system request Chown tt)
+  plain_changes Truncate on short = tree Truncate (names_change system request Truncate tt)
+  plain_changes Fork on short = absurd on
+  plain_changes Execve on short = absurd on
+  plain_changes Exit on short = absurd on
+  plain_changes Kill on short = absurd on
+  plain_changes GetPid on short = absurd on
+  plain_changes GetUid on short = absurd on
+  plain_changes GetEuid on short = absurd on
+  plain_changes SetUid on short = absurd on
+  plain_changes SetEuid on short = absurd on
+  plain_changes SetGid on short = absurd on
+  plain_changes SetEgid on short = absurd on
+  plain_changes Socket on short = absurd on
+  plain_changes Bind on short = absurd on
+  plain_changes Connect on short = absurd on
 
 -- ---- what they leave
 
@@ -184,6 +201,9 @@ module _ (processes : ℕ → Process) (m p : ℕ) where
   fold_space : (before : Process) (changes : List Change) → Each IsPlain changes → (fold (process_after_change processes m p) before changes).space ≡ before.space
   fold_space before [] plain = refl
   fold_space before (c ∷ changes) plain = fold_space (process_after_change processes m p before c) changes plain.1 ∙ (leaves c plain.0).own processes m p before
+
+  pub short_same : ((q : ℕ) → IsShort (processes q).cwd) → (changes : List Change) → Each IsPlain changes → IsShort (process_after processes m p changes).cwd
+  short_same short changes plain = short_after processes short m p changes (each IsPlain IsShortMove plain_move changes plain)
 
   pub space_same : (changes : List Change) → Each IsPlain changes → (process_after processes m p changes).space ≡ (processes p).space
   space_same changes plain = fold_space (processes p) changes plain

@@ -1,5 +1,5 @@
 -- The system that a call finds by the machine's record is the one of the parts.
-use Rattle.std.proofs.Common.{◌≡◌, ◌≢◌, ◌≤◌, ◌∙◌, ℕ, suc, zero, Bool, true, false, not, ◌&&◌, ◌||◌, ◌==◌, Option, Some, None, refl, ap, sym}
+use Rattle.std.proofs.Common.{◌≡◌, ◌≢◌, ◌≤◌, ◌∙◌, ℕ, suc, zero, Bool, true, not, ◌&&◌, ◌||◌, ◌==◌, Option, Some, None, refl, ap, sym}
 use Rattle.std.proofs.lemmas.Bool.{true≢false, ne_eqb}
 use Rattle.std.specs.List.{list_any}
 use Rattle.std.specs.Map.{values_of}

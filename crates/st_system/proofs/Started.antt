@@ -1,27 +1,25 @@
 -- The parts that a run starts with are those of the machine's first record.
 use native.Mathlib.Omega.{arith}
-use Rattle.std.proofs.Common.{◌≡◌, ◌≢◌, ◌≤◌, ◌<◌, ◌∙◌, ℕ, zero, suc, ◌+◌, Bool, true, false, cond, ◌&&◌, ◌==◌, List, [], ◌∷◌, length, Option, Some, None, get_or, inl, inr, refl, ap, subst, sym}
+use Rattle.std.proofs.Common.{◌≡◌, ◌≤◌, ◌<◌, ◌∙◌, ℕ, zero, suc, Bool, false, cond, List, [], ◌∷◌, length, Option, Some, None, inl, inr, refl, ap, subst, sym}
 use Rattle.std.proofs.Math.ListN.{get_or-eq_default}
 use Rattle.std.proofs.lemmas.Bool.{and_from, and_parts, cases_lt, le-leb, leb-true, lt-leb, ne_eqb}
-use Rattle.std.proofs.lemmas.Option.{slice_get-get_or}
 use Rattle.std.specs.List.{fold}
 use Rattle.std.specs.Prelude.{nat_le, slice_get}
-use Rattle.st_base.specs.Numbered.{item_at_number}
 use Rattle.st_memory.specs.Memory.{Memories, is_live}
-use Rattle.st_model.specs.Descriptors.{Table, has_table}
+use Rattle.st_model.specs.Descriptors.{Table}
 use Rattle.st_model.specs.Process.{Process}
-use Rattle.st_model.specs.Processes.{Processes, StartedThread, IsPid, no_process, next_pid, process_at, thread_at}
+use Rattle.st_model.specs.Processes.{Processes, IsPid, no_process, next_pid, process_at, thread_at}
 use Rattle.st_model.specs.Tree.{Tree, root_only}
-use Rattle.st_request.specs.Ready.{IsReady}
 use Rattle.st_trace.specs.declared.start.ProcessRow.{ProcessRow}
-use Rattle.st_trace.specs.declared.start.ThreadRow.{ThreadRow}
 use Rattle.st_law.specs.declared.input.Input.{Input}
 use Rattle.st_law.specs.Machine.{first_state, first_thread}
-use Rattle.st_law.specs.Processes.{first_process, first_tree, process_count, process_of_row, tree_with_row}
+use Rattle.st_law.specs.Processes.{first_process, process_count, process_of_row, tree_with_row}
 use Rattle.st_law.specs.State.{thread_count}
 use Rattle.st_law.specs.Threads.{first_owner, owner_of_row}
-use Rattle.st_system.specs.Start.{first_thread_of, AreFirst, HaveStarted}
+use Rattle.st_law.proofs.Laws.{all_at}
+use Rattle.st_system.specs.Start.{first_thread_of, AreFirst, CanStart, HaveStarted}
 use Rattle.st_system.specs.System.{HasOwner, IsAmong, IsSystem, IsThread, IsWhole, Parts}
+use Rattle.st_system.proofs.Short.{IsShort}
 
 -- nothing stands behind the last item of a list
 beyond : {X : Type 0} (items : List X) (k : ℕ) → length items ≤ k → slice_get items k ≡ None
@@ -36,7 +34,7 @@ inside (x ∷ items) zero low = (x, refl)
 inside (x ∷ items) (suc k) low = inside items k (omega (arith, low))
 
 module _ (i : Input) (tree : Tree) (table : Table) (first processes : Processes) (memories : Memories) (tree_is : tree ≡ fold tree_with_row root_only i.start.tree)
-    (x : AreFirst i (process_count i) table first memories) (y : HaveStarted i (thread_count i) first processes) (owners : (t : ℕ) → first_owner i t ≤ process_count i) where
+    (x : AreFirst i (process_count i) table first memories) (y : HaveStarted i (thread_count i) first processes) (start : CanStart i) where
   abbrev parts : Parts
   parts = record { tree = tree; descriptors = table; processes = processes; memories = memories }
 
@@ -53,6 +51,15 @@ module _ (i : Input) (tree : Tree) (table : Table) (first processes : Processes)
     | inl inside ↦ sym (same_row (suc k) ∙ x.rows (suc k) (omega arith) (omega (arith, inside)))
     | inr past ↦ ap (process_of_row i (suc k)) (beyond i.start.processes k past) ∙ sym (get_or-eq_default processes.rows no_process (let n = next in omega (arith, past, n)))
   ]
+
+  -- the directory of a process by its row, if it has one
+  row_short : (p k : ℕ) (o : Option ProcessRow) → slice_get i.start.processes k ≡ o → IsShort (process_of_row i p o).cwd
+  row_short p k None e = omega arith
+  row_short p k (Some row) e = all_at (λ each. IsShort each.cwd) i.start.processes k row start.short e
+
+  first_short : (p : ℕ) → IsShort (first_process i p).cwd
+  first_short zero = omega arith
+  first_short (suc k) = row_short (suc k) k (slice_get i.start.processes k) refl
 
   own_space : (p : ℕ) → 1 ≤ p → p ≤ process_count i → (process_at processes p).space ≡ p
   own_space zero low high = absurd (omega (arith, low))
@@ -110,7 +117,7 @@ module _ (i : Input) (tree : Tree) (table : Table) (first processes : Processes)
     owner_is : HasOwner processes (thread_at processes t)
     owner_is = elim (cases_lt (thread_count i) t) [
       | inl past ↦ subst (HasOwner processes) (sym (unstarted t past)) tt
-      | inr low ↦ subst (HasOwner processes) (sym (started t low)) (owner_of (first_owner i t) (owners t))
+      | inr low ↦ subst (HasOwner processes) (sym (started t low)) (owner_of (first_owner i t) (start.owners t))
     ]
 
   pub whole_first : IsWhole parts
@@ -124,6 +131,7 @@ module _ (i : Input) (tree : Tree) (table : Table) (first processes : Processes)
       real = x.real tree;
     };
     tables = λ p has. let both = and_parts (nat_le 1 p) (nat_le p (process_count i)) (sym (x.has p) ∙ has) in is_pid p (leb-true 1 p both.0) (leb-true p (process_count i) both.1);
+    short = λ p. subst (λ (process : Process). IsShort process.cwd) (process_is p) (first_short p);
   }
 
   pub system_first : IsSystem i (first_state i) parts

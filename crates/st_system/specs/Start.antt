@@ -1,11 +1,13 @@
 -- Where a run starts: the parts, as the rows of a script leave them one after the other.
-use Rattle.std.specs.Prelude.{◌≡◌, ◌≤◌, ◌<◌, ◌^◌, ◌-◌, ℕ, suc, Bool, true, false, if◌then◌else◌, ◌==◌, ◌&&◌, nat_le, take, slice_get, List, [], ◌∷◌, ◌++◌, length, Option, Some, None}
-use Rattle.std.specs.List.{fold, range_with_len}
+use Rattle.std.specs.Prelude.{◌≡◌, ◌≤◌, ◌<◌, ◌^◌, ℕ, suc, true, false, if◌then◌else◌, ◌==◌, ◌&&◌, nat_le, take, slice_get, List, [], length, Option, Some, None}
+use Rattle.std.specs.List.{All, fold, range_with_len}
 use Rattle.st_memory.specs.Memory.{Memories, byte_in, is_live, next_space}
+use Rattle.st_names.specs.Name.{printed_name}
+use Rattle.st_names.specs.declared.limits.TheConstants.{LONGEST_NAME}
 use Rattle.st_model.specs.DescriptorCalls.{table_after_start}
 use Rattle.st_model.specs.Descriptors.{Table, has_table}
 use Rattle.st_model.specs.Process.{Process}
-use Rattle.st_model.specs.Processes.{Processes, StartedThread, IsPid, next_pid, process_at, thread_at}
+use Rattle.st_model.specs.Processes.{Processes, StartedThread, next_pid, process_at, thread_at}
 use Rattle.st_model.specs.Tree.{Tree, root_only}
 use Rattle.st_procs.specs.Laws.{AreOrdered}
 use Rattle.st_request.specs.Ready.{IsReal}
@@ -27,6 +29,7 @@ pub record CanStart (i : Input) : Type 0 where
   pub few_processes : process_count i < 2 ^ 31
   pub few_threads : thread_count i < 2 ^ 31
   pub owners : (t : ℕ) → first_owner i t ≤ process_count i
+  pub short : All (λ row. length (printed_name row.cwd) ≤ LONGEST_NAME) i.start.processes
 
 -- a process of a row, with a memory of this number
 abbrev pub process_of : Option (ℕ × ℕ) → ℕ → ProcessRow → Process

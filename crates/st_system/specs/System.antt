@@ -1,5 +1,7 @@
 -- The parts of the modelled system as they are kept, against what the law's machine keeps of them.
-use Rattle.std.specs.Prelude.{◌≡◌, ◌≤◌, ℕ, true, false, Option, Some, None}
+use Rattle.std.specs.Prelude.{◌≡◌, ◌≤◌, ℕ, true, false, length, Option, Some, None}
+use Rattle.st_names.specs.Name.{printed_name}
+use Rattle.st_names.specs.declared.limits.TheConstants.{LONGEST_NAME}
 use Rattle.st_request.specs.Ready.{IsReady}
 use Rattle.st_memory.specs.Memory.{Memories, byte_in, next_space}
 use Rattle.st_model.specs.Descriptors.{Table, has_table}
@@ -23,12 +25,13 @@ abbrev pub HasOwner : Processes → Option StartedThread → Type 0
 HasOwner processes None = Unit {0}
 HasOwner processes (Some thread) = IsPid processes thread.pid
 
--- every process can make calls, and nothing else has descriptors or threads
+-- every process can make calls, its directory's name isn't too long, and nothing else has descriptors or threads
 pub record IsWhole (parts : Parts) : Type 0 where
   pub ordered : AreOrdered parts.processes
   pub owners : (t : ℕ) → HasOwner parts.processes (thread_at parts.processes t)
   pub ready : (p : ℕ) → IsPid parts.processes p → IsReady parts.tree parts.descriptors parts.processes parts.memories p
   pub tables : (p : ℕ) → has_table parts.descriptors p ≡ true → IsPid parts.processes p
+  pub short : (p : ℕ) → length (printed_name (process_at parts.processes p).cwd) ≤ LONGEST_NAME
 
 -- ---- the parts against the machine's record
 

@@ -1,14 +1,17 @@
-ghost use Rattle.std.specs.Prelude.{◌≡◌, ◌<◌, ℕ, true, cond, Option, IsSome, IfSome, IfOk, OnErr};
+ghost use Rattle.std.specs.Prelude.{◌≡◌, ◌≤◌, ◌<◌, ℕ, true, cond, length, Option, IsSome, IfSome, IfOk, OnErr};
 ghost use Rattle.st_fds.specs.Table.{KeepsTables};
 ghost use Rattle.st_model.specs.DescriptorCalls.{table_after_close_all};
 ghost use Rattle.st_model.specs.Descriptors.{has_table};
 ghost use Rattle.st_calls.specs.Call.{follows};
+ghost use Rattle.st_calls.specs.declared.call.SysCall.TheVariants.{Chdir};
 ghost use Rattle.st_effects.specs.System as effects;
 ghost use Rattle.st_model.specs.Processes.{IsPid, is_running, pid_of, process_at};
 ghost use Rattle.st_memory.specs.Memory.{byte_in};
 ghost use Rattle.st_model.specs.Memory.{word_of};
 ghost use Rattle.st_model.specs.Tree.{look};
+ghost use Rattle.st_names.specs.Name.{printed_name};
 ghost use Rattle.st_names.specs.Seen.{seen_text};
+ghost use Rattle.st_names.specs.declared.limits.TheConstants.{LONGEST_NAME};
 ghost use Rattle.st_model.specs.declared.limits.TheConstants.{SPACE_WORDS};
 ghost use Rattle.st_trace.specs.declared.entry.Entry.TheVariants.{Ended, Stored};
 ghost use Rattle.st_exec_fs.specs.Execution.{IsOnFiles};
@@ -98,10 +101,11 @@ impl System {
         self.procs.ids(pid)
     }
 
-    /// Where a process's names begin that aren't absolute.
+    /// Where a process's names begin that aren't absolute: a name of at most 1,024 bytes.
     pub fn cwd(&self, pid: Pid) -> &AbsName
         requires { IsPid self.now.processes pid }
-        ensures { result.now ≡ (process_at self.now.processes pid).cwd }
+        ensures cwd { result.now ≡ (process_at self.now.processes pid).cwd }
+        ensures short { length (printed_name result.now) ≤ LONGEST_NAME }
     {
         self.procs.cwd(pid)
     }
@@ -177,6 +181,7 @@ impl System {
     ) -> Result<Outcome, AllocError>
         requires call { IsOnFiles call }
         requires process { IsPid self.old.processes request.now.pid }
+        requires short { call ≡ Chdir → length (printed_name (effects.arg_name_at request.now 0)) ≤ LONGEST_NAME }
         requires no_link { follows call request.now.regs 0 ≡ true → IsNoLink self.old.tree (effects.arg_name_at request.now 0) }
         ensures made { IfOk result (λ outcome. (i : Input) (st : State) → IsSystem i st self.old → IsRequest i st request.now → (seq : Option ℕ) → IsMade i st seq call request.now outcome self.new) }
         ensures err { OnErr result (self.new ≡ self.old) }

@@ -1,5 +1,5 @@
 use native.Mathlib.Omega.{arith}
-use Rattle.std.proofs.Common.{◌≡◌, ◌∙◌, ap, subst, sym}
+use Rattle.std.proofs.Common.{◌∙◌, ap, subst, sym}
 use Rattle.st_model.specs.Processes.{Processes}
 use Rattle.st_system.specs.System.{IsSystem}
 use Rattle.st_system.proofs.Ends.{ended}

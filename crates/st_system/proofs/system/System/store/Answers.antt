@@ -1,5 +1,5 @@
 use native.Mathlib.Omega.{arith}
-use Rattle.std.proofs.Common.{◌≡◌, ◌∙◌, ap, subst, sym}
+use Rattle.std.proofs.Common.{◌∙◌, ap, subst, sym}
 use Rattle.st_model.specs.Processes.{process_at, thread_at}
 use Rattle.st_system.specs.System.{IsSystem}
 use Rattle.st_system.proofs.Kept.{of_ok, pid_owner, stored}
