@@ -1,4 +1,5 @@
 pub mod Binding
 pub mod Executed
 pub mod Left
+mod Ordered
 pub mod Ports

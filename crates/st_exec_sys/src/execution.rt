@@ -6,6 +6,7 @@ ghost use Rattle.st_effects.specs.System as effects;
 ghost use Rattle.st_exec_sys.specs.Execution.{Allows, CanCall, IsExecuted, IsQuestion};
 ghost use Rattle.st_model.specs.Processes.{next_pid};
 ghost use Rattle.st_model.specs.Tree.{Tree};
+ghost use Rattle.st_procs.specs.Laws.{AreOrdered};
 ghost use Rattle.st_request.specs.Outcome.{outcome_of};
 ghost use Rattle.st_request.specs.Ready.{IsReady};
 
@@ -47,6 +48,7 @@ pub fn execute_sys(
     requires process { CanCall fds.old procs.old spaces.old request.now.pid }
     requires call { Allows call fds.old procs.old spaces.old request.now }
     ensures executed { IfOk result (λ outcome. IsExecuted call request.now outcome fds.old procs.old spaces.old fds.new procs.new spaces.new) }
+    ensures ordered { AreOrdered procs.old → AreOrdered procs.new }
     ensures ready { (tree : Tree) (pid : ℕ) → IsReady tree fds.old procs.old spaces.old pid → IsReady tree fds.new procs.new spaces.new pid }
     ensures child { call ≡ Fork → OnOk result ((tree : Tree) → IsReady tree fds.old procs.old spaces.old request.now.pid → IsReady tree fds.new procs.new spaces.new (next_pid procs.old)) }
     ensures err { OnErr result ((fds.new ≡ fds.old) × ((procs.new ≡ procs.old) × (spaces.new ≡ spaces.old))) }

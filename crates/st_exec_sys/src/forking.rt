@@ -5,7 +5,7 @@ ghost use Rattle.st_exec_sys.specs.Execution.{CanCall, CanFork, IsCopied, IsExec
 ghost use Rattle.st_memory.specs.Memory.{is_live, next_space};
 ghost use Rattle.st_model.specs.Processes.{next_pid, pid_of, process_at, processes_after_fork, IsPid};
 ghost use Rattle.st_model.specs.Tree.{Tree};
-ghost use Rattle.st_procs.specs.Laws.{ThreadStarts};
+ghost use Rattle.st_procs.specs.Laws.{AreOrdered, ThreadStarts};
 ghost use Rattle.st_request.specs.Ready.{IsReady};
 ghost use Rattle.st_trace.specs.declared.entry.CallResult.TheVariants.{Value};
 ghost use Rattle.st_trace.specs.declared.entry.Change.TheVariants.{Forked};
@@ -32,6 +32,7 @@ fn start_child(
     ensures changes { IfOk result (λ outcome. outcome.changes ≡ Forked (next_pid procs.old) space request.now.child ∷ []) }
     ensures processes { OnOk result (procs.new ≡ processes_after_fork procs.old request.now.pid request.now.child space) }
     ensures threads { OnOk result (ThreadStarts procs.old request.now.child (next_pid procs.old) procs.new) }
+    ensures ordered { AreOrdered procs.old → AreOrdered procs.new }
     ensures err { OnErr result (procs.new ≡ procs.old) }
 {
     let pid = procs.next_pid();
@@ -61,6 +62,7 @@ fn start_copy(
     ensures changes { IfOk result (λ outcome. outcome.changes ≡ Forked (next_pid procs.old) (next_space spaces.old) request.now.child ∷ []) }
     ensures processes { OnOk result (procs.new ≡ processes_after_fork procs.old request.now.pid request.now.child (next_space spaces.old)) }
     ensures threads { OnOk result (ThreadStarts procs.old request.now.child (next_pid procs.old) procs.new) }
+    ensures ordered { AreOrdered procs.old → AreOrdered procs.new }
     ensures memory { OnOk result (IsCopied spaces.old (process_at procs.old request.now.pid).space spaces.new) }
     ensures err { OnErr result ((procs.new ≡ procs.old) × (spaces.new ≡ spaces.old)) }
 {
@@ -84,6 +86,7 @@ pub fn fork(
     requires process { CanCall fds.old procs.old spaces.old request.now.pid }
     requires child { CanFork fds.old procs.old spaces.old request.now }
     ensures executed { IfOk result (λ outcome. IsExecuted Fork request.now outcome fds.old procs.old spaces.old fds.new procs.new spaces.new) }
+    ensures ordered { AreOrdered procs.old → AreOrdered procs.new }
     ensures ready { (tree : Tree) (pid : ℕ) → IsReady tree fds.old procs.old spaces.old pid → IsReady tree fds.new procs.new spaces.new pid }
     ensures child { OnOk result ((tree : Tree) → IsReady tree fds.old procs.old spaces.old request.now.pid → IsReady tree fds.new procs.new spaces.new (next_pid procs.old)) }
     ensures err { OnErr result ((fds.new ≡ fds.old) × ((procs.new ≡ procs.old) × (spaces.new ≡ spaces.old))) }

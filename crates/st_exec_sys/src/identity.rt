@@ -53,6 +53,7 @@ pub fn set_ids(
     ensures outcome { IfOk result (λ outcome. (system : effects.System) → system.held ≡ [] → outcome_of outcome system.descriptors ≡ set_ids_outcome call system request.now) }
     ensures processes { IfOk result (λ outcome. AreProcessesAfter procs.old request.now.pid outcome.changes procs.new) }
     ensures changes { IfOk result (λ outcome. AreOfProcesses outcome.changes) }
+    ensures threads { procs.new.threads ≡ procs.old.threads }
     ensures pids { next_pid procs.new ≡ next_pid procs.old }
     ensures err { OnErr result (procs.new ≡ procs.old) }
 {
