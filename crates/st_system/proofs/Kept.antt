@@ -1,32 +1,19 @@
--- Steps that leave the system as the machine's record has it.
-use Rattle.std.proofs.Common.{◌≡◌, ◌∙◌, ℕ, Option, Some, None, refl, ap, subst, sym}
+-- A store leaves the system as the machine's record has it.
+use native.Mathlib.Omega.{arith}
+use Rattle.std.proofs.Common.{◌==◌, ◌≡◌, ◌≢◌, ◌∙◌, ℕ, true, false, not, Option, Some, None, refl, ap, sym}
+use Rattle.std.proofs.lemmas.Bool.{eq-eqb, ne_eqb}
 use Rattle.std.specs.Option.{option_map}
-use Rattle.std.specs.Prelude.{Result, Ok, Err, IfOk, IsErr, OnOk}
-use Rattle.st_calls.specs.declared.call.SysCall.{SysCall}
-use Rattle.st_calls.specs.declared.call.SysCall.TheVariants.{Chdir}
-use Rattle.st_memory.specs.Memory.{Memories, byte_in, next_space, KeepsSpaces}
-use Rattle.st_model.specs.Memory.{memory_after_store}
-use Rattle.st_model.specs.Processes.{StartedThread, process_at, thread_at}
-use Rattle.st_procs.specs.Laws.{AreOrdered}
-use Rattle.st_effects.specs.Changes.{memory_after, process_after, tree_after}
-use Rattle.st_effects.specs.Effect.{effect}
-use Rattle.st_effects.specs.System.{Request, System, arg_name_at}
-use Rattle.st_trace.specs.declared.entry.CallResult.{CallResult}
-use Rattle.st_trace.specs.declared.entry.CallResult.TheVariants.{Value, Failed}
-use Rattle.st_trace.specs.declared.entry.Entry.TheVariants.{Stored, Used}
-use Rattle.st_exec_fs.specs.Execution.{IsExecuted, IsOnFiles}
-use Rattle.st_request.specs.Outcome.{outcome_of}
-use Rattle.st_request.specs.declared.outcome.Outcome.{Outcome}
-use Rattle.st_exec_fs.proofs.Changed.{Each}
+use Rattle.std.specs.Prelude.{Result, Ok, Err, IsErr, OnOk, is_some}
+use Rattle.st_memory.specs.Memory.{Memories, byte_in, is_live, KeepsSpaces}
+use Rattle.st_model.specs.Memory.{memory_after_store, word_of}
+use Rattle.st_model.specs.Process.{Process}
+use Rattle.st_model.specs.Processes.{Processes, StartedThread, has_not_ended, process_at, thread_at}
+use Rattle.st_trace.specs.declared.entry.Entry.TheVariants.{Stored}
 use Rattle.st_law.specs.declared.input.Input.{Input}
-use Rattle.st_law.specs.Machine.{state_after, table_after}
-use Rattle.st_law.specs.State.{State, ThreadState, system_of, thread_count}
-use Rattle.st_system.specs.System.{IsAmong, IsSystem, IsThread, Parts}
-use Rattle.st_system.specs.Steps.{IsMade, IsRequest}
-use Rattle.st_system.proofs.Failures.{failure_keeps}
-use Rattle.st_system.proofs.Plain.{IsPlain, next_process_same, next_space_same, owner_same, plain_changes}
-use Rattle.st_system.proofs.Same.{system_is}
-use Rattle.st_system.proofs.Short.{IsShort}
+use Rattle.st_law.specs.Machine.{state_after}
+use Rattle.st_law.specs.State.{State, ThreadState}
+use Rattle.st_system.specs.System.{HasOwner, IsSystem, IsThread, Parts, is_given_up}
+use Rattle.st_system.proofs.Memory.{agree_stored, live_kept, same_given_up}
 
 -- the process of a thread, by whether it has started
 abbrev pub owner_in : Option StartedThread → ℕ
@@ -43,76 +30,47 @@ pid_owner None p is = absurd cc
 pid_owner (Some thread) p is = cc
 
 -- a thread's row with another way to say who owns it
-with_owner : (o : Option StartedThread) (row other : ThreadState) → IsThread o row → other.owner ≡ row.owner → other.ended ≡ row.ended → IsThread o other
+pub with_owner : (o : Option StartedThread) (row other : ThreadState) → IsThread o row → other.owner ≡ row.owner → other.ended ≡ row.ended → IsThread o other
 with_owner None row other x owner ended = (owner ∙ x.0, ended ∙ x.1)
 with_owner (Some thread) row other x owner ended = (owner ∙ x.0, ended ∙ x.1)
 
-module _ (i : Input) (st : State) (parts : Parts) (x : IsSystem i st parts) where
-  -- ---- a store
-
-  pub stored : (t place word space : ℕ) (new : Memories) → space ≡ (process_at parts.processes (owner_in (thread_at parts.processes t))).space
-      → ((s b : ℕ) → byte_in new s b ≡ memory_after_store (byte_in parts.memories) space place word s b) → next_space new ≡ next_space parts.memories
-      → IsSystem i (state_after i st (Stored t place word)) (record { tree = parts.tree; descriptors = parts.descriptors; processes = parts.processes; memories = new })
-  stored t place word space new space_is bytes next = record {
-    tree = x.tree;
-    descriptors = x.descriptors;
-    processes = x.processes;
-    next_process = x.next_process;
-    memory = λ s b. (λ k. memory_after_store (λ s b. x.memory s b k) (own k) place word s b) ∙ sym (bytes s b);
-    next_space = x.next_space ∙ sym next;
-    threads = λ u. with_owner (thread_at parts.processes u) (st.threads u) ((state_after i st (Stored t place word)).threads u) (x.threads u) refl refl;
-    among = x.among;
-  } where
-    own : (st.processes (st.threads t).owner).space ≡ space
-    own = ap (λ p. (st.processes p).space) (owner_is (thread_at parts.processes t) (st.threads t) (x.threads t)) ∙ ap (λ process. process.space) (x.processes (owner_in (thread_at parts.processes t))) ∙ sym space_is
-
-  -- ---- a call on names and files
-
-  module _ (ordered : AreOrdered parts.processes) (call : SysCall) (request : Request) (outcome : Outcome) (new : Parts) (on : IsOnFiles call) (move : call ≡ Chdir → IsShort (arg_name_at request 0)) (is : IsRequest i st request)
-      (done : IsExecuted call request outcome parts.tree parts.descriptors parts.processes parts.memories new.tree new.descriptors new.processes new.memories)
-      (spaces : KeepsSpaces parts.memories new.memories) where
-    whole : outcome_of outcome new.descriptors ≡ effect (system_of i st) call request
-    whole = done.outcome (system_of i st) ∙ ap (λ (system : System). effect system call request) (system_is i st parts x ordered)
-
-    plain : Each IsPlain outcome.changes
-    plain = subst (Each IsPlain) (sym (ap (λ o. o.changes) whole)) (plain_changes (system_of i st) request call on move)
-
-    owner : (st.threads request.tid).owner ≡ request.pid
-    owner = sym (ap (λ (r : Request). r.pid) is)
-
-    -- the descriptors behind the entry, by the result
-    table : (result : CallResult) → outcome.result ≡ result → (seq : Option ℕ) → table_after i st (Used request.tid seq call request.regs request.args request.ids result outcome.changes) ≡ new.descriptors
-    table (Value n) e seq = ap (λ (r : Request). (effect (system_of i st) call r).descriptors) (sym is) ∙ sym (ap (λ o. o.descriptors) whole)
-    table (Failed errno) e seq = sym (failure_keeps (system_of i st) request call errno (sym (ap (λ o. o.result) whole) ∙ e)) ∙ sym (ap (λ o. o.descriptors) whole)
-
-    same_thread : (t : ℕ) → thread_at new.processes t ≡ thread_at parts.processes t
-    same_thread t = ap (λ threads. thread_at (record { rows = parts.processes.rows; threads = threads }) t) done.processes.threads
-
-    pub made : (seq : Option ℕ) → IsMade i st seq call request outcome new
-    made seq = record {
-      result = ap (λ o. o.result) whole;
-      changes = ap (λ o. o.changes) whole;
-      system = record {
-        tree = ap (λ tree. tree_after tree outcome.changes) x.tree ∙ sym done.tree;
-        descriptors = table outcome.result refl seq;
-        processes = λ p. (λ k. process_after (λ q. x.processes q k) (owner k) p outcome.changes) ∙ sym (done.processes.processes p);
-        next_process = next_process_same st.next_process outcome.changes plain ∙ x.next_process ∙ sym done.processes.next;
-        memory = λ s b. (λ k. memory_after ((x.processes (owner k) k).space) (λ s b. x.memory s b k) outcome.changes s b) ∙ sym (done.memory s b);
-        next_space = next_space_same st.next_space outcome.changes plain ∙ x.next_space ∙ sym spaces.0;
-        threads = λ t. subst (λ o. IsThread o ((state_after i st (Used request.tid seq call request.regs request.args request.ids outcome.result outcome.changes)).threads t)) (sym (same_thread t))
-            (with_owner (thread_at parts.processes t) (st.threads t) ((state_after i st (Used request.tid seq call request.regs request.args request.ids outcome.result outcome.changes)).threads t) (x.threads t) (owner_same t (st.threads t).owner outcome.changes plain) refl);
-        among = λ t. subst (IsAmong (thread_count i) t) (sym (same_thread t)) (x.among t);
-      };
-    }
+-- a store
+pub stored : (i : Input) (st : State) (parts : Parts) → IsSystem i st parts → (t place word space : ℕ) (new : Memories) → space ≡ (process_at parts.processes (owner_in (thread_at parts.processes t))).space
+    → is_live parts.memories space ≡ true → ((s b : ℕ) → byte_in new s b ≡ memory_after_store (byte_in parts.memories) space place word s b) → KeepsSpaces parts.memories new
+    → IsSystem i (state_after i st (Stored t place word)) (record { tree = parts.tree; descriptors = parts.descriptors; processes = parts.processes; memories = new })
+stored i st parts x t place word space new space_is live bytes keeps = record {
+  tree = x.tree;
+  descriptors = x.descriptors;
+  processes = x.processes;
+  next_process = x.next_process;
+  memory = λ s b there. ap (λ own. memory_after_store st.memory own place word s b) own
+      ∙ agree_stored space (λ s. is_given_up parts.memories s ≡ false) (live_kept parts.memories space live) place word st.memory (byte_in parts.memories) (λ s is n. x.memory s n is) s (same_given_up parts.memories new keeps s ∙ there) b
+      ∙ sym (bytes s b);
+  next_space = x.next_space ∙ sym keeps.0;
+  threads = λ u. with_owner (thread_at parts.processes u) (st.threads u) ((state_after i st (Stored t place word)).threads u) (x.threads u) refl refl;
+  among = x.among;
+} where
+  own : (st.processes (st.threads t).owner).space ≡ space
+  own = ap (λ p. (st.processes p).space) (owner_is (thread_at parts.processes t) (st.threads t) (x.threads t)) ∙ ap (λ process. process.space) (x.processes (owner_in (thread_at parts.processes t))) ∙ sym space_is
 
 -- what a result says that is no error
 pub of_ok : {A E P : Type 0} (result : Result A E) → OnOk result P → (IsErr result → ⊥) → P
 of_ok (Ok a) on fine = on
 of_ok (Err e) on fine = absurd (fine refl)
 
--- what making a call says, where there is memory for it
-pub made_executed : {E : Type 0} (result : Result Outcome E) (parts new : Parts) (call : SysCall) (request : Request) → AreOrdered parts.processes → IsOnFiles call → (call ≡ Chdir → IsShort (arg_name_at request 0))
-    → IfOk result (λ outcome. IsExecuted call request outcome parts.tree parts.descriptors parts.processes parts.memories new.tree new.descriptors new.processes new.memories) → KeepsSpaces parts.memories new.memories
-    → IfOk result (λ outcome. (i : Input) (st : State) → IsSystem i st parts → IsRequest i st request → (seq : Option ℕ) → IsMade i st seq call request outcome new)
-made_executed (Ok outcome) parts new call request ordered on move done spaces = λ i st x is seq. made i st parts x ordered call request outcome new on move is done spaces seq
-made_executed (Err error) parts new call request ordered on move done spaces = tt
+-- a word of a process's memory
+pub word_is : (i : Input) (st : State) (parts : Parts) → IsSystem i st parts → (pid place : ℕ) → is_live parts.memories (process_at parts.processes pid).space ≡ true
+    → (word : ℕ) → word ≡ word_of (byte_in parts.memories (process_at parts.processes pid).space) place → word ≡ word_of (st.memory (st.processes pid).space) place
+word_is i st parts x pid place live word is =
+    is ∙ (λ k. word_of (λ b. sym (x.memory (process_at parts.processes pid).space b (live_kept parts.memories (process_at parts.processes pid).space live)) k) place)
+    ∙ sym (ap (λ (process : Process). word_of (st.memory process.space) place) (x.processes pid))
+
+-- a thread that has started and hasn't ended, by its row
+pub started_runs : (o : Option StartedThread) (row : ThreadState) → IsThread o row → row.owner ≢ 0 → row.ended ≡ false → has_not_ended o ≡ true
+started_runs None row x started running = absurd (started x.0)
+started_runs (Some thread) row x started running = ap not (sym x.1 ∙ running)
+
+-- whether a thread has started, by its row
+pub started_is : (processes : Processes) (o : Option StartedThread) (row : ThreadState) → IsThread o row → HasOwner processes o → is_some (option_map (λ (thread : StartedThread). thread.pid) o) ≡ not (row.owner == 0)
+started_is processes None row x owner = sym (ap not (eq-eqb row.owner 0 x.0))
+started_is processes (Some thread) row x owner = let low = owner.0 in sym (ap not (ne_eqb row.owner 0 (λ zero. let same = x.0 in omega (arith, low, zero, same))))

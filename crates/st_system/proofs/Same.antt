@@ -1,17 +1,18 @@
 -- The system that a call finds by the machine's record is the one of the parts.
-use Rattle.std.proofs.Common.{◌≡◌, ◌≢◌, ◌≤◌, ◌∙◌, ℕ, suc, zero, Bool, true, not, ◌&&◌, ◌||◌, ◌==◌, Option, Some, None, refl, ap, sym}
+use Rattle.std.proofs.Common.{◌≡◌, ◌≢◌, ◌≤◌, ◌∙◌, ℕ, suc, zero, Bool, true, not, ◌&&◌, ◌||◌, ◌==◌, [], Option, Some, None, refl, ap, sym}
 use Rattle.std.proofs.lemmas.Bool.{true≢false, ne_eqb}
 use Rattle.std.specs.List.{list_any}
 use Rattle.std.specs.Map.{values_of}
 use Rattle.std.specs.Prelude.{is_some, nat_lt}
 use Rattle.st_request.specs.Outcome.{system_of}
+use Rattle.st_memory.specs.Memory.{byte_in}
 use Rattle.st_model.specs.Processes as model
 use Rattle.st_model.specs.Processes.{Processes, StartedThread, next_pid, thread_at}
 use Rattle.st_procs.specs.Laws.{AreOrdered}
 use Rattle.st_law.specs.declared.input.Input.{Input}
 use Rattle.st_law.specs.Sessions.{least_from}
-use Rattle.st_law.specs.State as law
-use Rattle.st_law.specs.State.{State, ThreadState, held_from, is_live_process, is_thread_of, is_running_in, thread_count}
+use Rattle.st_law.specs.State.{State, ThreadState, is_live_process, is_thread_of, is_running_in, thread_count}
+use Rattle.st_system.specs.Steps.{unheld_system}
 use Rattle.st_system.specs.System.{IsAmong, IsSystem, IsThread, Parts}
 use Rattle.st_system.proofs.Living.{passes, some_is}
 
@@ -44,16 +45,16 @@ module _ (i : Input) (st : State) (parts : Parts) (x : IsSystem i st parts) (ord
   live_is (suc q) = let differ : 0 ≢ suc q = λ e. cc in
       λ k. (nat_lt 0 (suc q) && nat_lt (suc q) (x.next_process k)) && (not (some_thread (suc q) differ k) || some_running (suc q) differ k)
 
-  -- the system that a call finds
-  pub system_is : system_of (law.system_of i st) parts.tree parts.descriptors parts.processes parts.memories ≡ law.system_of i st
+  -- the system that a call finds without its held calls, but for memories that were given up
+  pub system_is : system_of (unheld_system i st) parts.tree parts.descriptors parts.processes parts.memories ≡ record (unheld_system i st) { memory = byte_in parts.memories }
   system_is = λ k. record {
     tree = sym x.tree k;
-    memory = λ s b. sym (x.memory s b) k;
+    memory = byte_in parts.memories;
     descriptors = sym x.descriptors k;
     processes = λ p. sym (x.processes p) k;
     is_live = λ p. sym (live_is p) k;
     next_process = sym x.next_process k;
     next_space = sym x.next_space k;
     next_number = suc st.posted;
-    held = held_from st 1 (thread_count i);
+    held = [];
   }

@@ -131,6 +131,7 @@ module _ (i : Input) (tree : Tree) (table : Table) (first processes : Processes)
       real = x.real tree;
     };
     tables = λ p has. let both = and_parts (nat_le 1 p) (nat_le p (process_count i)) (sym (x.has p) ∙ has) in is_pid p (leb-true 1 p both.0) (leb-true p (process_count i) both.1);
+    apart = λ p q is other same. let low = among_pids p is in let high = among_pids q other in sym (own_space p low.0 low.1) ∙ same ∙ own_space q high.0 high.1;
     short = λ p. subst (λ (process : Process). IsShort process.cwd) (process_is p) (first_short p);
   }
 
@@ -140,7 +141,7 @@ module _ (i : Input) (tree : Tree) (table : Table) (first processes : Processes)
     descriptors = sym x.table_is;
     processes = process_is;
     next_process = sym next;
-    memory = λ s b. sym (x.zeros s b);
+    memory = λ s b kept. sym (x.zeros s b);
     next_space = sym x.next_space_is;
     threads = thread_is;
     among = thread_among;

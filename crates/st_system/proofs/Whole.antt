@@ -1,30 +1,18 @@
 -- What holds of the parts at all times holds behind each step.
-use Rattle.std.proofs.Common.{◌≡◌, ◌∙◌, ◌==◌, ℕ, Bool, true, false, cond, [], refl, ap, subst, sym, Option, Some, None}
+use Rattle.std.proofs.Common.{◌≡◌, ◌∙◌, ◌==◌, ℕ, Bool, true, false, cond, refl, ap, subst, sym, Option, Some, None}
 use Rattle.std.proofs.lemmas.Cmp.{nat_cmp_total}
 use Rattle.std.specs.List.{All}
 use Rattle.std.specs.Option.{option_map}
 use Rattle.std.specs.Ordering.{nat_cmp}
-use Rattle.std.specs.Prelude.{◌<◌, Result, Ok, Err, IfOk, OnErr}
-use Rattle.st_calls.specs.declared.call.SysCall.{SysCall}
-use Rattle.st_calls.specs.declared.call.SysCall.TheVariants.{Chdir}
 use Rattle.st_fds.specs.Table.{KeepsTables}
 use Rattle.st_memory.specs.Memory.{Memories, is_live, KeepsSpaces}
 use Rattle.st_model.specs.DescriptorCalls.{table_after_close_all}
 use Rattle.st_model.specs.Descriptors.{Table}
-use Rattle.st_model.specs.Process.{Process}
-use Rattle.st_model.specs.Processes.{Processes, StartedThread, IsPid, next_pid, process_at, processes_after_end, processes_after_end_at, thread_at}
+use Rattle.st_model.specs.Processes.{Processes, StartedThread, IsPid, process_at, processes_after_end, processes_after_end_at, thread_at}
 use Rattle.st_model.proofs.Ordered.{sorted-insert_entry}
 use Rattle.st_procs.specs.Laws.{AreOrdered, ThreadEnds}
-use Rattle.st_effects.specs.System as effects
-use Rattle.st_effects.specs.System.{Request, arg_name_at}
-use Rattle.st_model.specs.Processes as model
-use Rattle.st_memory.specs.Memory.{byte_in, next_space}
-use Rattle.st_exec_fs.specs.Execution.{IsExecuted, IsOnFiles}
-use Rattle.st_request.specs.Ready.{IsReady, IsRealFile}
-use Rattle.st_request.specs.declared.outcome.Outcome.{Outcome}
-use Rattle.st_exec_fs.proofs.Changed.{Each}
+use Rattle.st_request.specs.Ready.{IsRealFile}
 use Rattle.st_system.specs.System.{HasOwner, IsWhole, Parts}
-use Rattle.st_system.proofs.Plain.{IsPlain, plain_changes, short_same, space_same}
 use Rattle.st_system.proofs.Short.{IsShort}
 
 -- memory is written, and no space comes or goes
@@ -35,68 +23,9 @@ whole_memory parts new x keeps = record {
   owners = x.owners;
   ready = λ p is. let r = x.ready p is in record { table = r.table; process = r.process; space = keeps.1 (process_at parts.processes p).space ∙ r.space; real = r.real };
   tables = x.tables;
+  apart = x.apart;
   short = x.short;
 }
-
-module _ (parts new : Parts) (x : IsWhole parts) (call : SysCall) (request : Request) (outcome : Outcome) (on : IsOnFiles call) (move : call ≡ Chdir → IsShort (arg_name_at request 0))
-    (done : IsExecuted call request outcome parts.tree parts.descriptors parts.processes parts.memories new.tree new.descriptors new.processes new.memories)
-    (spaces : KeepsSpaces parts.memories new.memories) (tables : KeepsTables parts.descriptors new.descriptors)
-    (ready : IsReady new.tree new.descriptors new.processes new.memories request.pid) where
-  -- a system of these parts
-  abbrev system : effects.System
-  system = record {
-    tree = parts.tree;
-    memory = byte_in parts.memories;
-    descriptors = parts.descriptors;
-    processes = process_at parts.processes;
-    is_live = model.is_live parts.processes;
-    next_process = next_pid parts.processes;
-    next_space = next_space parts.memories;
-    next_number = 0;
-    held = [];
-  }
-
-  plain : Each IsPlain outcome.changes
-  plain = subst (Each IsPlain) (sym (ap (λ o. o.changes) (done.outcome system))) (plain_changes system request call on move)
-
-  same_thread : (t : ℕ) → thread_at new.processes t ≡ thread_at parts.processes t
-  same_thread t = ap (λ threads. thread_at (record { rows = parts.processes.rows; threads = threads }) t) done.processes.threads
-
-  pid_before : (p : ℕ) → IsPid new.processes p → IsPid parts.processes p
-  pid_before p is = (is.0, subst (λ n. p < n) done.processes.next is.1)
-
-  pid_now : (p : ℕ) → IsPid parts.processes p → IsPid new.processes p
-  pid_now p is = (is.0, subst (λ n. p < n) (sym done.processes.next) is.1)
-
-  owner_now : (o : Option StartedThread) → HasOwner parts.processes o → HasOwner new.processes o
-  owner_now None x = tt
-  owner_now (Some thread) x = pid_now thread.pid x
-
-  space_is : (p : ℕ) → (process_at new.processes p).space ≡ (process_at parts.processes p).space
-  space_is p = ap (λ process. process.space) (done.processes.processes p) ∙ space_same (process_at parts.processes) request.pid p outcome.changes plain
-
-  pub whole_call : IsWhole new
-  whole_call = record {
-    ordered = subst (λ threads. AreOrdered (record { rows = new.processes.rows; threads = threads })) (sym done.processes.threads) x.ordered;
-    owners = λ t. subst (HasOwner new.processes) (sym (same_thread t)) (owner_now (thread_at parts.processes t) (x.owners t));
-    ready = λ p is. let r = x.ready p (pid_before p is) in record {
-      table = tables p ∙ r.table;
-      process = is;
-      space = ap (λ s. is_live new.memories s) (space_is p) ∙ spaces.1 (process_at parts.processes p).space ∙ r.space;
-      real = ready.real;
-    };
-    tables = λ p has. pid_now p (x.tables p (sym (tables p) ∙ has));
-    short = λ p. subst (λ (process : Process). IsShort process.cwd) (sym (done.processes.processes p)) (short_same (process_at parts.processes) request.pid p x.short outcome.changes plain);
-  }
-
--- a call that is made, or for which memory was wanting
-pub whole_executed : {E : Type 0} (result : Result Outcome E) (parts new : Parts) (call : SysCall) (request : Request) → IsWhole parts → IsOnFiles call → (call ≡ Chdir → IsShort (arg_name_at request 0))
-    → IfOk result (λ outcome. IsExecuted call request outcome parts.tree parts.descriptors parts.processes parts.memories new.tree new.descriptors new.processes new.memories)
-    → KeepsSpaces parts.memories new.memories → KeepsTables parts.descriptors new.descriptors → IsReady new.tree new.descriptors new.processes new.memories request.pid
-    → OnErr result ((new.tree ≡ parts.tree) × ((new.descriptors ≡ parts.descriptors) × ((new.processes ≡ parts.processes) × (new.memories ≡ parts.memories)))) → IsWhole new
-whole_executed (Ok outcome) parts new call request x on move done spaces tables ready err = whole_call parts new x call request outcome on move done spaces tables ready
-whole_executed (Err error) parts new call request x on move done spaces tables ready err =
-    subst IsWhole (λ k. record { tree = sym err.0 k; descriptors = sym err.1.0 k; processes = sym err.1.1.0 k; memories = sym err.1.1.1 k }) x
 
 -- ---- a thread's end
 
@@ -129,6 +58,7 @@ pub whole_end : (parts : Parts) (t p : ℕ) (r : Bool) (new : Processes) (table 
 whole_end parts t p r new table x is ends is_table keeps =
     let rows : new.rows ≡ parts.processes.rows = ap (λ (q : Processes). q.rows) is ∙ rows_stay parts.processes t in
     let back : (q : ℕ) → IsPid new q → IsPid parts.processes q = λ q there. subst (λ rows. IsPid (record { rows = rows; threads = new.threads }) q) rows there in
+    let same_space : (q : ℕ) → (process_at parts.processes q).space ≡ (process_at new q).space = λ q. ap (λ rows. (process_at (record { rows = rows; threads = new.threads }) q).space) (sym rows) in
     let now : (q : ℕ) → IsPid parts.processes q → IsPid new q = λ q there. subst (λ rows. IsPid (record { rows = rows; threads = new.threads }) q) (sym rows) there in
     record {
       ordered = subst AreOrdered (sym is) (ordered_end parts.processes t (thread_at parts.processes t) x.ordered);
@@ -140,5 +70,6 @@ whole_end parts t p r new table x is ends is_table keeps =
         real = subst (All (IsRealFile parts.tree)) (sym (files_of parts p r table is_table)) before.real;
       };
       tables = λ q has. now q (x.tables q (sym (keeps q) ∙ has));
+      apart = λ q r is other same. x.apart q r (back q is) (back r other) (same_space q ∙ same ∙ sym (same_space r));
       short = λ q. subst (λ rows. IsShort (process_at (record { rows = rows; threads = new.threads }) q).cwd) (sym rows) (x.short q);
     }

@@ -1,3 +1,4 @@
+pub mod Fit
 pub mod Start
 pub mod Steps
 pub mod System

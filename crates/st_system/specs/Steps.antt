@@ -1,21 +1,112 @@
 -- What steps leave of the system, against what their entries make of the machine's record.
-use Rattle.std.specs.Prelude.{◌≡◌, ℕ, Option}
+use Rattle.std.specs.Prelude.{◌≡◌, ◌≤◌, ◌<◌, ◌^◌, ◌-◌, ℕ, suc, Bool, true, false, if◌then◌else◌, List, [], ◌++◌, length, Option, None}
 use Rattle.st_calls.specs.declared.call.SysCall.{SysCall}
+use Rattle.st_calls.specs.declared.call.SysCall.TheVariants.{Fork, Execve, Exit, Kill, GetPid, GetUid, GetEuid, SetUid, SetEuid, SetGid, SetEgid, Socket, Bind, Connect, Chdir}
+use Rattle.st_memory.specs.Memory.{next_space}
+use Rattle.st_model.specs.Processes.{next_pid, pid_of}
+use Rattle.st_names.specs.Name.{printed_name}
+use Rattle.st_names.specs.declared.limits.TheConstants.{LONGEST_NAME}
 use Rattle.st_effects.specs.Effect.{effect}
-use Rattle.st_effects.specs.System.{Request}
+use Rattle.st_effects.specs.Processes.{renewals}
+use Rattle.st_effects.specs.System as effects
+use Rattle.st_effects.specs.System.{Request, arg_name_at}
+use Rattle.st_trace.specs.declared.entry.CallResult.{CallResult}
+use Rattle.st_trace.specs.declared.entry.CallResult.TheVariants.{Value, Failed}
+use Rattle.st_trace.specs.declared.entry.Change.{Change}
 use Rattle.st_trace.specs.declared.entry.Entry.TheVariants.{Used}
 use Rattle.st_request.specs.declared.outcome.Outcome.{Outcome}
+use Rattle.st_exec_sys.specs.Execution.{HasOwnIds}
+use Rattle.st_exec_sys.specs.Sockets.{HasPort}
 use Rattle.st_law.specs.declared.input.Input.{Input}
+use Rattle.st_law.specs.Inputs.{IsThread}
 use Rattle.st_law.specs.Machine.{state_after}
-use Rattle.st_law.specs.State.{State, request_of, system_of}
+use Rattle.st_law.specs.State.{State, held_from, request_of, system_of, thread_count}
 use Rattle.st_system.specs.System.{IsSystem, Parts}
+
+-- ---- what a call needs
 
 -- a request is that of its thread, by the machine's record
 abbrev pub IsRequest : Input → State → Request → Type 0
 IsRequest i st request = request ≡ request_of i st request.tid request.regs request.args request.ids
 
--- a call has the result and the changes of its effect, and the system is the one behind the entry by which it is made
+-- the thread that a fork starts is one of the script's
+abbrev pub HasChild : Input → SysCall → Request → Type 0
+HasChild i Fork request = IsThread i request.child
+HasChild i _ request = Unit {0}
+
+-- the thread of the child hasn't started, and there are numbers left for its process and its memory
+pub record CanFork (parts : Parts) (request : Request) : Type 0 where
+  pub thread : pid_of parts.processes request.child ≡ None
+  pub pids : next_pid parts.processes < 2 ^ 32 - 1
+  pub spaces : next_space parts.memories < 2 ^ 32
+
+-- what a call needs besides: a short name for a directory, numbers that are left, its process's own ids, a port of 16 bits
+abbrev pub CanMake : SysCall → Parts → Request → Type 0
+CanMake Chdir parts request = length (printed_name (arg_name_at request 0)) ≤ LONGEST_NAME
+CanMake Fork parts request = CanFork parts request
+CanMake Execve parts request = next_space parts.memories < 2 ^ 32
+CanMake SetUid parts request = HasOwnIds parts.processes request
+CanMake SetEuid parts request = HasOwnIds parts.processes request
+CanMake SetGid parts request = HasOwnIds parts.processes request
+CanMake SetEgid parts request = HasOwnIds parts.processes request
+CanMake Bind parts request = HasPort request
+CanMake Connect parts request = HasPort request
+CanMake _ parts request = Unit {0}
+
+-- a call on processes, ids and sockets
+abbrev pub IsOnProcesses : SysCall → Type 0
+IsOnProcesses Fork = Unit {0}
+IsOnProcesses Exit = Unit {0}
+IsOnProcesses Kill = Unit {0}
+IsOnProcesses GetPid = Unit {0}
+IsOnProcesses GetUid = Unit {0}
+IsOnProcesses GetEuid = Unit {0}
+IsOnProcesses SetUid = Unit {0}
+IsOnProcesses SetEuid = Unit {0}
+IsOnProcesses SetGid = Unit {0}
+IsOnProcesses SetEgid = Unit {0}
+IsOnProcesses Socket = Unit {0}
+IsOnProcesses Bind = Unit {0}
+IsOnProcesses Connect = Unit {0}
+IsOnProcesses _ = ⊥
+
+-- ---- what it leaves
+
+-- the system that a call finds, without its held calls
+abbrev pub unheld_system : Input → State → effects.System
+unheld_system i st = record (system_of i st) { held = [] }
+
+-- whether a call sets ids
+abbrev pub sets_ids : SysCall → Bool
+sets_ids SetUid = true
+sets_ids SetEuid = true
+sets_ids SetGid = true
+sets_ids SetEgid = true
+sets_ids _ = false
+
+-- the renewals of the process's held calls, where it has set its ids
+abbrev pub renewals_of : Input → State → Request → CallResult → List Change
+renewals_of i st request (Value n) = renewals request.pid request.tid (suc st.posted) (held_from st 1 (thread_count i))
+renewals_of i st request (Failed errno) = []
+
+-- the changes of a call as its entry has them: behind those of one that sets ids stand the renewals
+abbrev pub with_renewals : Input → State → SysCall → Request → CallResult → List Change → List Change
+with_renewals i st call request result changes = if sets_ids call then changes ++ renewals_of i st request result else changes
+
+-- the effect of a call over a system, by its effect without the held calls: they are renewed behind the changes
+pub record RenewsBehind (i : Input) (st : State) (call : SysCall) (request : Request) : Type 0 where
+  pub result : (effect (system_of i st) call request).result ≡ (effect (unheld_system i st) call request).result
+  pub changes : (effect (system_of i st) call request).changes
+      ≡ with_renewals i st call request (effect (unheld_system i st) call request).result (effect (unheld_system i st) call request).changes
+  pub descriptors : (effect (system_of i st) call request).descriptors ≡ (effect (unheld_system i st) call request).descriptors
+
+-- a call has the result and, but for renewals, the changes of its effect, and the system is the one behind the entry by which it is made
 pub record IsMade (i : Input) (st : State) (seq : Option ℕ) (call : SysCall) (request : Request) (outcome : Outcome) (parts : Parts) : Type 0 where
   pub result : outcome.result ≡ (effect (system_of i st) call request).result
-  pub changes : outcome.changes ≡ (effect (system_of i st) call request).changes
-  pub system : IsSystem i (state_after i st (Used request.tid seq call request.regs request.args request.ids outcome.result outcome.changes)) parts
+  pub changes : with_renewals i st call request outcome.result outcome.changes ≡ (effect (system_of i st) call request).changes
+  pub system : IsSystem i (state_after i st (Used request.tid seq call request.regs request.args request.ids outcome.result (with_renewals i st call request outcome.result outcome.changes))) parts
+
+-- a call was made over these parts and left those, whatever the record is that they are the parts of
+abbrev pub IsDone : SysCall → Request → Outcome → Parts → Parts → Type 0
+IsDone call request outcome old new =
+    (i : Input) (st : State) → IsSystem i st old → IsRequest i st request → HasChild i call request → (seq : Option ℕ) → IsMade i st seq call request outcome new

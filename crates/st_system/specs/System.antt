@@ -1,9 +1,9 @@
 -- The parts of the modelled system as they are kept, against what the law's machine keeps of them.
-use Rattle.std.specs.Prelude.{◌≡◌, ◌≤◌, ℕ, true, false, length, Option, Some, None}
+use Rattle.std.specs.Prelude.{◌≡◌, ◌≤◌, ℕ, Bool, true, false, ◌&&◌, not, nat_lt, length, Option, Some, None}
 use Rattle.st_names.specs.Name.{printed_name}
 use Rattle.st_names.specs.declared.limits.TheConstants.{LONGEST_NAME}
 use Rattle.st_request.specs.Ready.{IsReady}
-use Rattle.st_memory.specs.Memory.{Memories, byte_in, next_space}
+use Rattle.st_memory.specs.Memory.{Memories, byte_in, is_live, next_space}
 use Rattle.st_model.specs.Descriptors.{Table, has_table}
 use Rattle.st_model.specs.Processes.{Processes, StartedThread, IsPid, next_pid, process_at, thread_at}
 use Rattle.st_model.specs.Tree.{Tree}
@@ -25,12 +25,13 @@ abbrev pub HasOwner : Processes → Option StartedThread → Type 0
 HasOwner processes None = Unit {0}
 HasOwner processes (Some thread) = IsPid processes thread.pid
 
--- every process can make calls, its directory's name isn't too long, and nothing else has descriptors or threads
+-- every process can make calls, with a memory of its own, its directory's name isn't too long, and nothing else has descriptors or threads
 pub record IsWhole (parts : Parts) : Type 0 where
   pub ordered : AreOrdered parts.processes
   pub owners : (t : ℕ) → HasOwner parts.processes (thread_at parts.processes t)
   pub ready : (p : ℕ) → IsPid parts.processes p → IsReady parts.tree parts.descriptors parts.processes parts.memories p
   pub tables : (p : ℕ) → has_table parts.descriptors p ≡ true → IsPid parts.processes p
+  pub apart : (p q : ℕ) → IsPid parts.processes p → IsPid parts.processes q → (process_at parts.processes p).space ≡ (process_at parts.processes q).space → p ≡ q
   pub short : (p : ℕ) → length (printed_name (process_at parts.processes p).cwd) ≤ LONGEST_NAME
 
 -- ---- the parts against the machine's record
@@ -45,13 +46,17 @@ abbrev pub IsAmong : ℕ → ℕ → Option StartedThread → Type 0
 IsAmong count t None = Unit {0}
 IsAmong count t (Some thread) = (1 ≤ t) × (t ≤ count)
 
--- the parts are those of the record
+-- whether a memory was given up: its number was given, and it isn't there
+abbrev pub is_given_up : Memories → ℕ → Bool
+is_given_up memories s = nat_lt s (next_space memories) && not (is_live memories s)
+
+-- the parts are those of the record; what a memory had that was given up isn't kept
 pub record IsSystem (i : Input) (st : State) (parts : Parts) : Type 0 where
   pub tree : st.tree ≡ parts.tree
   pub descriptors : st.descriptors ≡ parts.descriptors
   pub processes : (p : ℕ) → st.processes p ≡ process_at parts.processes p
   pub next_process : st.next_process ≡ next_pid parts.processes
-  pub memory : (s b : ℕ) → st.memory s b ≡ byte_in parts.memories s b
+  pub memory : (s b : ℕ) → is_given_up parts.memories s ≡ false → st.memory s b ≡ byte_in parts.memories s b
   pub next_space : st.next_space ≡ next_space parts.memories
   pub threads : (t : ℕ) → IsThread (thread_at parts.processes t) (st.threads t)
   pub among : (t : ℕ) → IsAmong (thread_count i) t (thread_at parts.processes t)

@@ -1,9 +1,14 @@
 //! The modelled system that runs: file tree, descriptors, processes and memories together, as the law's machine keeps them.
 #![tactic(auto)]
 
+mod arguments;
+mod execution;
+mod laws;
 mod start;
 pub mod system;
 
+pub use laws::{arguments_are_fit, calls_that_set_ids_renew, started_threads_run};
+pub use st_arguments::Arguments;
 pub use system::System;
 
 #[cfg(test)]

@@ -1,11 +1,8 @@
-ghost use Rattle.std.specs.Prelude.{◌≡◌, ◌≤◌, ◌<◌, ℕ, true, cond, length, Option, IsSome, IfSome, IfOk, OnErr};
+ghost use Rattle.std.specs.Prelude.{◌≡◌, ◌≤◌, ◌<◌, ◌==◌, not, is_some, ℕ, true, cond, length, IsSome, IfSome, IfOk};
 ghost use Rattle.st_fds.specs.Table.{KeepsTables};
 ghost use Rattle.st_model.specs.DescriptorCalls.{table_after_close_all};
 ghost use Rattle.st_model.specs.Descriptors.{has_table};
-ghost use Rattle.st_calls.specs.Call.{follows};
-ghost use Rattle.st_calls.specs.declared.call.SysCall.TheVariants.{Chdir};
-ghost use Rattle.st_effects.specs.System as effects;
-ghost use Rattle.st_model.specs.Processes.{IsPid, is_running, pid_of, process_at};
+ghost use Rattle.st_model.specs.Processes.{IsPid, is_live, is_running, pid_of, process_at};
 ghost use Rattle.st_memory.specs.Memory.{byte_in};
 ghost use Rattle.st_model.specs.Memory.{word_of};
 ghost use Rattle.st_model.specs.Tree.{look};
@@ -14,25 +11,19 @@ ghost use Rattle.st_names.specs.Seen.{seen_text};
 ghost use Rattle.st_names.specs.declared.limits.TheConstants.{LONGEST_NAME};
 ghost use Rattle.st_model.specs.declared.limits.TheConstants.{SPACE_WORDS};
 ghost use Rattle.st_trace.specs.declared.entry.Entry.TheVariants.{Ended, Stored};
-ghost use Rattle.st_exec_fs.specs.Execution.{IsOnFiles};
-ghost use Rattle.st_exec_fs.specs.Open.{IsNoLink};
 ghost use Rattle.st_law.specs.declared.input.Input.{Input};
 ghost use Rattle.st_law.specs.Machine.{first_state, state_after};
-ghost use Rattle.st_law.specs.State.{State};
+ghost use Rattle.st_law.specs.State.{State, is_live_process};
 ghost use Rattle.st_system.specs.Start.{CanStart};
-ghost use Rattle.st_system.specs.Steps.{IsMade, IsRequest};
 ghost use Rattle.st_system.specs.System.{IsSystem};
 
 use crate::start::{begin_threads, processes_of, tree_of};
 use st_base::{Ids, Pid, Text, Tid};
-use st_calls::SysCall;
-use st_exec_fs::execute_fs;
 use st_fds::Fds;
 use st_law::Input;
 use st_memory::Spaces;
 use st_names::{AbsName, Seen};
 use st_procs::Procs;
-use st_request::{Outcome, Request};
 use st_tree::Tree;
 use std::alloc::{AllocError, Global};
 use std::marker::Model;
@@ -40,10 +31,10 @@ use std::marker::Model;
 /// What system calls are made over: the file tree, descriptors, processes with their threads, and memories.
 #[derive(Debug, Drop)]
 pub struct System {
-    tree: Tree,
-    fds: Fds,
-    procs: Procs,
-    spaces: Spaces,
+    pub(crate) tree: Tree,
+    pub(crate) fds: Fds,
+    pub(crate) procs: Procs,
+    pub(crate) spaces: Spaces,
 }
 
 impl Model for System {
@@ -93,6 +84,23 @@ impl System {
         self.procs.pid_of(tid)
     }
 
+    /// Whether a thread has started.
+    pub fn has_started(&self, tid: Tid) -> bool
+        ensures started { result ≡ is_some (pid_of self.now.processes tid) }
+        ensures law { (i : Input) (st : State) → IsSystem i st self.now → result ≡ not ((st.threads tid).owner == 0) }
+    {
+        self.procs.pid_of(tid).is_some()
+    }
+
+    /// Whether a process is there and hasn't ended: it never had a thread, or has one that hasn't ended.
+    pub fn is_live(&self, pid: Pid) -> bool
+        requires { IsPid self.now.processes pid }
+        ensures live { result ≡ is_live self.now.processes pid }
+        ensures law { (i : Input) (st : State) → IsSystem i st self.now → result ≡ is_live_process i st pid }
+    {
+        self.procs.alive(pid)
+    }
+
     /// Who a process is.
     pub fn ids(&self, pid: Pid) -> Ids
         requires { IsPid self.now.processes pid }
@@ -130,7 +138,8 @@ impl System {
     pub fn word(&self, pid: Pid, place: u32) -> u64
         requires process { IsPid self.now.processes pid }
         requires place { place < SPACE_WORDS }
-        ensures { result ≡ word_of (byte_in self.now.memories (process_at self.now.processes pid).space) place }
+        ensures word { result ≡ word_of (byte_in self.now.memories (process_at self.now.processes pid).space) place }
+        ensures law { (i : Input) (st : State) → IsSystem i st self.now → result ≡ word_of (st.memory (st.processes pid).space) place }
     {
         match self.spaces.word(self.procs.space(pid), place) {
             Some(word) => word,
@@ -170,30 +179,5 @@ impl System {
         };
         let is_last = self.procs.end_thread(tid);
         close_if(&mut self.fds, pid, is_last);
-    }
-
-    /// Makes a call on names and files. Without memory nothing changes.
-    pub fn execute(
-        &mut self,
-        alloc: Global,
-        call: SysCall,
-        request: &Request<'_>,
-    ) -> Result<Outcome, AllocError>
-        requires call { IsOnFiles call }
-        requires process { IsPid self.old.processes request.now.pid }
-        requires short { call ≡ Chdir → length (printed_name (effects.arg_name_at request.now 0)) ≤ LONGEST_NAME }
-        requires no_link { follows call request.now.regs 0 ≡ true → IsNoLink self.old.tree (effects.arg_name_at request.now 0) }
-        ensures made { IfOk result (λ outcome. (i : Input) (st : State) → IsSystem i st self.old → IsRequest i st request.now → (seq : Option ℕ) → IsMade i st seq call request.now outcome self.new) }
-        ensures err { OnErr result (self.new ≡ self.old) }
-    {
-        execute_fs(
-            &mut self.tree,
-            &mut self.fds,
-            &mut self.procs,
-            &mut self.spaces,
-            alloc,
-            call,
-            request,
-        )
     }
 }

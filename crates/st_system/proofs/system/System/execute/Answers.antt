@@ -1,12 +1,9 @@
-use Rattle.st_system.proofs.Kept.{made_executed}
-use Rattle.st_system.proofs.Whole.{whole_executed}
-use Rattle.std.proofs.Common.{sym}
+use Rattle.std.proofs.Common.{subst, sym}
+use Rattle.std.specs.Prelude.{IfOk}
+use Rattle.st_calls.specs.declared.call.SysCall.{SysCall}
+use Rattle.st_system.specs.Steps.{IsDone}
 use Rattle.st_system.proofs.system.System.execute.Goals as goal
 
-pub invariant_of-self : goal.invariant_of-self
-invariant_of-self c =
-    whole_executed c.execute_fs.result _ _ c.args.call c.args.request.now c.self.invariant c.requires.call c.requires.short c.execute_fs.ensures.executed c.execute_fs.ensures.spaces c.execute_fs.ensures.tables c.execute_fs.ensures.ready c.execute_fs.ensures.err
-
-pub returns-clause-made : goal.returns-clause-made
-returns-clause-made c =
-    rw (sym c.self.view_is) (made_executed c.execute_fs.result _ _ c.args.call c.args.request.now c.self.invariant.ordered c.requires.call c.requires.short c.execute_fs.ensures.executed c.execute_fs.ensures.spaces)
+pub returns-in-Execve-clause-done : goal.returns-in-Execve-clause-done
+returns-in-Execve-clause-done c =
+    subst (λ (call : SysCall). IfOk c.execute_binary.result (λ outcome. IsDone call c.args.request.now outcome c.args.self.now c.execute_binary.new.self)) (sym c.in-Execve.is) c.execute_binary.ensures.done

@@ -1,0 +1,97 @@
+-- The renewals behind the changes of a call that sets ids: they change nothing of what the system keeps.
+use Rattle.std.proofs.Common.{◌≡◌, ◌∙◌, ℕ, suc, ◌+◌, Bool, true, false, cond, not, ◌&&◌, ◌==◌, List, [], ◌∷◌, ◌++◌, Option, Some, None, refl, ap, sym}
+use Rattle.std.proofs.lemmas.List.Sums.{fold-append}
+use Rattle.std.specs.List.{fold}
+use Rattle.st_base.specs.Errno.{first_error}
+use Rattle.st_base.specs.declared.errno.Errno.{Errno}
+use Rattle.st_base.specs.declared.ids.Ids.{Ids}
+use Rattle.st_calls.specs.declared.call.SysCall.{SysCall}
+use Rattle.st_calls.specs.declared.call.SysCall.TheVariants.{SetUid, SetEuid, SetGid, SetEgid}
+use Rattle.st_model.specs.Identity.{ids_after_set, set_refused}
+use Rattle.st_effects.specs.Effect.{effect}
+use Rattle.st_effects.specs.Processes.{renewals}
+use Rattle.st_effects.specs.System.{HeldCall, Request, register, success, unless_error}
+use Rattle.st_trace.specs.declared.entry.CallResult.{CallResult}
+use Rattle.st_trace.specs.declared.entry.CallResult.TheVariants.{Value, Failed}
+use Rattle.st_trace.specs.declared.entry.Change.{Change}
+use Rattle.st_trace.specs.declared.entry.Change.TheVariants.{Renewed, SetIds}
+use Rattle.st_law.specs.declared.input.Input.{Input}
+use Rattle.st_law.specs.State.{State, held_from, system_of, thread_count}
+use Rattle.st_system.specs.Steps.{RenewsBehind, renewals_of, sets_ids, unheld_system, with_renewals}
+use Rattle.st_system.proofs.Alike.{alike}
+
+-- ---- a list of renewals
+
+-- each change is a renewal
+abbrev pub AreRenewals : List Change → Type 0
+AreRenewals [] = Unit {0}
+AreRenewals (Renewed old new ∷ changes) = AreRenewals changes
+AreRenewals (change ∷ changes) = ⊥
+
+renewed_by : (pid tid next : ℕ) (number : ℕ) (b : Bool) (later now : List Change) → AreRenewals later → AreRenewals now → AreRenewals (cond b (Renewed number next ∷ later) now)
+renewed_by pid tid next number true later now x y = x
+renewed_by pid tid next number false later now x y = y
+
+are_renewals : (pid tid next : ℕ) (held : List HeldCall) → AreRenewals (renewals pid tid next held)
+are_renewals pid tid next [] = tt
+are_renewals pid tid next (held ∷ more) =
+    renewed_by pid tid next held.number (held.pid == pid && not (held.tid == tid)) (renewals pid tid (next + 1) more) (renewals pid tid next more) (are_renewals pid tid (next + 1) more) (are_renewals pid tid next more)
+
+of_result : (i : Input) (st : State) (request : Request) (result : CallResult) → AreRenewals (renewals_of i st request result)
+of_result i st request (Value n) = are_renewals request.pid request.tid (suc st.posted) (held_from st 1 (thread_count i))
+of_result i st request (Failed errno) = tt
+
+-- what a renewal leaves, renewals leave
+fold_same : {A : Type 0} (f : A → Change → A) → ((a : A) (old new : ℕ) → f a (Renewed old new) ≡ a) → (a : A) (changes : List Change) → AreRenewals changes → fold f a changes ≡ a
+fold_same f same a [] x = refl
+fold_same f same a (Renewed old new ∷ changes) x = ap (λ b. fold f b changes) (same a old new) ∙ fold_same f same a changes x
+fold_same f same a (change ∷ changes) x = absurd x
+
+module _ (i : Input) (st : State) (request : Request) where
+  behind : {A : Type 0} (f : A → Change → A) → ((a : A) (old new : ℕ) → f a (Renewed old new) ≡ a) → (a : A) (b : Bool) (result : CallResult) (changes : List Change)
+      → fold f a (cond b (changes ++ renewals_of i st request result) changes) ≡ fold f a changes
+  behind f same a true result changes = fold-append f a changes (renewals_of i st request result) ∙ fold_same f same (fold f a changes) (renewals_of i st request result) (of_result i st request result)
+  behind f same a false result changes = refl
+
+  -- the changes with renewals behind them leave what they leave without
+  pub fold_with : {A : Type 0} (f : A → Change → A) → ((a : A) (old new : ℕ) → f a (Renewed old new) ≡ a) → (call : SysCall) (a : A) (result : CallResult) (changes : List Change)
+      → fold f a (with_renewals i st call request result changes) ≡ fold f a changes
+  fold_with f same call a result changes = behind f same a (sets_ids call) result changes
+
+  -- ---- the effect of a call over the system with its held calls
+
+  -- of a call that sets ids
+  set_by : (call : SysCall) → sets_ids call ≡ true → (o : Option Errno) (ids : Ids)
+      → effect (system_of i st) call request ≡ unless_error (system_of i st) o (success (system_of i st) 0 (SetIds ids ∷ renewals request.pid request.tid (suc st.posted) (held_from st 1 (thread_count i))))
+      → effect (unheld_system i st) call request ≡ unless_error (unheld_system i st) o (success (unheld_system i st) 0 (SetIds ids ∷ [])) → RenewsBehind i st call request
+  set_by call sets None ids is bare = record {
+    result = ap (λ o. o.result) is ∙ sym (ap (λ o. o.result) bare);
+    changes = ap (λ o. o.changes) is ∙ sym ((λ k. cond (sets k) ((bare k).changes ++ renewals_of i st request (bare k).result) (bare k).changes));
+    descriptors = ap (λ o. o.descriptors) is ∙ sym (ap (λ o. o.descriptors) bare);
+  }
+  set_by call sets (Some errno) ids is bare = record {
+    result = ap (λ o. o.result) is ∙ sym (ap (λ o. o.result) bare);
+    changes = ap (λ o. o.changes) is ∙ sym ((λ k. cond (sets k) ((bare k).changes ++ renewals_of i st request (bare k).result) (bare k).changes));
+    descriptors = ap (λ o. o.descriptors) is ∙ sym (ap (λ o. o.descriptors) bare);
+  }
+
+  set : (call : SysCall) → sets_ids call ≡ true
+      → effect (system_of i st) call request ≡ unless_error (system_of i st) (first_error (set_refused call request.ids (register request 0) ∷ [])) (success (system_of i st) 0 (SetIds (ids_after_set call request.ids (register request 0)) ∷ renewals request.pid request.tid (suc st.posted) (held_from st 1 (thread_count i))))
+      → effect (unheld_system i st) call request ≡ unless_error (unheld_system i st) (first_error (set_refused call request.ids (register request 0) ∷ [])) (success (unheld_system i st) 0 (SetIds (ids_after_set call request.ids (register request 0)) ∷ []))
+      → RenewsBehind i st call request
+  set call sets is bare = set_by call sets (first_error (set_refused call request.ids (register request 0) ∷ [])) (ids_after_set call request.ids (register request 0)) is bare
+
+  -- of any other
+  other : (call : SysCall) → sets_ids call ≡ false → effect (system_of i st) call request ≡ effect (unheld_system i st) call request → RenewsBehind i st call request
+  other call sets same = record {
+    result = ap (λ o. o.result) same;
+    changes = ap (λ o. o.changes) same ∙ sym (ap (λ b. cond b ((effect (unheld_system i st) call request).changes ++ renewals_of i st request (effect (unheld_system i st) call request).result) (effect (unheld_system i st) call request).changes) sets);
+    descriptors = ap (λ o. o.descriptors) same;
+  }
+
+  pub renews_behind : (call : SysCall) → RenewsBehind i st call request
+  renews_behind SetUid = set SetUid refl refl refl
+  renews_behind SetEuid = set SetEuid refl refl refl
+  renews_behind SetGid = set SetGid refl refl refl
+  renews_behind SetEgid = set SetEgid refl refl refl
+  renews_behind call = other call refl (alike (system_of i st) st.memory [] request (λ b. refl) call tt)
