@@ -1,26 +1,24 @@
 -- What steps leave of the system, against what their entries make of the machine's record.
-use Rattle.std.specs.Prelude.{◌≡◌, ◌≤◌, ◌<◌, ◌^◌, ◌-◌, ℕ, suc, Bool, true, false, if◌then◌else◌, List, [], ◌++◌, length, Option, None}
+use Rattle.std.specs.Prelude.{◌≡◌, ◌<◌, ◌^◌, ◌-◌, ℕ, suc, Bool, true, false, if◌then◌else◌, List, [], ◌++◌, Option, None}
 use Rattle.st_calls.specs.declared.call.SysCall.{SysCall}
-use Rattle.st_calls.specs.declared.call.SysCall.TheVariants.{Fork, Execve, Exit, Kill, GetPid, GetUid, GetEuid, SetUid, SetEuid, SetGid, SetEgid, Socket, Bind, Connect, Chdir}
+use Rattle.st_calls.specs.declared.call.SysCall.TheVariants.{Fork, Execve, Exit, Kill, GetPid, GetUid, GetEuid, SetUid, SetEuid, SetGid, SetEgid, Socket, Bind, Connect}
 use Rattle.st_memory.specs.Memory.{next_space}
 use Rattle.st_model.specs.Processes.{next_pid, pid_of}
-use Rattle.st_names.specs.Name.{printed_name}
-use Rattle.st_names.specs.declared.limits.TheConstants.{LONGEST_NAME}
 use Rattle.st_effects.specs.Effect.{effect}
 use Rattle.st_effects.specs.Processes.{renewals}
 use Rattle.st_effects.specs.System as effects
-use Rattle.st_effects.specs.System.{Request, arg_name_at}
+use Rattle.st_effects.specs.System.{Request}
 use Rattle.st_trace.specs.declared.entry.CallResult.{CallResult}
 use Rattle.st_trace.specs.declared.entry.CallResult.TheVariants.{Value, Failed}
 use Rattle.st_trace.specs.declared.entry.Change.{Change}
 use Rattle.st_trace.specs.declared.entry.Entry.TheVariants.{Used}
 use Rattle.st_request.specs.declared.outcome.Outcome.{Outcome}
 use Rattle.st_exec_sys.specs.Execution.{HasOwnIds}
-use Rattle.st_exec_sys.specs.Sockets.{HasPort}
 use Rattle.st_law.specs.declared.input.Input.{Input}
 use Rattle.st_law.specs.Inputs.{IsThread}
 use Rattle.st_law.specs.Machine.{state_after}
 use Rattle.st_law.specs.State.{State, held_from, request_of, system_of, thread_count}
+use Rattle.st_system.specs.Fit.{AreFit}
 use Rattle.st_system.specs.System.{IsSystem, Parts}
 
 -- ---- what a call needs
@@ -40,18 +38,15 @@ pub record CanFork (parts : Parts) (request : Request) : Type 0 where
   pub pids : next_pid parts.processes < 2 ^ 32 - 1
   pub spaces : next_space parts.memories < 2 ^ 32
 
--- what a call needs besides: a short name for a directory, numbers that are left, its process's own ids, a port of 16 bits
+-- what a call needs besides: numbers that are left, its process's own ids, fit arguments
 abbrev pub CanMake : SysCall → Parts → Request → Type 0
-CanMake Chdir parts request = length (printed_name (arg_name_at request 0)) ≤ LONGEST_NAME
 CanMake Fork parts request = CanFork parts request
 CanMake Execve parts request = next_space parts.memories < 2 ^ 32
 CanMake SetUid parts request = HasOwnIds parts.processes request
 CanMake SetEuid parts request = HasOwnIds parts.processes request
 CanMake SetGid parts request = HasOwnIds parts.processes request
 CanMake SetEgid parts request = HasOwnIds parts.processes request
-CanMake Bind parts request = HasPort request
-CanMake Connect parts request = HasPort request
-CanMake _ parts request = Unit {0}
+CanMake call parts request = AreFit call request.args
 
 -- a call on processes, ids and sockets
 abbrev pub IsOnProcesses : SysCall → Type 0
