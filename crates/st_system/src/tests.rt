@@ -77,21 +77,25 @@ fn first(alloc: Global) -> Result<System, AllocError>
 fn a_run_starts_with_the_rows_of_its_script(rt: HostRuntime) -> Result<(), Fail> {
     let alloc = rt.alloc();
     let input = alone(alloc, Some((7, 8)))?;
-    let mut system = System::start(alloc, &input)?;
-    assert_eq!(rt; system.pid_of(1), Some(1));
-    assert_eq!(rt; system.pid_of(2), None);
-    assert!(rt; !system.has_started(2));
-    if let Some(pid) = system.pid_of(1) {
-        assert!(rt; system.traced(pid));
-        assert!(rt; system.is_live(pid));
-        assert_eq!(rt; system.ids(pid), Ids::of(7, 8));
-        assert!(rt; system.policy(pid).bytes() == b"/bin/a".as_slice());
-        assert!(rt; system.cwd(pid).is_root());
-        system.store(1, 3, 77);
-        assert_eq!(rt; system.word(pid, 3), 77);
-        assert_eq!(rt; system.word(pid, 4), 0);
-    }
-    assert!(rt; matches!(system.look(&AbsName::root(alloc)), Seen::Dir));
+    let system = System::start(alloc, &input)?;
+    let Some(pid) = system.pid_of(1) else {
+        panic!(rt; "no thread");
+    };
+    assert!(rt; system.traced(pid));
+    assert_eq!(rt; system.ids(pid), Ids::of(7, 8));
+    assert!(rt; system.policy(pid).bytes() == b"/bin/a".as_slice());
+    assert!(rt; system.cwd(pid).is_root());
+    Ok(())
+}
+
+#[test]
+fn words_are_stored(rt: HostRuntime) -> Result<(), Fail> {
+    let mut system = first(rt.alloc())?;
+    let Some(pid) = system.pid_of(1) else {
+        panic!(rt; "no thread");
+    };
+    system.store(1, 3, 77);
+    assert_eq!(rt; system.word(pid, 3), 77);
     Ok(())
 }
 
@@ -178,6 +182,7 @@ fn a_fork_starts_a_thread(rt: HostRuntime) -> Result<(), Fail> {
     let None = system.pid_of(2) else {
         panic!(rt; "a thread");
     };
+    assert!(rt; system.is_live(pid));
     let request = Request {
         tid: 1,
         pid,
@@ -190,5 +195,6 @@ fn a_fork_starts_a_thread(rt: HostRuntime) -> Result<(), Fail> {
     let outcome = system.execute(alloc, SysCall::Fork, &request)?;
     assert_eq!(rt; outcome.result, Value(2));
     assert_eq!(rt; system.pid_of(2), Some(2));
+    assert!(rt; system.has_started(2));
     Ok(())
 }
