@@ -15,8 +15,9 @@ use Rattle.st_messages.specs.Messages.{is_live, message_at, state_at, thread_at,
 use Rattle.st_messages.proofs.Whole.{states_moved, threads_moved}
 use Rattle.st_trace.specs.declared.entry.Entry.TheVariants as entry
 use Rattle.st_law.specs.Messages.{unless_same}
-use Rattle.st_law.specs.State.{Message}
-use Rattle.st_workers.specs.Kept.{at_work, Agrees, Follows, HasCome, IsLive, IsTurn, IsWhole}
+use Rattle.st_law.specs.State.{Message, State}
+use Rattle.st_law.specs.declared.input.Input.{Input}
+use Rattle.st_workers.specs.Kept.{at_work, Agrees, Follows, HasCome, IsKept, IsLive, IsTurn, IsWhole}
 use Rattle.st_workers.specs.UnderWay.{found_in, turn_at, Found, UnderWay}
 use Rattle.st_workers.specs.declared.turn.Turn.TheVariants.{Idle, Working}
 use Rattle.st_workers.proofs.Steps.{all_turned, all_worked, count_kept, message_worked, stepped, turned_state, verdicts_kept, IsStep}
@@ -37,6 +38,20 @@ dead_not_live calls q is live = by (message_at calls q) is live where
   by : (o : Option message.Message) → option_map (λ (m : message.Message). m.state) o ≡ None → is_some o ≡ true → ⊥
   by None is live = true≢false (sym live)
   by (Some m) is live = none-some m.state (sym is)
+
+-- a number without a state isn't live
+none_live : (calls : HeldCalls) (q : ℕ) → state_at calls q ≡ None → is_live calls q ≡ false
+none_live calls q is = by (message_at calls q) is where
+  by : (o : Option message.Message) → option_map (λ (m : message.Message). m.state) o ≡ None → is_some o ≡ false
+  by None is = refl
+  by (Some m) is = absurd (none-some m.state (sym is))
+
+-- a number is live exactly where it is live by what is kept
+pub lives_as : (i : Input) (st : State) (alive : ℕ → Bool) (kept : UnderWay) (q : ℕ) → IsKept i st alive kept → is_live kept.calls q ≡ alive q
+lives_as i st alive kept q x = by (alive q) refl where
+  by : (b : Bool) → alive q ≡ b → is_live kept.calls q ≡ alive q
+  by true is = state_live kept.calls q (x.agrees.live q is).state (x.agrees.live q is).state_is ∙ sym is
+  by false is = none_live kept.calls q (x.agrees.dead q is).state ∙ sym is
 
 -- a number that is a worker's turn, and lives, is claimed
 pub turned_claimed : (messages : ℕ → Message) (turns : ℕ → Option ℕ) (alive : ℕ → Bool) (posted : ℕ) (found : Found) → Agrees messages turns alive posted found → (w q : ℕ) → turns w ≡ Some q → alive q ≡ true → (v : ℕ) × (found.state q ≡ Some (Claimed v))

@@ -3,9 +3,9 @@ mod Begun
 mod Cancels
 mod Changed
 mod Claims
-mod Closing
+pub mod Closing
 mod Copies
-mod Ended
+pub mod Ended
 mod Filled
 mod Lookups
 mod Posts
@@ -17,5 +17,5 @@ mod States
 mod Steps
 mod Taken
 mod Tasks
-mod Threads
-mod Turns
+pub mod Threads
+pub mod Turns

@@ -1,11 +1,12 @@
 -- What a worker does next, by what is kept and by the machine.
-use Rattle.std.specs.Prelude.{◌≡◌, ℕ, Option, Some, None}
+use Rattle.std.specs.Prelude.{◌≡◌, ◌<◌, ℕ, true, Option, Some, None}
 use Rattle.st_calls.specs.declared.judged.Snapshot.{Snapshot}
 use Rattle.st_effects.specs.Progress.{Progress, Word, Look, Stuck, Ready}
 use Rattle.st_filter.specs.Judging.{verdict}
 use Rattle.st_lookaside.specs.Slot.{Slot, progress_of}
 use Rattle.st_lookaside.specs.Slots.{slot_at}
-use Rattle.st_messages.specs.Messages.{first_waiting}
+use Rattle.st_messages.specs.Messages.{HeldCalls, first_waiting, is_live as is_live_here}
+use Rattle.st_model.specs.declared.limits.TheConstants.{SPACE_WORDS}
 use Rattle.st_model.specs.Tree.{look}
 use Rattle.st_names.specs.Name.{Components}
 use Rattle.st_trace.specs.declared.entry.Entry.TheVariants as entry
@@ -81,6 +82,15 @@ IsFault (Copy seq part place) = ⊥
 IsFault (LookAt seq part) = ⊥
 IsFault (Fault seq errno) = Unit {0}
 IsFault Answer = ⊥
+
+-- a number that a task names is live, and a word that is copied lies in memory
+abbrev pub IsThere : HeldCalls → Task → Type 0
+IsThere calls Rest = Unit {0}
+IsThere calls Claim = Unit {0}
+IsThere calls (Copy seq part place) = (is_live_here calls seq ≡ true) × (place < SPACE_WORDS)
+IsThere calls (LookAt seq part) = is_live_here calls seq ≡ true
+IsThere calls (Fault seq errno) = is_live_here calls seq ≡ true
+IsThere calls Answer = Unit {0}
 
 -- the machine has the worker do that: its next entry is that of the task
 abbrev pub IsTask : Input → State → UnderWay → ℕ → Task → Type 0

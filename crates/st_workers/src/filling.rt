@@ -1,11 +1,12 @@
 // One more word or look for a message, and the turn of its worker behind it.
-ghost use Rattle.std.specs.Prelude.{◌≡◌, ℕ, Some, IsSome, IfSome, IfOk, OnErr};
+ghost use Rattle.std.specs.Prelude.{◌≡◌, ℕ, true, Some, IsSome, IfSome, IfOk, OnErr};
 ghost use Rattle.st_effects.specs.Progress.{Progress};
-ghost use Rattle.st_lookaside.specs.Slot.{after_begin, after_look, after_word, next_of, progress_of, IsLookNext, IsWordNext};
+ghost use Rattle.st_lookaside.specs.Slot.{after_begin, after_look, after_word, next_of, progress_of, IsInside, IsLookNext, IsWordNext};
 ghost use Rattle.st_lookaside.specs.Slots.{slot_at, ChangesSlot};
+ghost use Rattle.st_messages.specs.Messages.{is_live, HeldCalls};
 ghost use Rattle.st_names.specs.Seen.{seen_text};
 ghost use Rattle.st_workers.specs.Filling.{AreSame, IsTurnFor};
-ghost use Rattle.st_workers.specs.Tasks.{task_at};
+ghost use Rattle.st_workers.specs.Tasks.{task_at, IsThere};
 
 use crate::task::Task;
 use crate::turn::Turn;
@@ -16,7 +17,8 @@ use std::alloc::{AllocError, Global};
 
 /// What a worker does at a message that needs this next.
 pub fn task_at(seq: Seq, next: Next) -> Task
-    ensures { (progress : Progress) → next ≡ next_of progress → result ≡ task_at seq progress }
+    ensures task { (progress : Progress) → next ≡ next_of progress → result ≡ task_at seq progress }
+    ensures there { (calls : HeldCalls) → is_live calls seq ≡ true → IsInside next → IsThere calls result }
 {
     match next {
         Next::Word(part, place) => Task::Copy { seq, part, place },

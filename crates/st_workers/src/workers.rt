@@ -20,7 +20,7 @@ ghost use Rattle.st_trace.specs.declared.entry.Entry.TheVariants as entry;
 ghost use Rattle.st_trace.specs.declared.entry.Way.TheVariants.{Held};
 ghost use Rattle.st_workers.specs.Kept.{head_of, messages_renewed, AreKept, ChangesLife, Follows, HasComeTo, IsAnswered, IsKept, IsKeptAfter, RenewsLife, Stands};
 ghost use Rattle.st_workers.specs.Leaving.{HasLeft};
-ghost use Rattle.st_workers.specs.Tasks.{task_of, IsBusy, IsCopy, IsFault, IsLook, IsTask};
+ghost use Rattle.st_workers.specs.Tasks.{task_of, IsBusy, IsCopy, IsFault, IsLook, IsTask, IsThere};
 ghost use Rattle.st_workers.specs.UnderWay.{turn_at};
 ghost use Rattle.st_workers.specs.declared.task.Task.TheVariants.{Answer, Claim, Copy, Fault, Look as LookAt};
 
@@ -137,10 +137,23 @@ impl Workers {
         &self.turns[worker as usize - 1]
     }
 
+    /// The copies that a ready worker answers.
+    pub fn copies(&self, worker: Worker) -> &Snapshot
+        requires worker { IsWorker self.now.calls worker }
+        requires task { task_of self.now worker ≡ Answer }
+        ensures { turn_at self.now worker ≡ Some (Ready result.now) }
+    {
+        let Turn::Ready(snapshot) = &self.turns[worker as usize - 1] else {
+            unreachable!()
+        };
+        snapshot
+    }
+
     /// What a worker does next.
     pub fn task(&self, worker: Worker) -> Task
         requires { IsWorker self.now.calls worker }
         ensures task { result ≡ task_of self.now worker }
+        ensures there { IsThere self.now.calls result }
         ensures law { (i : Input) (st : State) → IsKept i st (is_live_in st) self.now → IsTask i st self.now worker result }
     {
         match &self.turns[worker as usize - 1] {
@@ -265,6 +278,7 @@ impl Workers {
         requires { task_of self.old worker ≡ Answer }
         ensures copies { turn_at self.old worker ≡ Some (Ready result.0) }
         ensures applied { (result.1 ≡ Applied) ↔ (is_live self.old.calls result.0.seq ≡ true) }
+        ensures lives { (i : Input) (st : State) (alive : ℕ → Bool) → IsKept i st alive self.old → is_live self.old.calls result.0.seq ≡ alive result.0.seq }
         ensures workers { self.new.calls.workers ≡ self.old.calls.workers }
         ensures calls { result.1 ≡ Applied → self.new.calls ≡ with_state self.old.calls result.0.seq (Answered verdict) }
         ensures stale { result.1 ≡ Stale → self.new.calls ≡ self.old.calls }

@@ -7,6 +7,7 @@ use Rattle.st_workers.specs.UnderWay.{turn_at, UnderWay}
 use Rattle.st_workers.specs.declared.turn.Turn.{Turn}
 use Rattle.st_workers.specs.declared.turn.Turn.TheVariants.{Idle, Ready}
 use Rattle.st_workers.proofs.Answered.{answered_kept, answered_whole, applied_where, IsDelivered}
+use Rattle.st_workers.proofs.Ended.{lives_as}
 use Rattle.st_workers.proofs.Tasks.{answers_ready}
 use Rattle.st_workers.proofs.Turns.{read_is}
 use Rattle.st_workers.proofs.workers.Workers.answer.Goals as goal
@@ -49,3 +50,6 @@ pub returns-clause-kept : goal.returns-clause-kept
 returns-clause-kept c = λ i st alive kept judged.
     answered_kept (old c) (new c) c.args.worker c.in-Ready.snapshot c.args.verdict c.answer-delivered.result (ready c) (delivered c) refl (put c) i st alive
     (subst (λ (k : UnderWay). IsKept i st alive k) (sym c.self.view_is) kept) judged
+
+pub returns-clause-lives : goal.returns-clause-lives
+returns-clause-lives c = λ i st alive kept. lives_as i st alive c.args.self.now c.in-Ready.snapshot.seq kept

@@ -4,12 +4,14 @@ use Rattle.st_law.specs.declared.input.Input.{Input}
 use Rattle.st_lookaside.specs.Slot.{next_of, progress_of, Slot}
 use Rattle.st_lookaside.specs.Slots.{slot_at}
 use Rattle.st_workers.specs.Kept.{IsKept, IsWhole}
-use Rattle.st_workers.specs.Tasks.{idle_task, task_at, task_of, task_of_slot, task_of_turn, IsTask}
+use Rattle.st_workers.specs.Tasks.{idle_task, task_at, task_of, task_of_slot, task_of_turn, IsTask, IsThere}
 use Rattle.st_workers.specs.UnderWay.{turn_at, UnderWay}
 use Rattle.st_workers.specs.declared.task.Task.{Task}
 use Rattle.st_workers.specs.declared.task.Task.TheVariants as task
 use Rattle.st_workers.specs.declared.turn.Turn.{Turn}
 use Rattle.st_workers.specs.declared.turn.Turn.TheVariants.{Idle, Ready, Working}
+use Rattle.st_messages.specs.declared.message.MsgState.TheVariants.{Claimed}
+use Rattle.st_workers.proofs.Ended.{state_live, working_claimed}
 use Rattle.st_workers.proofs.Filled.{told}
 use Rattle.st_workers.proofs.Tasks.{claim_entry, ready_is, rest_entry, working_is, working_slot, worker_there}
 use Rattle.st_workers.proofs.Turns.{item_here}
@@ -46,7 +48,7 @@ slot c = working_slot (kept c) c.self.invariant c.args.worker c.in-Working.seq
     (here (kept c).turns (kept c) c.args.self.now c.self.view_is c.self.invariant refl c.args.worker c.requires.0 c.requires.1 (Working c.in-Working.seq) c.index.result.now c.index.ensures c.in-Working.is)
 
 task_is : (c : goal.After-task_at) → c.task_at.result ≡ task_at c.in-Working.seq (progress_of (slot c).0)
-task_is c = c.task_at.ensures (progress_of (slot c).0) (told (slot_at (kept c).slots c.in-Working.seq) (λ s. c.next.result ≡ next_of (progress_of s)) (slot c).0 (slot c).1 c.next.ensures.value)
+task_is c = c.task_at.ensures.task (progress_of (slot c).0) (told (slot_at (kept c).slots c.in-Working.seq) (λ s. c.next.result ≡ next_of (progress_of s)) (slot c).0 (slot c).1 c.next.ensures.value)
 
 pub returns-in-Working-clause-task : goal.returns-in-Working-clause-task
 returns-in-Working-clause-task c =
@@ -104,3 +106,11 @@ returns-in-Ready-clause-law c =
     let ready : turn_at (answers c) c.args.worker ≡ Some (Ready c.in-Ready.field-0) =
     here (answers c).turns (answers c) c.args.self.now c.self.view_is c.self.invariant refl c.args.worker c.requires.0 c.requires.1 (Ready c.in-Ready.field-0) c.index.result.now c.index.ensures c.in-Ready.is in
     (c.in-Ready.field-0, ready, ready_is i st (answers c) c.args.worker is there c.in-Ready.field-0 ready))
+
+pub returns-in-Working-clause-there : goal.returns-in-Working-clause-there
+returns-in-Working-clause-there c =
+    let claimed = working_claimed (kept c) c.self.invariant c.args.worker c.in-Working.seq
+    (here (kept c).turns (kept c) c.args.self.now c.self.view_is c.self.invariant refl c.args.worker c.requires.0 c.requires.1 (Working c.in-Working.seq) c.index.result.now c.index.ensures c.in-Working.is) in
+    subst (λ (k : UnderWay). IsThere k.calls c.task_at.result) c.self.view_is (
+    c.task_at.ensures.there (kept c).calls (state_live (kept c).calls c.in-Working.seq (Claimed claimed.0) claimed.1) c.next.ensures.inside
+    )
