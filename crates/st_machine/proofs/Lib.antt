@@ -1,0 +1,5 @@
+mod After
+mod Begun
+mod NextSteps
+mod Reached
+mod Served

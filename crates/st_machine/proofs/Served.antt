@@ -1,0 +1,231 @@
+-- Steps of workers, put together from what the messages and the system say.
+use Rattle.std.proofs.Common.{◌↔◌, ◌≡◌, ◌≢◌, ◌<◌, ◌∙◌, zero, suc, ℕ, arith, Bool, false, true, Option, Some, None, refl, ap, subst, sym}
+use Rattle.std.specs.Option.{option_map}
+use Rattle.std.specs.Prelude.{IfSome, OnErr, Result, Ok, Err, is_some}
+use Rattle.st_calls.specs.declared.judged.Snapshot.{Snapshot}
+use Rattle.st_calls.specs.declared.judged.Verdict.{Verdict}
+use Rattle.st_filter.specs.Judging.{verdict}
+use Rattle.st_filter.specs.Policies.{filters_of, policy_of}
+use Rattle.st_lookaside.specs.declared.head.Head as kept
+use Rattle.st_messages.specs.Messages.{is_live, message_at, thread_at}
+use Rattle.st_messages.specs.declared.message.Delivered.{Delivered}
+use Rattle.st_messages.specs.declared.message.Delivered.TheVariants.{Applied, Stale}
+use Rattle.st_messages.specs.declared.message.Message.{Message}
+use Rattle.st_model.specs.Memory.{word_of}
+use Rattle.st_model.specs.Processes.{next_pid, IsPid}
+use Rattle.st_model.specs.Tree.{Tree, look}
+use Rattle.st_names.specs.Name.{Components}
+use Rattle.st_names.specs.declared.seen.SeenText.{SeenText}
+use Rattle.st_trace.specs.declared.entry.Choice.{Choice}
+use Rattle.st_trace.specs.declared.entry.Choice.TheVariants as choice
+use Rattle.st_trace.specs.declared.entry.Entry.{Entry}
+use Rattle.st_trace.specs.declared.entry.Entry.TheVariants as entry
+use Rattle.st_law.specs.declared.input.Input.{Input}
+use Rattle.st_law.specs.Machine.{space_of_head, state_after, word_for, worker_entry}
+use Rattle.st_law.specs.Messages.{Head}
+use Rattle.st_law.specs.State as law
+use Rattle.st_law.specs.State.{State}
+use Rattle.st_base.specs.declared.errno.Errno.{Errno}
+use Rattle.st_model.specs.Processes.{thread_at as started_at}
+use Rattle.st_system.specs.System.{IsSystem, IsThread, Parts}
+use Rattle.st_workers.specs.Kept.{head_of, Follows, IsKept, IsKeptAfter, Stands}
+use Rattle.st_workers.specs.UnderWay.{turn_at, UnderWay}
+use Rattle.st_workers.specs.declared.task.Task.TheVariants as tasks
+use Rattle.st_workers.specs.declared.turn.Turn.{Turn}
+use Rattle.st_workers.specs.declared.turn.Turn.TheVariants.{Idle, Working, Ready}
+use Rattle.st_machine.specs.Machine as machine
+use Rattle.st_machine.specs.Serving.{is_applied}
+use Rattle.st_machine.specs.Machine.{HasTask, IsMachine, IsRunning, IsStep, Running}
+use Rattle.st_reached.proofs.Owning.{own_process}
+use Rattle.st_workers.proofs.Ended.{lives_as}
+use Rattle.st_machine.proofs.Reached.{reached_of}
+use Rattle.st_machine.proofs.After.{AreRows, behind, with_parts}
+
+-- ---- messages alone
+
+-- what runs, with other messages
+abbrev pub with_workers : Running → UnderWay → Running
+with_workers m workers = with_parts m m.system workers m.threads
+
+-- what runs stands where its messages do
+pub stands_so : (m : Running) (new : UnderWay) → Stands m.workers new → machine.Stands m (with_workers m new)
+stands_so m new stands st is = record {
+  reached = is.reached;
+  enforces = is.enforces;
+  system = is.system;
+  workers = stands m.input st.messages st.turns (law.is_live st) st.posted is.workers;
+  threads = is.threads;
+  count = is.count;
+  session = is.session;
+  answers = is.answers;
+}
+
+above_none : (n : ℕ) → n ≢ 0 → 0 < n
+above_none zero ne = absurd (ne refl)
+above_none (suc n) ne = omega arith
+
+-- what holds of a live number's thread
+of_live : (P : ℕ → Type 0) (o : Option Message) → is_some o ≡ true → IfSome (option_map (λ (message : Message). message.tid) o) P → (t : ℕ) × P t
+of_live P None live x = cc
+of_live P (Some message) live x = (message.tid, x)
+
+-- the word at a place of the memory of a message's process
+word_is : (st : State) (q place t : ℕ) (head : kept.Head) → (st.messages q).head ≡ Some (head_of t head) → word_for st q place ≡ word_of (st.memory (st.processes head.pid).space) place
+word_is st q place t head is = ap (λ (o : Option Head). word_of (st.memory (space_of_head st o)) place) is
+
+-- the copies that a worker is ready with are one
+abbrev copies_of : Snapshot → Option Turn → Snapshot
+copies_of s None = s
+copies_of s (Some Idle) = s
+copies_of s (Some (Working q)) = s
+copies_of s (Some (Ready own)) = own
+
+pub same_copies : (kept : UnderWay) (w : ℕ) (one two : Snapshot) → turn_at kept w ≡ Some (Ready one) → turn_at kept w ≡ Some (Ready two) → one ≡ two
+same_copies kept w one two first second = ap (copies_of one) (sym first ∙ second)
+
+-- an answer is applied exactly where its number is live
+pub applied_as : (delivered : Delivered) (live : Bool) → ((delivered ≡ Applied) ↔ (live ≡ true)) → is_applied delivered ≡ live
+applied_as Applied live x = sym (x.0 refl)
+applied_as Stale true x = absurd (unlike (x.1 refl)) where
+  unlike : Stale ≡ Applied → ⊥
+  unlike e = cc
+applied_as Stale false x = refl
+
+-- ---- one more entry of a worker
+
+-- the system stands behind it
+same_system : (i : Input) (st new : State) (parts : Parts) → new.tree ≡ st.tree → new.descriptors ≡ st.descriptors → new.processes ≡ st.processes → new.next_process ≡ st.next_process → new.memory ≡ st.memory → new.next_space ≡ st.next_space
+    → new.threads ≡ st.threads → IsSystem i st parts → IsSystem i new parts
+same_system i st new parts tree descriptors processes next_process memory next_space threads x = record {
+  tree = tree ∙ x.tree;
+  descriptors = descriptors ∙ x.descriptors;
+  processes = λ p. (λ k. processes k p) ∙ x.processes p;
+  next_process = next_process ∙ x.next_process;
+  memory = λ s b left. (λ k. memory k s b) ∙ x.memory s b left;
+  next_space = next_space ∙ x.next_space;
+  threads = λ t. subst (IsThread (started_at parts.processes t)) (λ k. sym threads k t) (x.threads t);
+  among = x.among;
+}
+
+module _ (m : Running) (st : State) (is : IsMachine m st) (w : ℕ) (new : UnderWay) where
+  -- the messages and the entry of a worker's step
+  abbrev pub IsServedBy : Entry → Type 0
+  IsServedBy e = (worker_entry m.input st w ≡ Some e) × IsMachine (with_workers m new) (state_after m.input st e)
+
+  rows : AreRows m.threads st.threads
+  rows = is.threads
+
+  pub claimed_step : (v q : ℕ) → worker_entry m.input st w ≡ Some (entry.Claimed v q) → IsKeptAfter m.input st (entry.Claimed v q) (law.is_live st) new → IsServedBy (entry.Claimed v q)
+  claimed_step v q is_entry kept = (
+    is_entry,
+    behind m st is (choice.Worker w) (entry.Claimed v q) is_entry refl m.system new m.threads
+        (same_system m.input st (state_after m.input st (entry.Claimed v q)) m.system refl refl refl refl refl refl refl is.system) kept rows refl,
+  )
+
+  pub copied_step : (q part place word : ℕ) → worker_entry m.input st w ≡ Some (entry.Copied q part place word) → IsKeptAfter m.input st (entry.Copied q part place word) (law.is_live st) new → IsServedBy (entry.Copied q part place word)
+  copied_step q part place word is_entry kept = (
+    is_entry,
+    behind m st is (choice.Worker w) (entry.Copied q part place word) is_entry refl m.system new m.threads
+        (same_system m.input st (state_after m.input st (entry.Copied q part place word)) m.system refl refl refl refl refl refl refl is.system) kept rows refl,
+  )
+
+  pub looked_step : (q part : ℕ) (name : Components) (seen : SeenText) → worker_entry m.input st w ≡ Some (entry.Looked q part name seen) → IsKeptAfter m.input st (entry.Looked q part name seen) (law.is_live st) new → IsServedBy (entry.Looked q part name seen)
+  looked_step q part name seen is_entry kept = (
+    is_entry,
+    behind m st is (choice.Worker w) (entry.Looked q part name seen) is_entry refl m.system new m.threads
+        (same_system m.input st (state_after m.input st (entry.Looked q part name seen)) m.system refl refl refl refl refl refl refl is.system) kept rows refl,
+  )
+
+  pub faulted_step : (q : ℕ) (errno : Errno) → worker_entry m.input st w ≡ Some (entry.Faulted q errno) → IsKeptAfter m.input st (entry.Faulted q errno) (law.is_live st) new → IsServedBy (entry.Faulted q errno)
+  faulted_step q errno is_entry kept = (
+    is_entry,
+    behind m st is (choice.Worker w) (entry.Faulted q errno) is_entry refl m.system new m.threads
+        (same_system m.input st (state_after m.input st (entry.Faulted q errno)) m.system refl refl refl refl refl refl refl is.system) kept rows refl,
+  )
+
+  pub answered_step : (v : ℕ) (s : Snapshot) (verdict : Verdict) (applied : Bool) → worker_entry m.input st w ≡ Some (entry.Answered v s verdict applied) → IsKeptAfter m.input st (entry.Answered v s verdict applied) (law.is_live st) new
+      → IsServedBy (entry.Answered v s verdict applied)
+  answered_step v s verdict applied is_entry kept = (
+    is_entry,
+    behind m st is (choice.Worker w) (entry.Answered v s verdict applied) is_entry refl m.system new m.threads
+        (same_system m.input st (state_after m.input st (entry.Answered v s verdict applied)) m.system refl refl refl refl refl refl refl is.system) kept rows refl,
+  )
+
+-- ---- the steps, by what the messages promise
+
+module _ (m : Running) (w : ℕ) (new : UnderWay) where
+  abbrev HasEntry : Entry → Type 0
+  HasEntry e = (i : Input) (st : State) → IsKept i st (law.is_live st) m.workers → worker_entry i st w ≡ Some e
+
+  pub claimed : (q : ℕ) → HasEntry (entry.Claimed w q) → Follows m.workers (entry.Claimed w q) new → IsStep m (choice.Worker w) (Some (entry.Claimed w q)) (with_workers m new)
+  claimed q its follows = λ st is. claimed_step m st is w new w q (its m.input st is.workers) (follows m.input st (law.is_live st) is.workers)
+
+  pub faulted : (q : ℕ) (errno : Errno) → HasTask m w (tasks.Fault q errno) → Follows m.workers (entry.Faulted q errno) new → IsStep m (choice.Worker w) (Some (entry.Faulted q errno)) (with_workers m new)
+  faulted q errno task follows = λ st is. faulted_step m st is w new q errno (task.law m.input st is.workers) (follows m.input st (law.is_live st) is.workers)
+
+  -- a worker that copies the word that its message's memory has
+  pub copied : (q part place word : ℕ) (head : kept.Head) → HasTask m w (tasks.Copy q part place)
+      → IfSome (thread_at m.workers.calls q) (λ t. (i : Input) (st : State) → IsKept i st (law.is_live st) m.workers → (st.messages q).head ≡ Some (head_of t head))
+      → ((i : Input) (st : State) → IsSystem i st m.system → word ≡ word_of (st.memory (st.processes head.pid).space) place)
+      → Follows m.workers (entry.Copied q part place word) new → IsStep m (choice.Worker w) (Some (entry.Copied q part place word)) (with_workers m new)
+  copied q part place word head task head_is is_word follows = λ st is.
+      let own = of_live (λ t. (i : Input) (st : State) → IsKept i st (law.is_live st) m.workers → (st.messages q).head ≡ Some (head_of t head)) (message_at m.workers.calls q) task.there.0 head_is in
+      copied_step m st is w new q part place word
+      (task.law m.input st is.workers ∙ ap (λ (v : ℕ). Some (entry.Copied q part place v)) (word_is st q place own.0 head (own.1 m.input st is.workers) ∙ sym (is_word m.input st is.system)))
+      (follows m.input st (law.is_live st) is.workers)
+
+  -- a worker that looks at a name, and sees of it what the tree has
+  pub looked : (readied : UnderWay) (q part : ℕ) (name : Components) (seen : SeenText) → seen ≡ look m.system.tree name → Stands m.workers readied
+      → ((i : Input) (st : State) → IsKept i st (law.is_live st) m.workers → worker_entry i st w ≡ Some (entry.Looked q part name (look st.tree name)))
+      → Follows readied (entry.Looked q part name seen) new → IsStep m (choice.Worker w) (Some (entry.Looked q part name seen)) (with_workers m new)
+  looked readied q part name seen is_seen stands its follows = λ st is.
+      looked_step m st is w new q part name seen
+      (its m.input st is.workers ∙ ap (λ (tree : Tree). Some (entry.Looked q part name (look tree name))) is.system.tree ∙ ap (λ (x : SeenText). Some (entry.Looked q part name x)) (sym is_seen))
+      (follows m.input st (law.is_live st) (stands m.input st.messages st.turns (law.is_live st) st.posted is.workers))
+
+  -- a ready worker answers
+  pub answered : (s : Snapshot) (v : Verdict) (applied : Bool) → turn_at m.workers w ≡ Some (Ready s) → v ≡ verdict (filters_of s.rule (policy_of m.input.policies s.policy)) s
+      → ((i : Input) (st : State) (alive : ℕ → Bool) → IsKept i st alive m.workers → applied ≡ alive s.seq) → HasTask m w tasks.Answer
+      → ((i : Input) (st : State) (alive : ℕ → Bool) → IsKept i st alive m.workers → v ≡ verdict (filters_of s.rule (policy_of i.policies s.policy)) s → IsKeptAfter i st (entry.Answered w s v (alive s.seq)) alive new)
+      → IsStep m (choice.Worker w) (Some (entry.Answered w s v applied)) (with_workers m new)
+  answered s v applied ready judged lives task after = λ st is.
+      let own = task.law m.input st is.workers in
+      let here : own.0 ≡ s = same_copies m.workers w own.0 s own.1 ready in
+      let applies : applied ≡ law.is_live st s.seq = lives m.input st (law.is_live st) is.workers in
+      answered_step m st is w new w s v applied
+      (own.2 ∙ ap (λ (x : Snapshot). Some (entry.Answered w x (verdict (filters_of x.rule (policy_of m.input.policies x.policy)) x) (law.is_live st x.seq))) here
+      ∙ ap (λ (x : Verdict). Some (entry.Answered w s x (law.is_live st s.seq))) (sym judged) ∙ ap (λ (b : Bool). Some (entry.Answered w s v b)) (sym applies))
+      (subst (λ (b : Bool). IsKeptAfter m.input st (entry.Answered w s v b) (law.is_live st) new) (sym applies) (after m.input st (law.is_live st) is.workers judged))
+
+-- the process of a live message is there
+pub head_process : (m : Running) → IsRunning m → (q : ℕ) (head : kept.Head) → is_live m.workers.calls q ≡ true
+    → IfSome (thread_at m.workers.calls q) (λ t. (i : Input) (st : State) → IsKept i st (law.is_live st) m.workers → (st.messages q).head ≡ Some (head_of t head)) → IsPid m.system.processes head.pid
+head_process m run q head live head_is =
+    let st = run.state in
+    let is = run.is in
+    let own = of_live (λ t. (i : Input) (st : State) → IsKept i st (law.is_live st) m.workers → (st.messages q).head ≡ Some (head_of t head)) (message_at m.workers.calls q) live head_is in
+    let posted : (st.messages q).head ≡ Some (head_of own.0 head) = own.1 m.input st is.workers in
+    let alive : law.is_live st q ≡ true = sym (lives_as m.input st (law.is_live st) m.workers q is.workers) ∙ live in
+    let reached = reached_of m.input st is.reached in
+    let owner : head.pid ≡ (st.threads own.0).owner = own_process st reached.owned m.input reached.whole.calls q (head_of own.0 head) alive posted in
+    let some : 0 < (st.threads own.0).owner = above_none (st.threads own.0).owner (reached.owned.own q (head_of own.0 head) alive posted).started in
+    let low : (st.threads own.0).owner < st.next_process = reached.whole.calls.owners own.0 in
+    let next : st.next_process ≡ next_pid m.system.processes = is.system.next_process in
+    (omega (arith, owner, some), omega (arith, owner, low, next))
+
+-- a result that is an error says what every one says
+pub on_err : {A E P : Type 0} (result : Result A E) → P → OnErr result P
+on_err (Ok a) x = tt
+on_err (Err e) x = x
+
+-- what stands twice stands
+pub stands_on : (a b d : UnderWay) → Stands a b → Stands b d → Stands a d
+stands_on a b d first second = λ i messages turns alive posted kept. second i messages turns alive posted (first i messages turns alive posted kept)
+
+-- ---- what runs, behind a step
+
+pub running_step : (m new : Running) (c : Choice) (e : Entry) → IsRunning m → IsStep m c (Some e) new → IsRunning new
+running_step m new c e run step = record { state = state_after m.input run.state e; is = (step run.state run.is).1 }
+
+pub running_stands : (m new : Running) → IsRunning m → machine.Stands m new → IsRunning new
+running_stands m new run stands = record { state = run.state; is = stands run.state run.is }

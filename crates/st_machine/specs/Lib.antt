@@ -1,0 +1,5 @@
+pub mod NextSteps
+pub mod Machine
+pub mod Serving
+pub mod Step
+pub mod Thread

@@ -1,0 +1,9 @@
+-- What became of an answer.
+use Rattle.std.specs.Prelude.{Bool, true, false}
+use Rattle.st_messages.specs.declared.message.Delivered.{Delivered}
+use Rattle.st_messages.specs.declared.message.Delivered.TheVariants.{Applied, Stale}
+
+-- whether it was applied
+abbrev pub is_applied : Delivered → Bool
+is_applied Applied = true
+is_applied Stale = false

@@ -1,0 +1,15 @@
+//! The machine that runs: threads over the modelled system, and workers over the messages of their calls, step by step.
+#![tactic(auto)]
+
+mod deciding;
+pub mod machine;
+mod serving;
+pub mod step;
+pub mod thread;
+
+pub use machine::Machine;
+pub use step::{Step, Use};
+pub use thread::{PendingCall, Thread};
+
+#[cfg(test)]
+mod tests;

@@ -1,0 +1,129 @@
+// The steps of workers: each makes of the messages what its entry says, and gives the entry.
+ghost use Rattle.std.specs.Prelude.{◌≡◌, ◌<◌, ℕ, true, Some, IfOk, OnErr};
+ghost use Rattle.st_machine.specs.Machine.{HasTask, IsStep, Stands};
+ghost use Rattle.st_machine.specs.Serving.{is_applied};
+ghost use Rattle.st_messages.specs.Messages.{is_live, IsWorker};
+ghost use Rattle.st_trace.specs.declared.entry.Choice.TheVariants.{Worker};
+ghost use Rattle.st_workers.specs.declared.task.Task.TheVariants as tasks;
+
+use crate::machine::Machine;
+use st_base::{Errno, Seq, Worker};
+use st_filter::decide;
+use st_messages::Delivered;
+use st_trace::Entry;
+use st_workers::Task;
+use std::alloc::{AllocError, Global};
+
+// Whether an answer was applied.
+fn is_applied(delivered: Delivered) -> bool
+    ensures { result ≡ is_applied delivered }
+{
+    match delivered {
+        Delivered::Applied => true,
+        Delivered::Stale => false,
+    }
+}
+
+impl<'a> Machine<'a> {
+    /// A worker moves, and gives the entry that this adds; none where it has nothing to do. Without memory all is as good as before.
+    pub fn serve(&mut self, alloc: Global, worker: Worker) -> Result<Option<Entry>, AllocError>
+        requires { IsWorker self.old.workers.calls worker }
+        ensures step { IfOk result (λ entry. IsStep self.old (Worker worker) entry self.new) }
+        ensures err { OnErr result (Stands self.old self.new) }
+    {
+        match self.workers.task(worker) {
+            Task::Rest => Ok(None),
+            Task::Claim => Ok(Some(self.claim(alloc, worker)?)),
+            Task::Copy { seq, part, place } => {
+                Ok(Some(self.copy(alloc, worker, seq, part, place)?))
+            }
+            Task::Look { seq, part } => Ok(Some(self.look(alloc, worker, seq, part)?)),
+            Task::Fault { seq, errno } => Ok(Some(self.fault(worker, seq, errno))),
+            Task::Answer => Ok(Some(self.answer_of(worker))),
+        }
+    }
+
+    // An idle worker claims the least number that waits.
+    fn claim(&mut self, alloc: Global, worker: Worker) -> Result<Entry, AllocError>
+        requires { HasTask self.old worker tasks.Claim }
+        ensures step { IfOk result (λ entry. IsStep self.old (Worker worker) (Some entry) self.new) }
+        ensures err { OnErr result (Stands self.old self.new) }
+    {
+        let seq = self.workers.claim(alloc, worker)?;
+        Ok(Entry::Claimed { worker, seq })
+    }
+
+    // A worker copies the word at a place of the memory of its message's process.
+    fn copy(
+        &mut self,
+        alloc: Global,
+        worker: Worker,
+        seq: Seq,
+        part: u32,
+        place: u32,
+    ) -> Result<Entry, AllocError>
+        requires task { HasTask self.old worker (tasks.Copy seq part place) }
+        ensures step { IfOk result (λ entry. IsStep self.old (Worker worker) (Some entry) self.new) }
+        ensures err { OnErr result (Stands self.old self.new) }
+    {
+        let pid = self.workers.head(seq).pid;
+        let word = self.system.word(pid, place);
+        self.workers.copy(alloc, worker, word)?;
+        Ok(Entry::Copied {
+            seq,
+            part,
+            place,
+            word,
+        })
+    }
+
+    // A worker looks at the next name of its message.
+    fn look(
+        &mut self,
+        alloc: Global,
+        worker: Worker,
+        seq: Seq,
+        part: u32,
+    ) -> Result<Entry, AllocError>
+        requires { HasTask self.old worker (tasks.Look seq part) }
+        ensures step { IfOk result (λ entry. IsStep self.old (Worker worker) (Some entry) self.new) }
+        ensures err { OnErr result (Stands self.old self.new) }
+    {
+        let name = self.workers.look_name(alloc, worker)?;
+        let seen = self.system.look(&name);
+        let text = seen.copy(alloc)?;
+        self.workers.look(alloc, worker, seen)?;
+        Ok(Entry::Looked {
+            seq,
+            part,
+            name,
+            seen: text,
+        })
+    }
+
+    // A worker tells the error of its message.
+    fn fault(&mut self, worker: Worker, seq: Seq, errno: Errno) -> Entry
+        requires { HasTask self.old worker (tasks.Fault seq errno) }
+        ensures { IsStep self.old (Worker worker) (Some result) self.new }
+    {
+        self.workers.fault(worker);
+        Entry::Faulted { seq, errno }
+    }
+
+    // A ready worker answers with what the filters that were read say of its copies.
+    fn answer_of(&mut self, worker: Worker) -> Entry
+        requires task { HasTask self.old worker tasks.Answer }
+        requires worker { IsWorker self.old.workers.calls worker }
+        ensures { IsStep self.old (Worker worker) (Some result) self.new }
+    {
+        let copies = self.workers.copies(worker);
+        let verdict = decide(self.input.policies.get(copies.policy.bytes()), copies);
+        let (snapshot, delivered) = self.workers.answer(worker, verdict);
+        Entry::Answered {
+            worker,
+            snapshot,
+            verdict,
+            applied: is_applied(delivered),
+        }
+    }
+}

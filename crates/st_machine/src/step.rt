@@ -1,0 +1,79 @@
+ghost use Rattle.std.specs.Prelude.{◌≡◌, ℕ};
+ghost use Rattle.st_law.specs.declared.input.Input.{Input};
+ghost use Rattle.st_law.specs.Machine.{next_instruction_entry};
+ghost use Rattle.st_law.specs.State.{State};
+ghost use Rattle.st_machine.specs.Step.{step_entry};
+
+use st_base::{Errno, Ids, Seq, Sequence, Tid};
+use st_calls::{ArgText, SysCall};
+use st_trace::{Cause, Instr};
+
+/// What a thread does next.
+#[derive(Debug, Drop)]
+pub enum Step {
+    /// Nothing: it hasn't started, has ended, or waits for its held call.
+    Wait,
+    /// It ends.
+    End,
+    /// It stores a word at a place of its process's memory.
+    Store {
+        place: u32,
+        word: u64,
+    },
+    /// It enters a call; the child is the thread that a fork of its body starts, else 0.
+    Enter {
+        call: SysCall,
+        regs: [u64; 6],
+        child: Tid,
+    },
+    /// Its call is made.
+    Make(Use),
+    /// Its call, which isn't held, fails before it is made, under the process's own ids.
+    Fail {
+        call: SysCall,
+        regs: [u64; 6],
+        ids: Ids,
+        errno: Errno,
+    },
+    /// Its call is denied.
+    Deny {
+        seq: Option<Seq>,
+        errno: Errno,
+        cause: Cause,
+    },
+}
+
+/// How a call is made: with these arguments and under these ids; a held one has the number of its message.
+#[derive(Debug, Drop)]
+pub struct Use {
+    pub seq: Option<Seq>,
+    pub call: SysCall,
+    pub regs: [u64; 6],
+    pub args: Sequence<ArgText>,
+    pub ids: Ids,
+}
+
+impl Step {
+    /// The step of a thread without a pending call, by the instructions that it has left.
+    pub fn of_instructions(left: &[Instr]) -> Self
+        ensures { (i : Input) (st : State) (t : ℕ) → next_instruction_entry i st t left.now ≡ step_entry i st t result }
+    {
+        match left {
+            [] => Step::End,
+            [Instr::Store(place, word), ..] => Step::Store {
+                place: *place,
+                word: *word,
+            },
+            [Instr::Call(call, regs), ..] => Step::Enter {
+                call: *call,
+                regs: *regs,
+                child: 0,
+            },
+            [Instr::Fork(child), ..] => Step::Enter {
+                call: SysCall::Fork,
+                regs: [0; 6],
+                child: *child,
+            },
+        }
+    }
+}
