@@ -1,8 +1,8 @@
 -- The index of a label, as pieces and as bytes.
-use Rattle.std.proofs.Common.{◌≡◌, ℕ, Bool, true, false, if◌then◌else◌, ◌==◌, List, [], ◌∷◌, ◌++◌, refl, codes}
+use Rattle.std.proofs.Common.{◌≡◌, ℕ, Bool, true, false, if◌then◌else◌, ◌==◌, [], ◌∷◌, ◌++◌, refl, codes}
 use Rattle.std.specs.Prelude.{decimal}
 use Rattle.st_calls.specs.Argument.{index_text}
-use Rattle.st_lex.specs.Pieces.{Piece, Sign, PlainWord, print}
+use Rattle.st_lex.specs.Pieces.{Sign, PlainWord, print}
 use Rattle.st_lex.specs.declared.token.TokenKind.TheVariants as kind
 use Rattle.st_policy.specs.Canon.{index_pieces}
 

@@ -20,6 +20,7 @@ pub mod JointsKept
 pub mod Keywords
 pub mod Names
 pub mod Numbers
+mod OneFilters
 pub mod OperandsKept
 pub mod PredicatesKept
 pub mod PrintedClauses

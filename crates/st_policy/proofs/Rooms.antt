@@ -1,6 +1,6 @@
 -- A step keeps the policies read before, and counts each filter.
 use Rattle.std.proofs.Common.{◌≡◌, ℕ, ◌+◌, ◌<◌, ◌≤◌, Bool, true, false, if◌then◌else◌, List, [], ◌∷◌, ◌++◌, length, take, refl, ap, sym, subst, ◌∙◌, arith, Option, Some, None, Ok, ◌&&◌, append_assoc, append-nil}
-use Rattle.std.proofs.lemmas.List.{take-append-le, take_all, length-append}
+use Rattle.std.proofs.lemmas.List.{take-append-le, take_all}
 use Rattle.st_policy.specs.declared.env.Env.{Env}
 use Rattle.st_filter.specs.declared.filter.FilterName.{FilterName}
 use Rattle.st_policy.specs.declared.place.Place.{Place}
@@ -13,7 +13,7 @@ use Rattle.st_policy.specs.Symbol.{Symbol}
 use Rattle.st_policy.specs.Diagram.{StepResult, next, is_line, step, step_binary, binaries}
 use Rattle.st_policy.specs.Draft.{Draft, Reading, reading_step, read_step, set_after, ends_filter, filter_of, new_policy, is_binary_place, first_reading}
 use Rattle.st_policy.specs.Between.{needs_header, open_filters, IsSound}
-use Rattle.st_filter.proofs.Counts.{filters_in_first, filters_in_last, counted_added}
+use Rattle.st_filter.proofs.Counts.{filters_in_last, counted_added}
 use Rattle.st_policy.proofs.Between.{Follows, Goes, HasStopped, ended, step_follows, binary_outside}
 use Rattle.st_filter.specs.declared.set.TheConstants.{MOST_FILTERS}
 
@@ -60,7 +60,7 @@ ends_after _ line h = refl
 
 -- ---- other places
 
-set_other : (env : Env) (name : FilterName) (d : Draft) (s : Symbol) (p : Place) (set : List BinaryPolicy) → is_binary_place p ≡ false →
+pub set_other : (env : Env) (name : FilterName) (d : Draft) (s : Symbol) (p : Place) (set : List BinaryPolicy) → is_binary_place p ≡ false →
     set_after env name d s p set ≡ added (ends_filter p && is_line s) set (filter_of name d)
 set_other env name d s place.Binary set h = cc
 set_other env name d s _ set h = refl

@@ -1,5 +1,5 @@
 -- What holds between two tokens of a policy's text.
-use Rattle.std.specs.Prelude.{◌≡◌, ℕ, ◌+◌, ◌≤◌, Bool, true, false, List, [], ◌∷◌, ◌++◌}
+use Rattle.std.specs.Prelude.{◌≡◌, ℕ, ◌+◌, ◌≤◌, Bool, true, false, List, ◌++◌}
 use Rattle.st_policy.specs.declared.place.Place.{Place}
 use Rattle.st_policy.specs.declared.place.Place.TheVariants as place
 use Rattle.st_filter.specs.declared.set.BinaryPolicy.{BinaryPolicy}

@@ -6,6 +6,7 @@ pub mod FaultPlace
 pub mod Form
 pub mod Grammar
 pub mod Leftmost
+pub mod OneFilter
 pub mod Readable
 pub mod Stack
 pub mod Symbol

@@ -46,7 +46,7 @@ pub(crate) fn binary_of(
 }
 
 // A fault where a token is none: the token's own, unless something stands there that can't.
-fn lexical(fault: LexFault, found: PolicyFault) -> PolicyFault
+pub(crate) fn lexical(fault: LexFault, found: PolicyFault) -> PolicyFault
     ensures is { result ≡ lexical fault found }
     ensures memory { result ≢ PolicyFault.NoMemory → found ≢ PolicyFault.NoMemory }
 {

@@ -151,7 +151,8 @@ impl<'a> GrammarState<'a> {
         }
     }
 
-    fn step_name(&self, at: u32, word: &'a [u8]) -> Result<GrammarState<'a>, PolicyFault>
+    /// The step at the front of a row, where a filter's name stands.
+    pub(crate) fn step_name(&self, at: u32, word: &'a [u8]) -> Result<GrammarState<'a>, PolicyFault>
         ensures { result ≡ step_name self.now at (filter_name word.now) }
     {
         match native_name(word) {

@@ -1,0 +1,14 @@
+use Rattle.std.proofs.Common.{◌≡◌, ◌∷◌, length}
+use Rattle.st_policy.specs.OneFilter.{filter_from, filter_of_tokens}
+use Rattle.st_policy.proofs.OneFilters.{InFilter}
+use Rattle.st_policy.proofs.one_filter.filter_of_tokens.Given as goal
+
+-- what is left, read behind what was read, gives the answer; and what was read begins a filter
+abbrev pub invariant-loop-token : goal.invariant-loop-token
+invariant-loop-token l = record {
+  rest : filter_of_tokens l.env l.text l.broken (l.first ∷ l.tokens) ≡ filter_from l.env l.text l.broken l.walk l.draft l.rest;
+  within : InFilter l.env l.walk l.draft;
+}
+
+abbrev pub decreases-loop-token : goal.decreases-loop-token
+decreases-loop-token l = length l.rest

@@ -1,0 +1,127 @@
+ghost use Rattle.std.specs.Prelude.{◌≡◌, ◌≢◌, ◌^◌, ◌<◌, ℕ, List, ◌∷◌, false, Ok, Err, length, IfOk, IfErr};
+ghost use Rattle.st_policy.specs.Symbol.{seen};
+ghost use Rattle.st_policy.specs.Draft.{is_binary_place};
+ghost use Rattle.st_filter.specs.Formula.{FilterValue};
+ghost use Rattle.st_policy.specs.OneFilter.{ReadsFilter, behind_filter, filter_at_end, begin_filter, no_filter, filter_of_tokens, filter_in};
+ghost use Rattle.st_policy.specs.declared.env.Env.{Env};
+
+use crate::draft::Draft;
+use crate::env::Env;
+use crate::fault::PolicyFault;
+use crate::reader::lexical;
+use crate::symbol::Symbol;
+use crate::walk::GrammarState;
+use st_filter::Filter;
+use st_lex::{LexFault, Token, tokens};
+use std::alloc::Global;
+
+// Behind a filter's line stands nothing.
+fn behind_filter(
+    filter: Filter,
+    behind: &[Token],
+    broken: Option<LexFault>,
+) -> Result<Filter, PolicyFault>
+    ensures { result ≡ behind_filter broken filter behind.now }
+{
+    match (behind, broken) {
+        ([token, ..], _) => Err(PolicyFault::Expected(token.at)),
+        ([], None) => Ok(filter),
+        ([], Some(fault)) => Err(PolicyFault::Lex(fault)),
+    }
+}
+
+// A filter at the end of its text's tokens: the text's end may end it, and what is no token fits nowhere.
+fn filter_at_end(
+    alloc: Global,
+    env: &Env,
+    end: u32,
+    walk: &GrammarState,
+    draft: Draft,
+    broken: Option<LexFault>,
+) -> Result<Filter, PolicyFault>
+    requires { is_binary_place walk.now.place ≡ false }
+    ensures ok { IfOk result (λ filter. filter_at_end env.now end walk.now draft broken ≡ Ok filter) }
+    ensures fault { IfErr result (λ f. f ≢ PolicyFault.NoMemory → filter_at_end env.now end walk.now draft broken ≡ Err f) }
+{
+    match broken {
+        None => {
+            walk.step(env, end, &Symbol::Line)?;
+            let name = walk.filter_name(alloc)?;
+            Ok(draft.filter(name))
+        }
+        Some(fault) => match walk.step(env, end, &Symbol::Broken) {
+            Ok(_) => Err(PolicyFault::Lex(fault)),
+            Err(found) => Err(lexical(fault, found)),
+        },
+    }
+}
+
+// A filter begins with its name.
+fn begin_filter<'a>(at: u32, symbol: &Symbol<'a>) -> Result<GrammarState<'a>, PolicyFault>
+    ensures { result ≡ begin_filter at (seen symbol.now) }
+{
+    match *symbol {
+        Symbol::Word(word) => GrammarState::new(0).step_name(at, word),
+        _ => Err(PolicyFault::Expected(at)),
+    }
+}
+
+// The filter whose tokens are this one and those behind it.
+fn filter_of_tokens(
+    alloc: Global,
+    env: &Env,
+    text: &[u8],
+    broken: Option<LexFault>,
+    first: &Token,
+    tokens: &[Token],
+) -> Result<Filter, PolicyFault>
+    requires { length text.now < 2 ^ 32 }
+    ensures ok { IfOk result (λ filter. filter_of_tokens env.now text.now broken (first.now ∷ tokens.now) ≡ Ok filter) }
+    ensures fault { IfErr result (λ f. f ≢ PolicyFault.NoMemory → filter_of_tokens env.now text.now broken (first.now ∷ tokens.now) ≡ Err f) }
+{
+    let mut walk = begin_filter(first.at, &Symbol::of(text, first))?;
+    let mut draft = Draft::new(alloc);
+    let mut rest = tokens;
+    while let Some((token, behind)) = rest.split_first() {
+        let symbol = Symbol::of(text, token);
+        let next = walk.step(env, token.at, &symbol)?;
+        if symbol.is_line() {
+            let name = walk.filter_name(alloc)?;
+            return behind_filter(draft.filter(name), behind, broken);
+        }
+        draft.take(alloc, env, walk.label(), walk.place(), &symbol)?;
+        walk = next;
+        rest = behind;
+    }
+    filter_at_end(alloc, env, text.len() as u32, &walk, draft, broken)
+}
+
+// Where a text has no token.
+fn no_filter(end: u32, broken: Option<LexFault>) -> PolicyFault
+    ensures is { no_filter end broken ≡ Err result }
+    ensures memory { result ≢ PolicyFault.NoMemory }
+{
+    match broken {
+        None => PolicyFault::Expected(end),
+        Some(fault) => PolicyFault::Lex(fault),
+    }
+}
+
+/// Reads one filter without a header: exactly where the whole text is one, ended by a line or by the text's end. Else the fault is
+/// the leftmost, at its token.
+pub fn read_filter(alloc: Global, text: &[u8], env: &Env) -> Result<Filter, PolicyFault>
+    requires { length text.now < 2 ^ 32 }
+    ensures ok { IfOk result (λ filter. filter_in text.now env.now ≡ Ok filter) }
+    ensures fault { IfErr result (λ f. f ≢ PolicyFault.NoMemory → filter_in text.now env.now ≡ Err f) }
+{
+    let lexed = tokens(alloc, text)?;
+    match lexed.tokens.as_slice() {
+        [first, behind @ ..] => filter_of_tokens(alloc, env, text, lexed.fault, first, behind),
+        [] => Err(no_filter(text.len() as u32, lexed.fault)),
+    }
+}
+
+/// What is read as one filter is one by the grammar.
+pub fn what_is_read_is_a_filter()
+    ensures { (text : List ℕ) (env : Env) (filter : FilterValue) → filter_in text env ≡ Ok filter → ReadsFilter text env filter }
+{}
