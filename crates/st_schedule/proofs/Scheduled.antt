@@ -1,0 +1,8 @@
+-- A schedule that is read line by line.
+use Rattle.std.proofs.Common.{List, ◌++◌}
+use Rattle.st_law.specs.declared.input.ReadSchedule.{ReadSchedule}
+use Rattle.st_law.specs.declared.input.ScheduleLine.{ScheduleLine}
+
+-- lines, and what follows behind them
+abbrev pub behind : List ScheduleLine → ReadSchedule → ReadSchedule
+behind lines schedule = record { lines = lines ++ schedule.lines; bad = schedule.bad }

@@ -1,0 +1,9 @@
+//! Reads schedules, which say what choices a run makes.
+#![tactic(auto)]
+
+pub mod schedule;
+
+pub use schedule::{MOST_TIMES, read_schedule, schedule_line};
+
+#[cfg(test)]
+mod tests;
