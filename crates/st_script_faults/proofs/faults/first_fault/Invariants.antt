@@ -1,0 +1,15 @@
+use Rattle.std.proofs.Common.{◌≡◌, ◌≤◌, length}
+use Rattle.st_script_faults.specs.Faults.{first_fault}
+use Rattle.st_script_faults.specs.Names.{no_names}
+use Rattle.st_script_faults.specs.declared.limits.TheConstants.{MOST_INSTRUCTIONS}
+use Rattle.st_script_faults.proofs.faults.first_fault.Given as goal
+
+-- what is left gives the answer
+abbrev pub invariant-loop-line : goal.invariant-loop-line
+invariant-loop-line l = record {
+  rest : first_fault l.whole l.above l.rest ≡ first_fault l.whole no_names l.lines;
+  few : l.above.instructions ≤ MOST_INSTRUCTIONS;
+}
+
+abbrev pub decreases-loop-line : goal.decreases-loop-line
+decreases-loop-line l = length l.rest

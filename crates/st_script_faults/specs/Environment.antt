@@ -1,0 +1,106 @@
+-- What the filters of a script's replies are read with, as policies are: what all its rows give.
+use Rattle.std.specs.Prelude.{ℕ, Bool, true, false, ◌||◌, ◌&&◌, not, ◌==◌, if◌then◌else◌, nat_le, List, [], ◌∷◌, length, map, codes, decimal, find, Option, Some, None, is_some}
+use Rattle.st_law.specs.declared.input.Mode.{Mode}
+use Rattle.st_law.specs.declared.input.Mode.TheVariants.{Enforce, Learn, AskText}
+use Rattle.st_law.specs.declared.input.Options.{Options}
+use Rattle.st_lex.specs.declared.unquoted.Dollars.{Dollars}
+use Rattle.st_policy.specs.declared.env.Env.{Env}
+use Rattle.st_policy.specs.declared.env.NamedId.{NamedId}
+use Rattle.st_script_faults.specs.Names.{Name, has_name, with_name}
+use Rattle.st_statements.specs.Parts.{is_long}
+use Rattle.st_script_faults.specs.declared.limits.TheConstants.{MOST_PROCESSES}
+use Rattle.st_statements.specs.declared.statement.ScriptLine.{ScriptLine}
+use Rattle.st_statements.specs.declared.statement.ScriptProcess.{ScriptProcess}
+use Rattle.st_statements.specs.declared.statement.Statement.{Statement}
+use Rattle.st_statements.specs.declared.statement.Statement.TheVariants as says
+use Rattle.st_trace.specs.declared.start.GroupRow.{GroupRow}
+use Rattle.st_trace.specs.declared.start.UserRow.{UserRow}
+
+-- the user that a row gives, where no row above has its name
+abbrev pub new_user : List Name → Option Statement → Option UserRow
+new_user known (Some (says.User user)) = if has_name known user.name then None else Some user
+new_user known _ = None
+
+-- the users that lines give, below rows with these names: of each name the first
+abbrev pub users_below : List Name → List ScriptLine → List UserRow
+users_below known [] = []
+users_below known (line ∷ lines) =
+    elim (new_user known line.says) [
+      | Some user ↦ user ∷ users_below (with_name known user.name) lines
+      | None ↦ users_below known lines
+    ]
+
+-- the group that a row gives, where no row above has its name
+abbrev pub new_group : List Name → Option Statement → Option GroupRow
+new_group known (Some (says.Group group)) = if has_name known group.name then None else Some group
+new_group known _ = None
+
+-- the groups that lines give, below rows with these names: of each name the first
+abbrev pub groups_below : List Name → List ScriptLine → List GroupRow
+groups_below known [] = []
+groups_below known (line ∷ lines) =
+    elim (new_group known line.says) [
+      | Some group ↦ group ∷ groups_below (with_name known group.name) lines
+      | None ↦ groups_below known lines
+    ]
+
+-- the process that a row says
+abbrev pub process_of : Option Statement → Option ScriptProcess
+process_of (Some (says.Process process)) = Some process
+process_of _ = None
+
+-- whether a process can't be taken where these are above: its name is one of them, there are too many, or a name of it is too long
+abbrev pub is_refused : List Name → ScriptProcess → Bool
+is_refused known process =
+    has_name known process.name || (nat_le MOST_PROCESSES (length known) || (is_long process.binary || is_long process.cwd))
+
+-- whether a process is traced and can be taken
+abbrev pub is_given : List Name → ScriptProcess → Bool
+is_given known process = process.traced && not (is_refused known process)
+
+-- the first traced process that lines give, below rows with these processes
+abbrev pub first_traced : List Name → List ScriptLine → Option ScriptProcess
+first_traced known [] = None
+first_traced known (line ∷ lines) =
+    elim (process_of line.says) [
+      | Some process ↦ if is_given known process then Some process else first_traced (with_name known process.name) lines
+      | None ↦ first_traced known lines
+    ]
+
+-- the user of a traced process: its own, or the one of `-c`
+abbrev pub user_of : Options → ScriptProcess → ℕ
+user_of options process = elim options.ids [ Some ids ↦ ids.0 | None ↦ process.uid ]
+
+-- the home and the name of an id: those of the first user with it, else `/` and its digits
+abbrev pub dollars_by : ℕ → Name → Option UserRow → Dollars
+dollars_by uid cwd (Some user) = record { home = user.home; user = user.name; cwd = cwd }
+dollars_by uid cwd None = record { home = codes "/"; user = decimal uid; cwd = cwd }
+
+-- what stands for the three names: those of the first traced process, or of root where there is none
+abbrev pub dollars_of : Options → List UserRow → Option ScriptProcess → Dollars
+dollars_of options users None = record { home = codes "/root"; user = codes "root"; cwd = codes "/" }
+dollars_of options users (Some process) =
+    dollars_by (user_of options process) process.cwd (find (λ user. user.uid == user_of options process) users)
+
+-- a user, and a group, by its name and id
+abbrev pub user_id : UserRow → NamedId
+user_id user = record { name = user.name; id = user.uid }
+
+abbrev pub group_id : GroupRow → NamedId
+group_id group = record { name = group.name; id = group.gid }
+
+-- whether policies are learnt
+abbrev pub learns : Mode → Bool
+learns Learn = true
+learns Enforce = false
+learns AskText = false
+
+-- the environment that the lines of a script give
+abbrev pub environment_of : Options → List ScriptLine → Env
+environment_of options lines = record {
+  users = map user_id (users_below [] lines);
+  groups = map group_id (groups_below [] lines);
+  dollars = dollars_of options (users_below [] lines) (first_traced [] lines);
+  elevate = is_some options.ids;
+  learn = learns options.mode;
+}

@@ -1,0 +1,187 @@
+-- The faults of a script, by line.
+use Rattle.std.specs.Prelude.{ℕ, ◌+◌, Bool, true, false, ◌||◌, ◌&&◌, not, if◌then◌else◌, nat_le, nat_lt, List, [], ◌∷◌, length, Option, Some, None, is_some, option_map, Ok, Err}
+use Rattle.std.specs.List.{list_any}
+use Rattle.st_filter.specs.Formula.{FilterValue}
+use Rattle.st_law.specs.declared.input.Options.{Options}
+use Rattle.st_lex.specs.declared.token.LexFault.{LexFault}
+use Rattle.st_script_faults.specs.declared.fault.ScriptFault.{ScriptFault}
+use Rattle.st_script_faults.specs.declared.fault.ScriptFault.TheVariants.{Lex, Expected, UnknownName, Duplicate, TooMany}
+use Rattle.st_filter.specs.declared.filter.Action.{Action}
+use Rattle.st_filter.specs.declared.filter.Action.TheVariants.{Permit, Deny, Ask}
+use Rattle.st_filter.specs.declared.set.Reply.{Reply}
+use Rattle.st_lex.specs.Unquote.{unquoted}
+use Rattle.st_model.specs.declared.limits.TheConstants.{LONGEST_FILE, LONGEST_TEXT}
+use Rattle.st_model.specs.declared.object.NewKind.{NewKind}
+use Rattle.st_model.specs.declared.object.NewKind.TheVariants as kind
+use Rattle.st_policy.specs.OneFilter.{FilterResult, filter_in}
+use Rattle.st_policy.specs.declared.env.Env.{Env}
+use Rattle.st_script_faults.specs.Environment.{environment_of}
+use Rattle.st_script_faults.specs.Names.{Name, Names, no_names, has_name, with_name, with_says, store_count, directory_of, is_directory}
+use Rattle.st_statements.specs.Parts.{is_normal, is_long}
+use Rattle.st_script_faults.specs.declared.limits.TheConstants.{MOST_INSTRUCTIONS, MOST_PROCESSES, MOST_THREADS, MOST_TREE_ROWS}
+use Rattle.st_statements.specs.declared.statement.ScriptLine.{ScriptLine}
+use Rattle.st_statements.specs.declared.statement.Statement.{Statement}
+use Rattle.st_statements.specs.declared.statement.Statement.TheVariants as says
+
+-- what each row is read with, wherever it stands
+pub record Whole : Type 0 where
+  -- whether a lexical fault cuts the script off
+  pub is_cut : Bool
+  -- the threads of all rows, and those that start in a process
+  pub threads : List Name
+  pub started : List Name
+  pub env : Env
+
+-- ---- replies
+
+-- a filter that doesn't ask
+abbrev pub unless_ask : FilterValue → Action → Option FilterValue
+unless_ask filter Permit = Some filter
+unless_ask filter (Deny errno) = Some filter
+unless_ask filter Ask = None
+
+-- the filter of a reply, where it is read and doesn't ask
+abbrev pub answer_of : FilterResult → Option FilterValue
+answer_of (Ok filter) = unless_ask filter filter.action
+answer_of (Err fault) = None
+
+-- a reply to questions about this binary
+abbrev pub reply_for : Name → Option FilterValue → Option Reply
+reply_for binary filter = if is_normal binary then option_map (λ f. record { binary = binary; filter = f }) filter else None
+
+-- the reply of a row's quoted binary and filter, if it is one
+abbrev pub reply_in : Env → List ℕ → List ℕ → Option Reply
+reply_in env binary filter = reply_for (unquoted env.dollars binary) (answer_of (filter_in filter env))
+
+-- whether a row is the end of a thread's body
+abbrev pub is_end : Option Statement → Bool
+is_end (Some says.End) = true
+is_end _ = false
+
+-- the same of a line
+abbrev pub ends_body : ScriptLine → Bool
+ends_body line = is_end line.says
+
+-- ---- what is wrong with a row, by what stands above and below it
+
+-- a thread that no `end` follows, unless the script is cut off, and a reply that is none
+abbrev pub is_expected : Whole → List ScriptLine → Statement → Bool
+is_expected whole below (says.Thread name process) = not whole.is_cut && not (list_any ends_body below)
+is_expected whole below (says.Reply binary filter) = not (is_some (reply_in whole.env binary filter))
+is_expected whole below _ = false
+
+-- an object that stands in no directory, a thread in no process, and a fork of no thread
+abbrev pub is_unknown : Whole → Names → Statement → Bool
+is_unknown whole above (says.Object path new) = not (is_directory above.directories (directory_of path))
+is_unknown whole above (says.Thread name (Some process)) = not (has_name above.processes process)
+is_unknown whole above (says.Fork name) = not whole.is_cut && not (has_name whole.threads name)
+is_unknown whole above _ = false
+
+-- whether a thread starts in a process, or by a fork above
+abbrev pub is_started : Whole → Names → Name → Bool
+is_started whole above name = has_name whole.started name || has_name above.forked name
+
+-- a name again, and a fork of a thread that is started already
+abbrev pub is_duplicate : Whole → Names → Statement → Bool
+is_duplicate whole above (says.User user) = has_name above.users user.name
+is_duplicate whole above (says.Group group) = has_name above.groups group.name
+is_duplicate whole above (says.Object path new) = has_name above.paths path
+is_duplicate whole above (says.Process process) = has_name above.processes process.name
+is_duplicate whole above (says.Thread name process) = has_name above.threads name
+is_duplicate whole above (says.Fork name) = is_started whole above name
+is_duplicate whole above _ = false
+
+-- a content or a target of too many bytes
+abbrev pub is_large : NewKind → Bool
+is_large kind.Dir = false
+is_large (kind.File content) = nat_lt LONGEST_FILE (length content)
+is_large (kind.Link target) = nat_lt LONGEST_TEXT (length target)
+
+-- whether so many instructions more are too many
+abbrev pub exceeds : Names → ℕ → Bool
+exceeds above count = nat_lt MOST_INSTRUCTIONS (above.instructions + count)
+
+-- too many rows or instructions, or too many bytes
+abbrev pub is_too_many : Whole → Names → Statement → Bool
+is_too_many whole above (says.Object path new) = nat_le MOST_TREE_ROWS (length above.paths) || (is_long path || is_large new.kind)
+is_too_many whole above (says.Process process) =
+    nat_le MOST_PROCESSES (length above.processes) || (is_long process.binary || is_long process.cwd)
+is_too_many whole above (says.Thread name process) = nat_le MOST_THREADS (length above.threads)
+is_too_many whole above (says.Reply binary filter) = is_long (unquoted whole.env.dollars binary)
+is_too_many whole above (says.Store place word) = exceeds above 1
+is_too_many whole above (says.Put place bytes) = exceeds above (store_count bytes)
+is_too_many whole above (says.Call call regs) = exceeds above 1
+is_too_many whole above (says.Fork name) = exceeds above 1
+is_too_many whole above _ = false
+
+-- ---- faults
+
+-- what is wrong with a row: the first kind that is met
+abbrev pub fault_of : Whole → Names → List ScriptLine → ℕ → Statement → Option ScriptFault
+fault_of whole above below line statement =
+    if is_expected whole below statement then Some (Expected line)
+    else if is_unknown whole above statement then Some (UnknownName line)
+    else if is_duplicate whole above statement then Some (Duplicate line)
+    else if is_too_many whole above statement then Some (TooMany line)
+    else None
+
+-- what is wrong with a line, by what it says
+abbrev pub fault_by : Whole → Names → List ScriptLine → ℕ → Option Statement → Option ScriptFault
+fault_by whole above below line None = Some (Expected line)
+fault_by whole above below line (Some statement) = fault_of whole above below line statement
+
+-- what is wrong with a line
+abbrev pub line_fault : Whole → Names → List ScriptLine → ScriptLine → Option ScriptFault
+line_fault whole above below line = fault_by whole above below line.number line.says
+
+-- the fault of the first line that has one, below rows that give these names
+abbrev pub first_fault : Whole → Names → List ScriptLine → Option ScriptFault
+first_fault whole above [] = None
+first_fault whole above (line ∷ lines) =
+    elim (line_fault whole above lines line) [
+      | Some fault ↦ Some fault
+      | None ↦ first_fault whole (with_says above line.says) lines
+    ]
+
+-- names with that of a thread, if a row is one
+abbrev pub with_thread : List Name → Option Statement → List Name
+with_thread names (Some (says.Thread name process)) = with_name names name
+with_thread names _ = names
+
+-- the threads of lines, behind these
+abbrev pub threads_behind : List Name → List ScriptLine → List Name
+threads_behind names [] = names
+threads_behind names (line ∷ lines) = threads_behind (with_thread names line.says) lines
+
+-- names with that of a thread that starts in a process, if a row is one
+abbrev pub with_started : List Name → Option Statement → List Name
+with_started names (Some (says.Thread name (Some process))) = with_name names name
+with_started names _ = names
+
+-- the threads of lines that start in a process, behind these
+abbrev pub started_behind : List Name → List ScriptLine → List Name
+started_behind names [] = names
+started_behind names (line ∷ lines) = started_behind (with_started names line.says) lines
+
+-- what the rows of a script are read with
+abbrev pub whole_of : Bool → Options → List ScriptLine → Whole
+whole_of is_cut options lines = record {
+  is_cut = is_cut;
+  threads = threads_behind [] lines;
+  started = started_behind [] lines;
+  env = environment_of options lines;
+}
+
+-- the lexical fault of a script
+abbrev pub lexical : Option LexFault → Option ScriptFault
+lexical fault = option_map Lex fault
+
+-- the first of two faults
+abbrev pub first_of : Option ScriptFault → Option ScriptFault → Option ScriptFault
+first_of (Some fault) other = Some fault
+first_of None other = other
+
+-- the fault of a script: that of its first line that has one, and behind all lines the lexical fault
+abbrev pub script_fault : Options → Option LexFault → List ScriptLine → Option ScriptFault
+script_fault options broken lines =
+    first_of (first_fault (whole_of (is_some broken) options lines) no_names lines) (lexical broken)

@@ -1,0 +1,4 @@
+pub mod Environment
+pub mod Faults
+pub mod FirstFault
+pub mod Names

@@ -1,0 +1,87 @@
+-- What the rows above a row of a script give: names, each once and in order, and instructions.
+use Rattle.std.specs.Prelude.{ℕ, zero, suc, ◌+◌, ◌/◌, ◌==◌, Bool, true, if◌then◌else◌, List, [], ◌∷◌, ◌++◌, length, take, slice_index, Option, Some, None}
+use Rattle.std.specs.List.{list_any, position_or_len}
+use Rattle.std.specs.Str.{bytes_eq}
+use Rattle.st_model.specs.declared.object.NewKind.{NewKind}
+use Rattle.st_model.specs.declared.object.NewKind.TheVariants as kind
+use Rattle.st_names.specs.Name.{slash}
+use Rattle.st_statements.specs.Lines.{saturated}
+use Rattle.st_statements.specs.declared.statement.Statement.{Statement}
+use Rattle.st_statements.specs.declared.statement.Statement.TheVariants as says
+
+-- a name, as its bytes
+abbrev pub Name : Type 0
+Name = List ℕ
+
+-- whether a name is among some
+abbrev pub has_name : List Name → Name → Bool
+has_name names name = list_any (bytes_eq name) names
+
+-- names with one more, which is told once
+abbrev pub with_name : List Name → Name → List Name
+with_name names name = if has_name names name then names else names ++ name ∷ []
+
+-- the number of a name among some, counted from 1
+abbrev pub number_of : List Name → Name → ℕ
+number_of names name = saturated (position_or_len (bytes_eq name) names + 1)
+
+-- what rows give
+pub record Names : Type 0 where
+  pub users : List Name
+  pub groups : List Name
+  pub paths : List Name
+  -- the paths of directories
+  pub directories : List Name
+  pub processes : List Name
+  pub threads : List Name
+  -- the threads that forks start
+  pub forked : List Name
+  pub instructions : ℕ
+
+-- what no rows give
+abbrev pub no_names : Names
+no_names = record { users = []; groups = []; paths = []; directories = []; processes = []; threads = []; forked = []; instructions = 0 }
+
+-- the directories with what is made at a path
+abbrev pub with_object : List Name → Name → NewKind → List Name
+with_object directories path kind.Dir = with_name directories path
+with_object directories path (kind.File content) = directories
+with_object directories path (kind.Link target) = directories
+
+-- how many instructions a text is that is put into memory: the stores of it and of a zero byte, in whole words
+abbrev pub store_count : List ℕ → ℕ
+store_count bytes = length bytes / 8 + 1
+
+-- what a row gives too
+abbrev pub with_statement : Names → Statement → Names
+with_statement names (says.User user) = record names { users = with_name names.users user.name }
+with_statement names (says.Group group) = record names { groups = with_name names.groups group.name }
+with_statement names (says.Object path new) =
+    record names { paths = with_name names.paths path; directories = with_object names.directories path new.kind }
+with_statement names (says.Process process) = record names { processes = with_name names.processes process.name }
+with_statement names (says.Thread name process) = record names { threads = with_name names.threads name }
+with_statement names (says.Reply binary filter) = names
+with_statement names (says.Store place word) = record names { instructions = names.instructions + 1 }
+with_statement names (says.Put place bytes) = record names { instructions = names.instructions + store_count bytes }
+with_statement names (says.Call call regs) = record names { instructions = names.instructions + 1 }
+with_statement names (says.Fork name) = record names { forked = with_name names.forked name; instructions = names.instructions + 1 }
+with_statement names says.End = names
+
+-- the same, where a row says something
+abbrev pub with_says : Names → Option Statement → Names
+with_says names None = names
+with_says names (Some statement) = with_statement names statement
+
+-- the last slash among the first n bytes; 0 where there is none
+abbrev pub last_slash : List ℕ → ℕ → ℕ
+last_slash path zero = 0
+last_slash path (suc n) = if slice_index path n == slash then n else last_slash path n
+
+-- what stands before the last slash: the path of the directory, and nothing where that is the root
+abbrev pub directory_of : List ℕ → List ℕ
+directory_of path = take (last_slash path (length path)) path
+
+-- whether a directory has no name, as the root, or is among those of rows
+abbrev pub is_directory : List Name → Name → Bool
+is_directory directories [] = true
+is_directory directories (byte ∷ bytes) = has_name directories (byte ∷ bytes)

@@ -1,0 +1,229 @@
+ghost use Rattle.std.specs.Prelude.{◌≡◌, [], find, ◌==◌, map, IfOk, OnOk, option_copied};
+ghost use Rattle.st_script_faults.specs.Environment.{new_user, users_below, new_group, groups_below, process_of, is_refused, is_given, first_traced, user_of, dollars_by, dollars_of, user_id, group_id, learns, environment_of};
+
+use crate::limits::MOST_PROCESSES;
+use crate::names::NameIndex;
+use st_base::{Sequence, Text};
+use st_law::{Mode, Options};
+use st_lex::Dollars;
+use st_policy::{Env, NamedId};
+use st_statements::parts::is_long;
+use st_statements::{ScriptLine, ScriptProcess, Statement};
+use st_trace::{GroupRow, UserRow};
+use std::alloc::{AllocError, Global};
+
+// The user that a row gives, where no row above has its name.
+fn new_user<'a>(known: &NameIndex, says: &'a Option<Statement>) -> Option<&'a UserRow>
+    ensures { option_copied result ≡ new_user known.now says.now }
+{
+    match says {
+        Some(Statement::User(user)) if !known.has(user.name.bytes()) => Some(user),
+        _ => None,
+    }
+}
+
+// The users of lines, of each name the first.
+fn users_of<'a>(alloc: Global, lines: &'a [ScriptLine]) -> Result<Sequence<&'a UserRow>, AllocError>
+    ensures { IfOk result (λ users. map (λ user. user.now) users ≡ users_below [] lines.now) }
+{
+    let mut users = Sequence::new(alloc);
+    let mut known = NameIndex::new(alloc);
+    for line in lines {
+        if let Some(user) = new_user(&known, &line.says) {
+            users.push(user)?;
+            known.add(user.name.bytes())?;
+        }
+    }
+    Ok(users)
+}
+
+// The group that a row gives, where no row above has its name.
+fn new_group<'a>(known: &NameIndex, says: &'a Option<Statement>) -> Option<&'a GroupRow>
+    ensures { option_copied result ≡ new_group known.now says.now }
+{
+    match says {
+        Some(Statement::Group(group)) if !known.has(group.name.bytes()) => Some(group),
+        _ => None,
+    }
+}
+
+fn group_id(alloc: Global, group: &GroupRow) -> Result<NamedId, AllocError>
+    ensures { IfOk result (λ id. id ≡ group_id group.now) }
+{
+    Ok(NamedId {
+        name: group.name.copy(alloc)?,
+        id: group.gid,
+    })
+}
+
+// The groups of lines, of each name the first.
+fn group_ids(alloc: Global, lines: &[ScriptLine]) -> Result<Sequence<NamedId>, AllocError>
+    ensures { IfOk result (λ ids. ids ≡ map group_id (groups_below [] lines.now)) }
+{
+    let mut groups = Sequence::new(alloc);
+    let mut known = NameIndex::new(alloc);
+    for line in lines {
+        if let Some(group) = new_group(&known, &line.says) {
+            groups.push(group_id(alloc, group)?)?;
+            known.add(group.name.bytes())?;
+        }
+    }
+    Ok(groups)
+}
+
+/// The process that a row says.
+pub fn process_of(says: &Option<Statement>) -> Option<&ScriptProcess>
+    ensures { option_copied result ≡ process_of says.now }
+{
+    match says {
+        Some(Statement::Process(process)) => Some(process),
+        _ => None,
+    }
+}
+
+// Whether a process can't be taken where these are above.
+fn is_refused(known: &NameIndex, process: &ScriptProcess) -> bool
+    ensures { result ≡ is_refused known.now process.now }
+{
+    known.has(process.name.bytes())
+        || known.len() >= MOST_PROCESSES
+        || is_long(process.binary.bytes())
+        || is_long(process.cwd.bytes())
+}
+
+// The first traced process of lines that can be taken.
+fn first_traced<'a>(
+    alloc: Global,
+    lines: &'a [ScriptLine],
+) -> Result<Option<&'a ScriptProcess>, AllocError>
+    ensures { IfOk result (λ process. option_copied process ≡ first_traced [] lines.now) }
+{
+    let mut known = NameIndex::new(alloc);
+    for line in lines {
+        if let Some(process) = process_of(&line.says) {
+            if process.traced && !is_refused(&known, process) {
+                return Ok(Some(process));
+            }
+            known.add(process.name.bytes())?;
+        }
+    }
+    Ok(None)
+}
+
+// The user of a traced process: its own, or the one of `-c`.
+fn user_of(options: &Options, process: &ScriptProcess) -> u32
+    ensures { result ≡ user_of options.now process.now }
+{
+    match options.ids {
+        Some((uid, _)) => uid,
+        None => process.uid,
+    }
+}
+
+// The user of an id.
+fn user_with<'a>(users: &[&'a UserRow], uid: u32) -> Option<&'a UserRow>
+    ensures { option_copied result ≡ find (λ user. user.uid == uid) (map (λ user. user.now) users.now) }
+{
+    for user in users {
+        if user.uid == uid {
+            return Some(user);
+        }
+    }
+    None
+}
+
+fn dollars_by(
+    alloc: Global,
+    uid: u32,
+    cwd: &Text,
+    user: Option<&UserRow>,
+) -> Result<Dollars, AllocError>
+    ensures { IfOk result (λ dollars. dollars ≡ dollars_by uid cwd.now (option_copied user.entry)) }
+{
+    let cwd = cwd.copy(alloc)?;
+    match user {
+        Some(user) => Ok(Dollars {
+            home: user.home.copy(alloc)?,
+            user: user.name.copy(alloc)?,
+            cwd,
+        }),
+        None => {
+            let home = Text::of(alloc, b"/")?;
+            let mut user = Text::new(alloc);
+            user.append_number(u64::from(uid))?;
+            Ok(Dollars { home, user, cwd })
+        }
+    }
+}
+
+// What stands for the three names: those of the first traced process, or of root.
+fn dollars_of(
+    alloc: Global,
+    options: &Options,
+    users: &[&UserRow],
+    process: Option<&ScriptProcess>,
+) -> Result<Dollars, AllocError>
+    ensures { IfOk result (λ dollars. dollars ≡ dollars_of options.now (map (λ user. user.now) users.now) (option_copied process.entry)) }
+{
+    match process {
+        Some(process) => {
+            let uid = user_of(options, process);
+            dollars_by(alloc, uid, &process.cwd, user_with(users, uid))
+        }
+        None => Ok(Dollars {
+            home: Text::of(alloc, b"/root")?,
+            user: Text::of(alloc, b"root")?,
+            cwd: Text::of(alloc, b"/")?,
+        }),
+    }
+}
+
+fn user_id(alloc: Global, user: &UserRow) -> Result<NamedId, AllocError>
+    ensures { IfOk result (λ id. id ≡ user_id user.now) }
+{
+    Ok(NamedId {
+        name: user.name.copy(alloc)?,
+        id: user.uid,
+    })
+}
+
+fn user_ids(alloc: Global, users: &[&UserRow]) -> Result<Sequence<NamedId>, AllocError>
+    ensures { IfOk result (λ ids. ids ≡ map user_id (map (λ user. user.now) users.now)) }
+{
+    let mut ids = Sequence::new(alloc);
+    for user in users {
+        ids.push(user_id(alloc, user)?)?;
+    }
+    Ok(ids)
+}
+
+fn learns(mode: Mode) -> bool
+    ensures { result ≡ learns mode }
+{
+    match mode {
+        Mode::Learn => true,
+        Mode::Enforce => false,
+        Mode::AskText => false,
+    }
+}
+
+/// What policies, and the filters of replies, are read with: users and groups of all lines, of each name the first, and the three texts
+/// of the first traced process. Lines that can't be taken give nothing.
+pub fn environment_of(
+    alloc: Global,
+    options: &Options,
+    lines: &[ScriptLine],
+) -> Result<Env, AllocError>
+    ensures { IfOk result (λ env. env ≡ environment_of options.now lines.now) }
+{
+    let users = users_of(alloc, lines)?;
+    let process = first_traced(alloc, lines)?;
+    let dollars = dollars_of(alloc, options, users.as_slice(), process)?;
+    Ok(Env {
+        users: user_ids(alloc, users.as_slice())?,
+        groups: group_ids(alloc, lines)?,
+        dollars,
+        elevate: options.ids.is_some(),
+        learn: learns(options.mode),
+    })
+}

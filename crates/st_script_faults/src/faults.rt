@@ -1,0 +1,371 @@
+ghost use Rattle.std.specs.Prelude.{◌≡◌, ◌^◌, ◌≤◌, List, Some, None, Ok, [], IfOk, OnOk};
+ghost use Rattle.std.specs.List.{list_any};
+ghost use Rattle.st_script_faults.specs.Faults.{answer_of, reply_for, reply_in, is_end, ends_body, is_expected, is_unknown, is_started, is_duplicate, is_large, exceeds, is_too_many, fault_of, fault_by, line_fault, first_fault, with_thread, threads_behind, with_started, started_behind, whole_of};
+ghost use Rattle.st_script_faults.specs.FirstFault.{IsFirstFault};
+ghost use Rattle.st_script_faults.specs.Faults as spec;
+ghost use Rattle.st_script_faults.specs.Names.{no_names, with_says};
+ghost use Rattle.st_script_faults.specs.declared.fault.ScriptFault.{ScriptFault};
+ghost use Rattle.st_statements.specs.declared.statement.ScriptLine.{ScriptLine};
+ghost use Rattle.st_policy.specs.OneFilter.{filter_in};
+ghost use Rattle.st_lex.specs.Unquote.{unquoted};
+ghost use Rattle.st_statements.specs.Parts.{is_long};
+ghost use Rattle.st_script_faults.specs.declared.limits.TheConstants.{MOST_INSTRUCTIONS};
+
+use crate::environment::environment_of;
+use crate::fault::ScriptFault;
+use crate::limits::{MOST_INSTRUCTIONS, MOST_PROCESSES, MOST_THREADS, MOST_TREE_ROWS};
+use crate::names::{NameIndex, NamesAbove, directory_of, store_count};
+use st_base::Text;
+use st_filter::{Action, Filter, Reply};
+use st_law::Options;
+use st_lex::unquote;
+use st_model::{LONGEST_FILE, LONGEST_TEXT};
+use st_policy::{Env, PolicyFault, read_filter};
+use st_statements::parts::{is_long, is_normal};
+use st_statements::{FilterText, ScriptLine, Statement};
+use st_trace::NewKind;
+use std::alloc::{AllocError, Global};
+use std::marker::Model;
+
+/// What each row is read with, wherever it stands.
+#[derive(Drop)]
+pub struct Whole<'a> {
+    /// Whether a lexical fault cuts the script off.
+    pub is_cut: bool,
+    pub threads: NameIndex<'a>,
+    /// The threads that start in a process.
+    pub started: NameIndex<'a>,
+    pub env: Env,
+}
+
+impl<'a> Model for Whole<'a> {
+    ghost use Rattle.st_script_faults.specs.Faults.{Whole};
+
+    ghost Value = { Whole };
+
+    ghost view = { λ w. record { is_cut = w.is_cut; threads = w.threads; started = w.started; env = w.env } };
+}
+
+// A filter that doesn't ask.
+fn unless_ask(filter: Filter) -> Option<Filter>
+    ensures { result ≡ answer_of (Ok filter) }
+{
+    match filter.action() {
+        Action::Permit => Some(filter),
+        Action::Deny(_) => Some(filter),
+        Action::Ask => None,
+    }
+}
+
+// The filter of a reply, where it is read and doesn't ask.
+fn answer_of(alloc: Global, text: &FilterText, env: &Env) -> Result<Option<Filter>, AllocError>
+    ensures { IfOk result (λ found. found ≡ answer_of (filter_in text.now env.now)) }
+{
+    match read_filter(alloc, text.bytes(), env) {
+        Ok(filter) => Ok(unless_ask(filter)),
+        Err(PolicyFault::NoMemory) => Err(AllocError),
+        Err(_) => Ok(None),
+    }
+}
+
+// A reply to questions about this binary.
+fn reply_for(binary: Text, filter: Option<Filter>) -> Option<Reply>
+    ensures { result ≡ reply_for binary filter }
+{
+    if !is_normal(binary.bytes()) {
+        return None;
+    }
+    match filter {
+        Some(filter) => Some(Reply { binary, filter }),
+        None => None,
+    }
+}
+
+/// The reply of a row's quoted binary and filter, if it is one.
+pub fn reply_in(
+    alloc: Global,
+    env: &Env,
+    binary: &Text,
+    filter: &FilterText,
+) -> Result<Option<Reply>, AllocError>
+    ensures { IfOk result (λ found. found ≡ reply_in env.now binary.now filter.now) }
+{
+    let filter = answer_of(alloc, filter, env)?;
+    let binary = unquote(alloc, binary.bytes(), &env.dollars)?;
+    Ok(reply_for(binary, filter))
+}
+
+fn is_end(says: &Option<Statement>) -> bool
+    ensures { result ≡ is_end says.now }
+{
+    matches!(says, Some(Statement::End))
+}
+
+/// Whether a line ends the body of a thread.
+pub fn ends_body(line: &ScriptLine) -> bool
+    ensures { result ≡ ends_body line.now }
+{
+    is_end(&line.says)
+}
+
+// Whether a line below ends a body.
+fn is_closed(below: &[ScriptLine]) -> bool
+    ensures { result ≡ list_any ends_body below.now }
+{
+    for line in below {
+        if ends_body(line) {
+            return true;
+        }
+    }
+    false
+}
+
+// A thread that no `end` follows, unless the script is cut off, and a reply that is none. Only the body of a thread is gone through.
+fn is_expected(
+    alloc: Global,
+    whole: &Whole,
+    below: &[ScriptLine],
+    statement: &Statement,
+) -> Result<bool, AllocError>
+    ensures { IfOk result (λ is. is ≡ is_expected whole.now below.now statement.now) }
+{
+    match statement {
+        Statement::Thread { .. } => Ok(!whole.is_cut && !is_closed(below)),
+        Statement::Reply { binary, filter } => {
+            let reply = reply_in(alloc, &whole.env, binary, filter)?;
+            Ok(reply.is_none())
+        }
+        _ => Ok(false),
+    }
+}
+
+// An object that stands in no directory, a thread in no process, and a fork of no thread.
+fn is_unknown(whole: &Whole, above: &NamesAbove, statement: &Statement) -> bool
+    ensures { result ≡ is_unknown whole.now above.now statement.now }
+{
+    match statement {
+        Statement::Object { path, .. } => !above.is_directory(directory_of(path.bytes())),
+        Statement::Thread {
+            process: Some(process),
+            ..
+        } => !above.processes.has(process.bytes()),
+        Statement::Fork(name) => !whole.is_cut && !whole.threads.has(name.bytes()),
+        _ => false,
+    }
+}
+
+// Whether a thread starts in a process, or by a fork above.
+fn is_started(whole: &Whole, above: &NamesAbove, name: &Text) -> bool
+    ensures { result ≡ is_started whole.now above.now name.now }
+{
+    whole.started.has(name.bytes()) || above.forked.has(name.bytes())
+}
+
+// A name again, and a fork of a thread that is started already.
+fn is_duplicate(whole: &Whole, above: &NamesAbove, statement: &Statement) -> bool
+    ensures { result ≡ is_duplicate whole.now above.now statement.now }
+{
+    match statement {
+        Statement::User(user) => above.users.has(user.name.bytes()),
+        Statement::Group(group) => above.groups.has(group.name.bytes()),
+        Statement::Object { path, .. } => above.paths.has(path.bytes()),
+        Statement::Process(process) => above.processes.has(process.name.bytes()),
+        Statement::Thread { name, .. } => above.threads.has(name.bytes()),
+        Statement::Fork(name) => is_started(whole, above, name),
+        _ => false,
+    }
+}
+
+// A content or a target of too many bytes.
+fn is_large(kind: &NewKind) -> bool
+    ensures { result ≡ is_large kind.now }
+{
+    match kind {
+        NewKind::Dir => false,
+        NewKind::File(content) => content.len() as u64 > LONGEST_FILE,
+        NewKind::Link(target) => target.len() > LONGEST_TEXT,
+    }
+}
+
+// Whether so many instructions more are too many.
+fn exceeds(above: &NamesAbove, count: u64) -> bool
+    requires few { above.now.instructions ≤ MOST_INSTRUCTIONS }
+    requires small { count ≤ 2 ^ 60 }
+    ensures { result ≡ exceeds above.now count }
+{
+    above.instructions + count > MOST_INSTRUCTIONS
+}
+
+// Whether the binary of a reply is too long.
+fn is_long_binary(alloc: Global, env: &Env, binary: &Text) -> Result<bool, AllocError>
+    ensures { IfOk result (λ is. is ≡ is_long (unquoted env.now.dollars binary.now)) }
+{
+    let binary = unquote(alloc, binary.bytes(), &env.dollars)?;
+    Ok(is_long(binary.bytes()))
+}
+
+// Too many rows or instructions, or too many bytes.
+fn is_too_many(
+    alloc: Global,
+    whole: &Whole,
+    above: &NamesAbove,
+    statement: &Statement,
+) -> Result<bool, AllocError>
+    requires { above.now.instructions ≤ MOST_INSTRUCTIONS }
+    ensures { IfOk result (λ is. is ≡ is_too_many whole.now above.now statement.now) }
+{
+    Ok(match statement {
+        Statement::Object { path, new } => {
+            above.paths.len() >= MOST_TREE_ROWS || is_long(path.bytes()) || is_large(&new.kind)
+        }
+        Statement::Process(process) => {
+            above.processes.len() >= MOST_PROCESSES
+                || is_long(process.binary.bytes())
+                || is_long(process.cwd.bytes())
+        }
+        Statement::Thread { .. } => above.threads.len() >= MOST_THREADS,
+        Statement::Reply { binary, .. } => is_long_binary(alloc, &whole.env, binary)?,
+        Statement::Store(_, _) => exceeds(above, 1),
+        Statement::Put(_, bytes) => exceeds(above, store_count(bytes.bytes())),
+        Statement::Call(_, _) => exceeds(above, 1),
+        Statement::Fork(_) => exceeds(above, 1),
+        _ => false,
+    })
+}
+
+// What is wrong with a row: the first kind that is met.
+fn fault_of(
+    alloc: Global,
+    whole: &Whole,
+    above: &NamesAbove,
+    below: &[ScriptLine],
+    line: u32,
+    statement: &Statement,
+) -> Result<Option<ScriptFault>, AllocError>
+    requires { above.now.instructions ≤ MOST_INSTRUCTIONS }
+    ensures { IfOk result (λ fault. fault ≡ fault_of whole.now above.now below.now line statement.now) }
+{
+    if is_expected(alloc, whole, below, statement)? {
+        return Ok(Some(ScriptFault::Expected(line)));
+    }
+    if is_unknown(whole, above, statement) {
+        return Ok(Some(ScriptFault::UnknownName(line)));
+    }
+    if is_duplicate(whole, above, statement) {
+        return Ok(Some(ScriptFault::Duplicate(line)));
+    }
+    if is_too_many(alloc, whole, above, statement)? {
+        return Ok(Some(ScriptFault::TooMany(line)));
+    }
+    Ok(None)
+}
+
+// The fault of a line, or nothing, and then what it gives is added to what stands above.
+fn take_line<'a>(
+    alloc: Global,
+    whole: &Whole,
+    above: &mut NamesAbove<'a>,
+    below: &[ScriptLine],
+    line: &'a ScriptLine,
+) -> Result<Option<ScriptFault>, AllocError>
+    requires { above.old.instructions ≤ MOST_INSTRUCTIONS }
+    ensures fault { IfOk result (λ fault. fault ≡ line_fault whole.now above.old below.now line.now) }
+    ensures names { IfOk result (λ fault. fault ≡ None → above.new ≡ with_says above.old line.now.says) }
+    ensures few { IfOk result (λ fault. fault ≡ None → above.new.instructions ≤ MOST_INSTRUCTIONS) }
+{
+    let Some(statement) = &line.says else {
+        return Ok(Some(ScriptFault::Expected(line.number)));
+    };
+    let fault = fault_of(alloc, whole, above, below, line.number, statement)?;
+    if fault.is_none() {
+        above.add(statement)?;
+    }
+    Ok(fault)
+}
+
+/// The fault of the first line that has one.
+pub fn first_fault(
+    alloc: Global,
+    whole: &Whole,
+    lines: &[ScriptLine],
+) -> Result<Option<ScriptFault>, AllocError>
+    ensures { IfOk result (λ fault. fault ≡ first_fault whole.now no_names lines.now) }
+{
+    let mut above = NamesAbove::new(alloc);
+    let mut rest = lines;
+    while let Some((line, below)) = rest.split_first() {
+        let fault = take_line(alloc, whole, &mut above, below, line)?;
+        if fault.is_some() {
+            return Ok(fault);
+        }
+        rest = below;
+    }
+    Ok(None)
+}
+
+fn add_thread<'a>(names: &mut NameIndex<'a>, says: &'a Option<Statement>) -> Result<(), AllocError>
+    ensures { OnOk result (names.new ≡ with_thread names.old says.now) }
+{
+    match says {
+        Some(Statement::Thread { name, .. }) => names.add(name.bytes()),
+        _ => Ok(()),
+    }
+}
+
+/// The threads of lines, in order.
+pub fn threads_of<'a>(alloc: Global, lines: &'a [ScriptLine]) -> Result<NameIndex<'a>, AllocError>
+    ensures { IfOk result (λ names. names ≡ threads_behind [] lines.now) }
+{
+    let mut names = NameIndex::new(alloc);
+    for line in lines {
+        add_thread(&mut names, &line.says)?;
+    }
+    Ok(names)
+}
+
+fn add_started<'a>(names: &mut NameIndex<'a>, says: &'a Option<Statement>) -> Result<(), AllocError>
+    ensures { OnOk result (names.new ≡ with_started names.old says.now) }
+{
+    match says {
+        Some(
+            Statement::Thread {
+                name,
+                process: Some(_),
+            },
+        ) => names.add(name.bytes()),
+        _ => Ok(()),
+    }
+}
+
+// The threads of lines that start in a process, in order.
+fn started_of<'a>(alloc: Global, lines: &'a [ScriptLine]) -> Result<NameIndex<'a>, AllocError>
+    ensures { IfOk result (λ names. names ≡ started_behind [] lines.now) }
+{
+    let mut names = NameIndex::new(alloc);
+    for line in lines {
+        add_started(&mut names, &line.says)?;
+    }
+    Ok(names)
+}
+
+/// What the rows of a script are read with.
+pub fn whole_of<'a>(
+    alloc: Global,
+    is_cut: bool,
+    options: &Options,
+    lines: &'a [ScriptLine],
+) -> Result<Whole<'a>, AllocError>
+    ensures { IfOk result (λ whole. whole ≡ whole_of is_cut options.now lines.now) }
+{
+    Ok(Whole {
+        is_cut,
+        threads: threads_of(alloc, lines)?,
+        started: started_of(alloc, lines)?,
+        env: environment_of(alloc, options, lines)?,
+    })
+}
+
+/// The fault of lines is that of one of them, and no line above it has one, by what stands above and below it.
+pub fn the_fault_is_the_first()
+    ensures { (whole : spec.Whole) (lines : List ScriptLine) (fault : ScriptFault) → first_fault whole no_names lines ≡ Some fault → IsFirstFault whole no_names lines fault }
+{}
