@@ -1,2 +1,6 @@
 mod Counted
 mod PutTexts
+mod Said
+mod Slashes
+mod Standing
+mod Startable

@@ -1,6 +1,9 @@
-ghost use Rattle.std.specs.Prelude.{◌≡◌, ◌≢◌, ◌^◌, ◌<◌, None, Ok, Err, length, IfOk, IfErr};
+ghost use Rattle.std.specs.Prelude.{◌≡◌, ◌≢◌, ◌^◌, ◌<◌, ℕ, List, None, Ok, Err, length, IfOk, IfErr};
 ghost use Rattle.std.specs.List.{filter_map};
+ghost use Rattle.st_law.specs.declared.input.Options.{Options};
 ghost use Rattle.st_whole_script.specs.Bounds.{IsWithinBounds};
+ghost use Rattle.st_whole_script.specs.Startable.{CanStart};
+ghost use Rattle.st_whole_script.specs.declared.reading.ReadScript.{ReadScript};
 ghost use Rattle.st_script_faults.specs.Faults.{first_fault};
 ghost use Rattle.st_script_faults.specs.Names.{no_names};
 ghost use Rattle.st_whole_script.specs.Reading.{user_said, group_said, object_name, object_said, started_process, process_said, reply_said, start_of, script_with, read_lines, script_in};
@@ -257,8 +260,14 @@ pub fn read_script(alloc: Global, text: &[u8], options: &Options) -> Result<Read
     ensures ok { IfOk result (λ script. script_in text.now options.now ≡ Ok script) }
     ensures fault { IfErr result (λ f. f ≢ ScriptFault.NoMemory → script_in text.now options.now ≡ Err f) }
     ensures bounds { IfOk result IsWithinBounds }
+    ensures can_start { IfOk result CanStart }
 {
     let lexed = tokens(alloc, text)?;
     let lines = lines_of_tokens(alloc, text, looked_at(&lexed))?;
     read_lines(alloc, options, lexed.fault, lines.as_slice())
 }
+
+/// A run can start with what is read, under any policies and with one to eight workers.
+pub fn what_is_read_can_start()
+    ensures { (text : List ℕ) (options : Options) (script : ReadScript) → script_in text options ≡ Ok script → CanStart script }
+{}

@@ -1,0 +1,172 @@
+-- What the lines of a script say: names in normal form, and no call that forks.
+use Rattle.std.proofs.Common.{◌≡◌, ◌≢◌, ℕ, Bool, true, false, if◌then◌else◌, List, [], ◌∷◌, codes, Option, Some, None, refl}
+use Rattle.std.specs.List.{AllByRecursion}
+use Rattle.std.specs.Prelude.{IfSome, option_map, option_and_then}
+use Rattle.st_calls.specs.Call.{call_named}
+use Rattle.st_calls.specs.declared.call.SysCall.{SysCall}
+use Rattle.st_calls.specs.declared.call.SysCall.TheVariants as calls
+use Rattle.st_lex.specs.Text.{is_keyword, is_word, text_of_token}
+use Rattle.st_lex.specs.declared.token.Token.{Token}
+use Rattle.st_model.specs.declared.object.NewKind.TheVariants as kind
+use Rattle.st_model.specs.declared.object.NewNode.{NewNode}
+use Rattle.st_statements.specs.Accounts.{user_row, group_row}
+use Rattle.st_statements.specs.Instructions.{call_at, call_row, end_row, fork_row, put_at, put_place, put_row, registers, store_row, unless_fork, word_place_at}
+use Rattle.st_statements.specs.Objects.{dir_row, file_node, file_row, link_at, link_row, node_of, object_of}
+use Rattle.st_statements.specs.Parts.{if_normal, is_normal, path_at, place_at, quoted_at, unless_root, word_at}
+use Rattle.st_statements.specs.Statements.{inner_row, is_inside_behind, lines_from, outer_row, statement_of}
+use Rattle.st_statements.specs.Tasks.{process_row, reply_row, thread_row, traced_at}
+use Rattle.st_statements.specs.Values.{id_at, mode_at, number_at}
+use Rattle.st_statements.specs.declared.objects.TheConstants.{LINK_MODE}
+use Rattle.st_statements.specs.declared.statement.ScriptLine.{ScriptLine}
+use Rattle.st_statements.specs.declared.statement.Statement.{Statement}
+use Rattle.st_statements.specs.declared.statement.Statement.TheVariants as says
+
+-- the paths of a statement are in normal form, and its call isn't fork
+abbrev pub IsSaid : Statement → Type 0
+IsSaid (says.Object path new) = is_normal path ≡ true
+IsSaid (says.Process process) = is_normal process.cwd ≡ true
+IsSaid (says.Call call regs) = call ≢ calls.Fork
+IsSaid _ = Unit {0}
+
+-- the same, where a row says something
+abbrev pub AreSaid : List ScriptLine → Type 0
+AreSaid lines = AllByRecursion (λ line. IfSome line.says IsSaid) lines
+
+-- ---- what holds of an option
+
+if_map : {A B : Type 0} (Q : A → Type 0) (P : B → Type 0) (f : A → B) (o : Option A) → IfSome o Q → ((a : A) → Q a → P (f a)) → IfSome (option_map f o) P
+if_map Q P f None here all = tt
+if_map Q P f (Some a) here all = all a here
+
+if_then : {A B : Type 0} (Q : A → Type 0) (P : B → Type 0) (f : A → Option B) (o : Option A) → IfSome o Q → ((a : A) → Q a → IfSome (f a) P) → IfSome (option_and_then f o) P
+if_then Q P f None here all = tt
+if_then Q P f (Some a) here all = all a here
+
+then_any : {A B : Type 0} (P : B → Type 0) (f : A → Option B) (o : Option A) → ((a : A) → IfSome (f a) P) → IfSome (option_and_then f o) P
+then_any P f None all = tt
+then_any P f (Some a) all = all a
+
+map_any : {A B : Type 0} (P : B → Type 0) (f : A → B) (o : Option A) → ((a : A) → P (f a)) → IfSome (option_map f o) P
+map_any P f None all = tt
+map_any P f (Some a) all = all a
+
+if_either : {B : Type 0} (P : B → Type 0) (b : Bool) (o p : Option B) → IfSome o P → IfSome p P → IfSome (if b then o else p) P
+if_either P true o p this other = this
+if_either P false o p this other = other
+
+-- ---- names
+
+abbrev IsNormal : List ℕ → Type 0
+IsNormal name = is_normal name ≡ true
+
+normal_by : (name : List ℕ) (b : Bool) → is_normal name ≡ b → IfSome (if b then Some name else None) IsNormal
+normal_by name true is = is
+normal_by name false is = tt
+
+normal_path : (text : List ℕ) (token : Token) → IfSome (path_at text token) IsNormal
+normal_path text token = then_any IsNormal if_normal (quoted_at text token) (λ name. normal_by name (is_normal name) refl)
+
+below_root : (name : List ℕ) (b : Bool) → IsNormal name → IfSome (if b then Some name else None) IsNormal
+below_root name true is = is
+below_root name false is = tt
+
+normal_place : (text : List ℕ) (token : Token) → IfSome (place_at text token) IsNormal
+normal_place text token = if_then IsNormal IsNormal unless_root (path_at text token) (normal_path text token) (λ name is. below_root name _ is)
+
+-- ---- rows
+
+not_fork : (call : SysCall) → IfSome (unless_fork call) (λ c. c ≢ calls.Fork)
+not_fork calls.Fork = tt
+not_fork call = λ e. cc
+
+object_said : (path : Option (List ℕ)) (new : Option NewNode) → IfSome path IsNormal → IfSome (object_of path new) IsSaid
+object_said path new is = if_then IsNormal IsSaid (λ p. option_map (says.Object p) new) path is (λ p normal. map_any IsSaid (says.Object p) new (λ n. normal))
+
+dir_said : (text : List ℕ) (row : List Token) → IfSome (dir_row text row) IsSaid
+dir_said text (path ∷ uid ∷ gid ∷ mode ∷ []) = object_said (place_at text path) (node_of (Some kind.Dir) (id_at text uid) (id_at text gid) (mode_at text mode)) (normal_place text path)
+dir_said text _ = tt
+
+file_said : (text : List ℕ) (row : List Token) → IfSome (file_row text row) IsSaid
+file_said text (path ∷ uid ∷ gid ∷ mode ∷ content ∷ []) = object_said (place_at text path) (file_node text uid gid mode content) (normal_place text path)
+file_said text _ = tt
+
+link_said : (text : List ℕ) (row : List Token) → IfSome (link_row text row) IsSaid
+link_said text (path ∷ uid ∷ gid ∷ target ∷ []) = object_said (place_at text path) (node_of (link_at text target) (id_at text uid) (id_at text gid) (Some LINK_MODE)) (normal_place text path)
+link_said text _ = tt
+
+process_said : (text : List ℕ) (row : List Token) → IfSome (process_row text row) IsSaid
+process_said text (name ∷ traced ∷ binary ∷ uid ∷ gid ∷ cwd ∷ []) =
+    then_any IsSaid _ (word_at text name) (λ n. then_any IsSaid _ (traced_at text traced) (λ t. then_any IsSaid _ (id_at text uid) (λ u. then_any IsSaid _ (id_at text gid) (λ g.
+    then_any IsSaid _ (path_at text binary) (λ b. if_map IsNormal IsSaid (λ c. says.Process (record { name = n; traced = t; binary = b; uid = u; gid = g; cwd = c })) (path_at text cwd) (normal_path text cwd) (λ c is. is))))))
+process_said text _ = tt
+
+user_said : (text : List ℕ) (row : List Token) → IfSome (user_row text row) IsSaid
+user_said text (name ∷ uid ∷ gid ∷ home ∷ []) =
+    then_any IsSaid _ (word_at text name) (λ n. then_any IsSaid _ (id_at text uid) (λ u. then_any IsSaid _ (id_at text gid) (λ g. map_any IsSaid (λ h. says.User (record { name = n; uid = u; gid = g; home = h })) (quoted_at text home) (λ h. tt))))
+user_said text _ = tt
+
+group_said : (text : List ℕ) (row : List Token) → IfSome (group_row text row) IsSaid
+group_said text (name ∷ gid ∷ []) = then_any IsSaid _ (word_at text name) (λ n. map_any IsSaid (λ g. says.Group (record { name = n; gid = g })) (id_at text gid) (λ g. tt))
+group_said text _ = tt
+
+thread_said : (text : List ℕ) (row : List Token) → IfSome (thread_row text row) IsSaid
+thread_said text (name ∷ []) = map_any IsSaid (λ n. says.Thread n None) (word_at text name) (λ n. tt)
+thread_said text (name ∷ within ∷ process ∷ []) =
+    if_either IsSaid (is_keyword text (codes "in") within) _ None (then_any IsSaid _ (word_at text name) (λ n. map_any IsSaid (λ p. says.Thread n (Some p)) (word_at text process) (λ p. tt))) tt
+thread_said text _ = tt
+
+reply_said : (text : List ℕ) (row : List Token) → IfSome (reply_row text row) IsSaid
+reply_said text [] = tt
+reply_said text (binary ∷ filter) = if_either IsSaid _ (Some (says.Reply _ _)) None tt tt
+
+store_said : (text : List ℕ) (row : List Token) → IfSome (store_row text row) IsSaid
+store_said text (place ∷ word ∷ []) = then_any IsSaid (λ p. option_map (says.Store p) (number_at text word)) (word_place_at text place) (λ p. map_any IsSaid (says.Store p) (number_at text word) (λ w. tt))
+store_said text _ = tt
+
+put_said : (text : List ℕ) (row : List Token) → IfSome (put_row text row) IsSaid
+put_said text (at ∷ quoted ∷ []) = then_any IsSaid _ (quoted_at text quoted) (λ bytes. then_any IsSaid (put_at bytes) (number_at text at) (λ n. map_any IsSaid (λ p. says.Put p bytes) (put_place bytes n) (λ p. tt)))
+put_said text _ = tt
+
+call_said : (text : List ℕ) (row : List Token) → IfSome (call_row text row) IsSaid
+call_said text [] = tt
+call_said text (name ∷ numbers) =
+    if_then (λ c. c ≢ calls.Fork) IsSaid _ (call_at text name)
+    (if_either (λ c. c ≢ calls.Fork) (is_word name.kind) (option_and_then unless_fork (call_named (text_of_token text name))) None (then_any (λ c. c ≢ calls.Fork) unless_fork (call_named (text_of_token text name)) not_fork) tt)
+    (λ call other. map_any IsSaid (says.Call call) (registers text numbers) (λ regs. other))
+
+fork_said : (text : List ℕ) (row : List Token) → IfSome (fork_row text row) IsSaid
+fork_said text (name ∷ []) = map_any IsSaid says.Fork (word_at text name) (λ n. tt)
+fork_said text _ = tt
+
+end_said : (row : List Token) → IfSome (end_row row) IsSaid
+end_said [] = tt
+end_said (token ∷ tokens) = tt
+
+outer_said : (text : List ℕ) (keyword : Token) (row : List Token) → IfSome (outer_row text keyword row) IsSaid
+outer_said text keyword row =
+    if_either IsSaid (is_keyword text (codes "user") keyword) _ _ (user_said text row)
+    (if_either IsSaid (is_keyword text (codes "group") keyword) _ _ (group_said text row)
+    (if_either IsSaid (is_keyword text (codes "dir") keyword) _ _ (dir_said text row)
+    (if_either IsSaid (is_keyword text (codes "file") keyword) _ _ (file_said text row)
+    (if_either IsSaid (is_keyword text (codes "link") keyword) _ _ (link_said text row)
+    (if_either IsSaid (is_keyword text (codes "process") keyword) _ _ (process_said text row)
+    (if_either IsSaid (is_keyword text (codes "thread") keyword) _ _ (thread_said text row)
+    (if_either IsSaid (is_keyword text (codes "reply") keyword) _ None (reply_said text row) tt)))))))
+
+inner_said : (text : List ℕ) (keyword : Token) (row : List Token) → IfSome (inner_row text keyword row) IsSaid
+inner_said text keyword row =
+    if_either IsSaid (is_keyword text (codes "store") keyword) _ _ (store_said text row)
+    (if_either IsSaid (is_keyword text (codes "put") keyword) _ _ (put_said text row)
+    (if_either IsSaid (is_keyword text (codes "call") keyword) _ _ (call_said text row)
+    (if_either IsSaid (is_keyword text (codes "fork") keyword) _ _ (fork_said text row)
+    (if_either IsSaid (is_keyword text (codes "end") keyword) _ None (end_said row) tt))))
+
+row_said : (text : List ℕ) (inside : Bool) (row : List Token) → IfSome (statement_of text inside row) IsSaid
+row_said text inside [] = tt
+row_said text true (keyword ∷ row) = inner_said text keyword row
+row_said text false (keyword ∷ row) = outer_said text keyword row
+
+-- each line of a script says such a statement, or nothing
+pub lines_said : (text : List ℕ) (inside : Bool) (rows : List (List Token)) → AreSaid (lines_from text inside rows)
+lines_said text inside [] = tt
+lines_said text inside (row ∷ rows) = (row_said text inside row, lines_said text (is_inside_behind inside (statement_of text inside row)) rows)
