@@ -19,7 +19,7 @@ abbrev pub step_entry : Input → State → ℕ → Step → Option Entry
 step_entry i st t Wait = None
 step_entry i st t End = Some (Ended t)
 step_entry i st t (Store place word) = Some (Stored t place word)
-step_entry i st t (Enter call regs child) = entered_entry i st t call regs
+step_entry i st t (Enter call regs) = entered_entry i st t call regs
 step_entry i st t (Make made) = Some (use_entry i st t made)
 step_entry i st t (Fail call regs ids errno) = Some (failed_entry t call regs ids errno)
 step_entry i st t (Deny seq errno cause) = Some (Denied t seq errno cause)

@@ -1,10 +1,11 @@
 -- What is kept of a thread beside its process, which the system knows.
 use Rattle.std.specs.Prelude.{◌≡◌, ℕ, Bool, false, List, drop, Option, Some, None}
+use Rattle.st_calls.specs.declared.call.SysCall.{SysCall}
 use Rattle.st_trace.specs.declared.entry.Way.{Way}
 use Rattle.st_trace.specs.declared.entry.Way.TheVariants.{Fast, Barred, Held, Untraced}
 use Rattle.st_trace.specs.declared.start.Instr.{Instr}
 use Rattle.st_law.specs.State.{ThreadState}
-use Rattle.st_law.specs.Threads.{PendingCall}
+use Rattle.st_law.specs.Threads.{PendingCall, child_of_next}
 
 -- how far a thread has come
 pub record ThreadRow : Type 0 where
@@ -27,9 +28,15 @@ number_of_way Fast before = before
 number_of_way (Barred n) before = before
 number_of_way Untraced before = before
 
--- a thread that has entered a call
-abbrev pub row_entered : ThreadRow → PendingCall → ThreadRow
-row_entered row entered = record { left = drop 1 row.left; pending = Some entered; number = number_of_way entered.way row.number; dying = row.dying; ended = row.ended }
+-- a thread that enters the call of its next instruction this way
+abbrev pub row_entered : ThreadRow → SysCall → List ℕ → Way → ThreadRow
+row_entered row call regs way = record {
+  left = drop 1 row.left;
+  pending = Some (record { call = call; regs = regs; way = way; child = child_of_next row.left });
+  number = number_of_way way row.number;
+  dying = row.dying;
+  ended = row.ended;
+}
 
 -- a row is what the law's machine keeps of a thread
 pub record IsRow (row : ThreadRow) (thread : ThreadState) : Type 0 where

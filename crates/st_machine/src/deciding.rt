@@ -1,6 +1,5 @@
 // What a thread does next, as the law's machine has it.
-ghost use Rattle.std.specs.Prelude.{◌≡◌, ◌<◌, false, true, IfSome, IfOk, IsNone, None, Some};
-ghost use Rattle.st_law.specs.declared.input.Input.{Input};
+ghost use Rattle.std.specs.Prelude.{◌≡◌, IfOk, Some};
 ghost use Rattle.st_machine.specs.NextSteps.{HasEntered, IsAnswerOf, IsBarredStep, IsDecidedStep, IsHeldStep, IsPendingStep, IsPermittedStep, IsUnheldStep};
 ghost use Rattle.st_machine.specs.Machine.{IsNext};
 ghost use Rattle.st_messages.specs.Messages.{state_at};
@@ -74,7 +73,7 @@ impl<'a> Machine<'a> {
     }
 
     // The kernel's own answer for a call of a process.
-    pub(crate) fn answer(&self, pid: Pid, call: SysCall, regs: &[u64; 6]) -> FastAnswer
+    fn answer(&self, pid: Pid, call: SysCall, regs: &[u64; 6]) -> FastAnswer
         requires { IsPid self.now.system.processes pid }
         ensures { IsAnswerOf self.now pid call regs.now result }
     {

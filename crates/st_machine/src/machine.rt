@@ -1,6 +1,5 @@
-ghost use Rattle.std.specs.Prelude.{◌≡◌, ◌<◌, ◌-◌, ℕ, IfSome, IfOk, Option, None, Some, map};
+ghost use Rattle.std.specs.Prelude.{◌≡◌, IfSome, IfOk, None, Some, map};
 ghost use Rattle.st_base.specs.Numbered.{item_at_number};
-ghost use Rattle.st_filter.specs.Policies.{policy_of};
 ghost use Rattle.st_law.specs.Inputs.{IsStartable};
 ghost use Rattle.st_law.specs.Machine.{first_state};
 ghost use Rattle.st_law.specs.declared.input.Mode.TheVariants.{Enforce};

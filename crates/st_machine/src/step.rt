@@ -4,7 +4,7 @@ ghost use Rattle.st_law.specs.Machine.{next_instruction_entry};
 ghost use Rattle.st_law.specs.State.{State};
 ghost use Rattle.st_machine.specs.Step.{step_entry};
 
-use st_base::{Errno, Ids, Seq, Sequence, Tid};
+use st_base::{Errno, Ids, Seq, Sequence};
 use st_calls::{ArgText, SysCall};
 use st_trace::{Cause, Instr};
 
@@ -20,11 +20,10 @@ pub enum Step {
         place: u32,
         word: u64,
     },
-    /// It enters a call; the child is the thread that a fork of its body starts, else 0.
+    /// It enters a call.
     Enter {
         call: SysCall,
         regs: [u64; 6],
-        child: Tid,
     },
     /// Its call is made.
     Make(Use),
@@ -67,12 +66,10 @@ impl Step {
             [Instr::Call(call, regs), ..] => Step::Enter {
                 call: *call,
                 regs: *regs,
-                child: 0,
             },
-            [Instr::Fork(child), ..] => Step::Enter {
+            [Instr::Fork(_), ..] => Step::Enter {
                 call: SysCall::Fork,
                 regs: [0; 6],
-                child: *child,
             },
         }
     }

@@ -1,4 +1,5 @@
 ghost use Rattle.std.specs.Prelude.{◌≡◌, drop, true, None};
+ghost use Rattle.st_law.specs.Threads.{child_of_next};
 ghost use Rattle.st_machine.specs.Thread.{first_row, row_entered};
 
 use st_base::{Seq, Tid};
@@ -51,6 +52,16 @@ fn rest_of<'a>(body: &'a [Instr]) -> &'a [Instr]
     match body {
         [_, rest @ ..] => rest,
         [] => body,
+    }
+}
+
+// The thread that the first instruction starts; 0 where it is no fork.
+fn child_of(body: &[Instr]) -> Tid
+    ensures { result ≡ child_of_next body.now }
+{
+    match body {
+        [Instr::Fork(child), ..] => *child,
+        _ => 0,
     }
 }
 
@@ -110,14 +121,19 @@ impl<'a> Thread<'a> {
         self.left = rest_of(self.left);
     }
 
-    /// Enters a call, and goes on behind its instruction. A held call has the number of its message.
-    pub fn enter(&mut self, entered: PendingCall)
-        ensures { self.new ≡ row_entered self.old entered }
+    /// Enters the call of its next instruction, and goes on behind that. A held call has the number of its message.
+    pub fn enter(&mut self, call: SysCall, regs: [u64; 6], way: Way)
+        ensures { self.new ≡ row_entered self.old call regs way }
     {
-        if let Way::Held(seq) = entered.way {
+        if let Way::Held(seq) = way {
             self.number = seq;
         }
-        self.pending = Some(entered);
+        self.pending = Some(PendingCall {
+            call,
+            regs,
+            way,
+            child: child_of(self.left),
+        });
         self.left = rest_of(self.left);
     }
 
