@@ -10,15 +10,19 @@ use Rattle.st_law.specs.Lawful.{IsLawful, IsLawfulBack}
 use Rattle.st_law.specs.Machine.{first_state, state_after, state_at, entry_of, history, state_of_run}
 use Rattle.st_law.specs.State.{State, is_live}
 use Rattle.st_law.specs.Threads.{History}
+use Rattle.st_law.proofs.HeldCalls.{IsHolder}
+use Rattle.st_law.proofs.Invariant.{IsOpen}
 use Rattle.st_law.proofs.Laws.{lawful_history}
+use Rattle.st_law.proofs.RenewalKept.{open_of}
 use Rattle.st_law.proofs.Steps.{Says}
 use Rattle.st_law.proofs.ThreadSteps.{thread_step}
 use Rattle.st_law.proofs.Ties.{state-is}
 use Rattle.st_law.proofs.Whole.{Whole, whole_behind, whole_of}
 use Rattle.st_law.proofs.WorkerSteps.{worker_step, operator_step}
-use Rattle.st_reached.specs.Reached.{Owned, life_after}
+use Rattle.st_reached.specs.Reached.{AllHeldLive, Owned, life_after}
 use Rattle.st_reached.proofs.Life.{life_behind}
 use Rattle.st_reached.proofs.OwnedKept.{owned_first, owned_behind}
+use Rattle.st_reached.proofs.Owning.{held_lives}
 
 -- all that holds of the state behind a lawful history, and that each live number is its thread's own
 pub record Reached (i : Input) (st : State) : Type 0 where
@@ -49,6 +53,15 @@ module _ (i : Input) (st : State) (reached : Reached i st) where
   -- which numbers live behind it
   pub life_more : (c : Choice) (e : Entry) → entry_of i st c ≡ Some e → (other : ℕ) → is_live (state_after i st e) other ≡ life_after st e other
   life_more c e is other = life_behind i st reached.whole.calls reached.owned other e (lawful_entry c e is)
+
+  -- the number of a held call lives, and its message is that of the thread
+  pub held_live : AllHeldLive st
+  held_live = record {
+    held = λ t entered first pending way undying.
+        let holder : IsHolder st t = record { entered = entered; pending = pending; first = first; way = way; undying = undying } in
+        let is_open : IsOpen st t entered.call entered.regs = open_of i st reached.whole.calls t holder in
+        record { live = held_lives i st reached.whole.calls t holder; head = is_open.head; posted = is_open.posted; own = is_open.own.tid_is };
+  }
 
 -- ---- every run
 

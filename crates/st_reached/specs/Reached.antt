@@ -1,5 +1,6 @@
--- What holds of every state that a run reaches: which thread a live number is of, and which numbers live behind each entry.
-use Rattle.std.specs.Prelude.{◌≡◌, ◌≢◌, ℕ, Bool, true, false, ◌==◌, if◌then◌else◌, List, Option, Some, None}
+-- What holds of every state that a run reaches: which thread a live number is of, that a held call has one, which numbers live behind each
+-- entry, and how many are drawn at most.
+use Rattle.std.specs.Prelude.{◌≡◌, ◌≢◌, ℕ, ◌+◌, ◌*◌, Bool, true, false, ◌==◌, if◌then◌else◌, List, Option, Some, None}
 use Rattle.std.specs.List.{fold}
 use Rattle.st_model.specs.Tree.{is_number}
 use Rattle.st_trace.specs.declared.entry.Change.{Change}
@@ -7,7 +8,9 @@ use Rattle.st_trace.specs.declared.entry.Change.TheVariants.{Execed, Dying, Rene
 use Rattle.st_trace.specs.declared.entry.Entry.{Entry}
 use Rattle.st_trace.specs.declared.entry.Entry.TheVariants.{Entered, Used, Denied}
 use Rattle.st_trace.specs.declared.entry.Way.TheVariants.{Held}
+use Rattle.st_law.specs.declared.input.Input.{Input}
 use Rattle.st_law.specs.Messages.{Head}
+use Rattle.st_law.specs.Schedules.{instruction_count, set_id_count}
 use Rattle.st_law.specs.State.{State, is_live}
 use Rattle.st_law.specs.Threads.{PendingCall}
 
@@ -26,6 +29,26 @@ pub record IsHolding (st : State) (t q : ℕ) : Type 0 where
 -- each live number is that of its thread's held call
 pub record Owned (st : State) : Type 0 where
   pub own : (q : ℕ) (head : Head) → is_live st q ≡ true → (st.messages q).head ≡ Some head → IsHolding st head.tid q
+
+-- ---- which number a held call has
+
+-- the number of a thread lives, and its message is the thread's own
+pub record HasLiveNumber (st : State) (t : ℕ) : Type 0 where
+  pub live : is_live st (st.threads t).number ≡ true
+  pub head : Head
+  pub posted : (st.messages (st.threads t).number).head ≡ Some head
+  pub own : head.tid ≡ t
+
+-- each call that a thread holds has a live number, unless the thread is dying
+pub record AllHeldLive (st : State) : Type 0 where
+  pub held : (t : ℕ) (entered : PendingCall) (first : ℕ) → (st.threads t).pending ≡ Some entered → entered.way ≡ Held first → (st.threads t).dying ≡ false → HasLiveNumber st t
+
+-- ---- how many numbers are drawn
+
+-- no run draws more: an instruction's call draws one where it is held, and one that sets ids renews the numbers of held calls, of which
+-- there are at most as many as threads, so 64
+abbrev pub most_numbers : Input → ℕ
+most_numbers i = instruction_count i + 64 * set_id_count i
 
 -- ---- which numbers live behind an entry
 

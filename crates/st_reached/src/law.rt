@@ -1,15 +1,26 @@
-ghost use Rattle.std.specs.Prelude.{◌≡◌, ℕ, List, reverse, Some};
+ghost use Rattle.std.specs.Prelude.{◌≡◌, ◌≤◌, ℕ, List, reverse, Some};
 ghost use Rattle.st_trace.specs.declared.entry.Choice.{Choice};
 ghost use Rattle.st_trace.specs.declared.entry.Entry.{Entry};
 ghost use Rattle.st_law.specs.declared.input.Input.{Input};
 ghost use Rattle.st_law.specs.Inputs.{IsStartable};
 ghost use Rattle.st_law.specs.Machine.{entry_of, state_after, state_of_run};
 ghost use Rattle.st_law.specs.State.{is_live};
-ghost use Rattle.st_reached.specs.Reached.{Owned, life_after};
+ghost use Rattle.st_reached.specs.Reached.{AllHeldLive, Owned, life_after, most_numbers};
 
 /// A number that lives is that of its thread's held call, in every state that a run reaches; and which numbers live behind one more
 /// entry is read off the entry.
 pub fn live_numbers_are_their_threads_own()
     ensures own { (input : Input) → IsStartable input → (choices : List Choice) → Owned (state_of_run input choices) }
     ensures life { (input : Input) → IsStartable input → (choices : List Choice) (c : Choice) (e : Entry) → entry_of input (state_of_run input choices) c ≡ Some e → (other : ℕ) → is_live (state_after input (state_of_run input choices) e) other ≡ life_after (state_of_run input choices) e other }
+{}
+
+/// A call that a thread holds has a number that lives, and that is posted as the thread's own, in every state that a run reaches, unless the
+/// thread is dying.
+pub fn a_held_call_has_a_live_number()
+    ensures { (input : Input) → IsStartable input → (choices : List Choice) → AllHeldLive (state_of_run input choices) }
+{}
+
+/// No run draws more than n + 64 x s numbers, for n instructions, s of them calls that set ids: so a script says how far numbers go.
+pub fn few_numbers_are_drawn()
+    ensures { (input : Input) → IsStartable input → (choices : List Choice) → (state_of_run input choices).posted ≤ most_numbers input }
 {}
