@@ -5,3 +5,4 @@ pub mod NumbersDrawn
 pub mod Owning
 pub mod OwnedKept
 pub mod Reached
+pub mod Spending
