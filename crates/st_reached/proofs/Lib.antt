@@ -1,8 +1,10 @@
 pub mod Drawn
 pub mod Life
 pub mod LifeByEntry
+pub mod Made
 pub mod NumbersDrawn
 pub mod Owning
 pub mod OwnedKept
 pub mod Reached
 pub mod Spending
+pub mod Starting

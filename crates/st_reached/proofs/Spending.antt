@@ -38,7 +38,7 @@ use Rattle.st_law.proofs.Whole.{whole_of}
 module _ (worth : Instr → ℕ) (call_worth : PendingCall → ℕ) where
   -- ---- what instructions and pending calls are worth
 
-  abbrev of_pending : Option PendingCall → ℕ
+  abbrev pub of_pending : Option PendingCall → ℕ
   of_pending None = 0
   of_pending (Some entered) = call_worth entered
 

@@ -1,7 +1,8 @@
 -- What holds of every state that a run reaches: which thread a live number is of, that a held call has one, which numbers live behind each
--- entry, and how many are drawn at most.
+-- entry, how many are drawn at most, and that a fork starts a new thread.
 use Rattle.std.specs.Prelude.{◌≡◌, ◌≢◌, ℕ, ◌+◌, ◌*◌, Bool, true, false, ◌==◌, if◌then◌else◌, List, Option, Some, None}
 use Rattle.std.specs.List.{fold}
+use Rattle.st_calls.specs.declared.call.SysCall.TheVariants.{Fork}
 use Rattle.st_model.specs.Tree.{is_number}
 use Rattle.st_trace.specs.declared.entry.Change.{Change}
 use Rattle.st_trace.specs.declared.entry.Change.TheVariants.{Execed, Dying, Renewed}
@@ -42,6 +43,12 @@ pub record HasLiveNumber (st : State) (t : ℕ) : Type 0 where
 -- each call that a thread holds has a live number, unless the thread is dying
 pub record AllHeldLive (st : State) : Type 0 where
   pub held : (t : ℕ) (entered : PendingCall) (first : ℕ) → (st.threads t).pending ≡ Some entered → entered.way ≡ Held first → (st.threads t).dying ≡ false → HasLiveNumber st t
+
+-- ---- which thread a fork starts
+
+-- each fork that is pending names a thread that hasn't started
+pub record ForksStartNew (st : State) : Type 0 where
+  pub child : (t : ℕ) (entered : PendingCall) → (st.threads t).pending ≡ Some entered → entered.call ≡ Fork → (st.threads entered.child).owner ≡ 0
 
 -- ---- how many numbers are drawn
 

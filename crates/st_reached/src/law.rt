@@ -1,11 +1,14 @@
-ghost use Rattle.std.specs.Prelude.{◌≡◌, ◌≤◌, ℕ, List, reverse, Some};
+ghost use Rattle.std.specs.Prelude.{◌≡◌, ◌≤◌, ℕ, suc, ◌+◌, List, Some};
 ghost use Rattle.st_trace.specs.declared.entry.Choice.{Choice};
 ghost use Rattle.st_trace.specs.declared.entry.Entry.{Entry};
 ghost use Rattle.st_law.specs.declared.input.Input.{Input};
 ghost use Rattle.st_law.specs.Inputs.{IsStartable};
 ghost use Rattle.st_law.specs.Machine.{entry_of, state_after, state_of_run};
+ghost use Rattle.st_law.specs.Processes.{process_count};
+ghost use Rattle.st_law.specs.Schedules.{instruction_count};
 ghost use Rattle.st_law.specs.State.{is_live};
-ghost use Rattle.st_reached.specs.Reached.{AllHeldLive, Owned, life_after, most_numbers};
+ghost use Rattle.st_reached.specs.Reached.{AllHeldLive, ForksStartNew, Owned, life_after, most_numbers};
+ghost use Rattle.st_reached.specs.Scripts.{StartOnce};
 
 /// A number that lives is that of its thread's held call, in every state that a run reaches; and which numbers live behind one more
 /// entry is read off the entry.
@@ -23,4 +26,16 @@ pub fn a_held_call_has_a_live_number()
 /// No run draws more than n + 64 x s numbers, for n instructions, s of them calls that set ids: so a script says how far numbers go.
 pub fn few_numbers_are_drawn()
     ensures { (input : Input) → IsStartable input → (choices : List Choice) → (state_of_run input choices).posted ≤ most_numbers input }
+{}
+
+/// No run makes more processes than its script has instructions, nor more memories, beside those that are there from the start.
+pub fn few_processes_and_memories_are_made()
+    ensures processes { (input : Input) → IsStartable input → (choices : List Choice) → (state_of_run input choices).next_process ≤ suc (process_count input) + instruction_count input }
+    ensures memories { (input : Input) → IsStartable input → (choices : List Choice) → (state_of_run input choices).next_space ≤ suc (process_count input) + instruction_count input }
+{}
+
+/// A fork that is pending names a thread that hasn't started, in every state that a run reaches, where each thread of the script can
+/// start in one way at most.
+pub fn a_fork_starts_a_new_thread()
+    ensures { (input : Input) → IsStartable input → StartOnce input.start → (choices : List Choice) → ForksStartNew (state_of_run input choices) }
 {}
