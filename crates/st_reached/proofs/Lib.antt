@@ -3,6 +3,7 @@ pub mod Life
 pub mod LifeByEntry
 pub mod Made
 pub mod NumbersDrawn
+pub mod OwnIds
 pub mod Owning
 pub mod OwnedKept
 pub mod Reached

@@ -1,18 +1,23 @@
 -- What holds of every state that a run reaches: which thread a live number is of, that a held call has one, which numbers live behind each
--- entry, how many are drawn at most, and that a fork starts a new thread.
+-- entry, how many are drawn at most, that a fork starts a new thread, and whose ids ids are set under.
 use Rattle.std.specs.Prelude.{◌≡◌, ◌≢◌, ℕ, ◌+◌, ◌*◌, Bool, true, false, ◌==◌, if◌then◌else◌, List, Option, Some, None}
 use Rattle.std.specs.List.{fold}
+use Rattle.st_base.specs.declared.ids.Ids.{Ids}
+use Rattle.st_calls.specs.declared.argument.ArgText.{ArgText}
+use Rattle.st_calls.specs.declared.call.SysCall.{SysCall}
 use Rattle.st_calls.specs.declared.call.SysCall.TheVariants.{Fork}
 use Rattle.st_model.specs.Tree.{is_number}
+use Rattle.st_trace.specs.declared.entry.CallResult.{CallResult}
 use Rattle.st_trace.specs.declared.entry.Change.{Change}
 use Rattle.st_trace.specs.declared.entry.Change.TheVariants.{Execed, Dying, Renewed}
 use Rattle.st_trace.specs.declared.entry.Entry.{Entry}
 use Rattle.st_trace.specs.declared.entry.Entry.TheVariants.{Entered, Used, Denied}
 use Rattle.st_trace.specs.declared.entry.Way.TheVariants.{Held}
 use Rattle.st_law.specs.declared.input.Input.{Input}
+use Rattle.st_law.specs.Lawful.{IsUsed}
 use Rattle.st_law.specs.Messages.{Head}
-use Rattle.st_law.specs.Schedules.{instruction_count, set_id_count}
-use Rattle.st_law.specs.State.{State, is_live}
+use Rattle.st_law.specs.Schedules.{instruction_count, set_id_count, sets_ids}
+use Rattle.st_law.specs.State.{State, is_live, process_in}
 use Rattle.st_law.specs.Threads.{PendingCall}
 
 -- ---- whose a live number is
@@ -49,6 +54,13 @@ pub record AllHeldLive (st : State) : Type 0 where
 -- each fork that is pending names a thread that hasn't started
 pub record ForksStartNew (st : State) : Type 0 where
   pub child : (t : ℕ) (entered : PendingCall) → (st.threads t).pending ≡ Some entered → entered.call ≡ Fork → (st.threads entered.child).owner ≡ 0
+
+-- ---- under which ids a call sets ids
+
+-- each call that sets ids, where it is made as the law says, is made under its process's own ids
+pub record SetsOwnIds (i : Input) (st : State) : Type 0 where
+  pub own : (t : ℕ) (seq : Option ℕ) (call : SysCall) (regs : List ℕ) (args : List ArgText) (ids : Ids) (result : CallResult) (changes : List Change)
+      → IsUsed i st t seq call regs args ids result changes → sets_ids call ≡ true → ids ≡ (process_in st t).ids
 
 -- ---- how many numbers are drawn
 

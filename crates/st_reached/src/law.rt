@@ -2,12 +2,14 @@ ghost use Rattle.std.specs.Prelude.{◌≡◌, ◌≤◌, ℕ, suc, ◌+◌, Lis
 ghost use Rattle.st_trace.specs.declared.entry.Choice.{Choice};
 ghost use Rattle.st_trace.specs.declared.entry.Entry.{Entry};
 ghost use Rattle.st_law.specs.declared.input.Input.{Input};
+ghost use Rattle.st_law.specs.declared.input.Mode.TheVariants.{Enforce};
 ghost use Rattle.st_law.specs.Inputs.{IsStartable};
 ghost use Rattle.st_law.specs.Machine.{entry_of, state_after, state_of_run};
 ghost use Rattle.st_law.specs.Processes.{process_count};
 ghost use Rattle.st_law.specs.Schedules.{instruction_count};
 ghost use Rattle.st_law.specs.State.{is_live};
-ghost use Rattle.st_reached.specs.Reached.{AllHeldLive, ForksStartNew, Owned, life_after, most_numbers};
+ghost use Rattle.st_reached.specs.Grants.{SetIdsUngranted};
+ghost use Rattle.st_reached.specs.Reached.{AllHeldLive, ForksStartNew, Owned, SetsOwnIds, life_after, most_numbers};
 ghost use Rattle.st_reached.specs.Scripts.{StartOnce};
 
 /// A number that lives is that of its thread's held call, in every state that a run reaches; and which numbers live behind one more
@@ -38,4 +40,9 @@ pub fn few_processes_and_memories_are_made()
 /// start in one way at most.
 pub fn a_fork_starts_a_new_thread()
     ensures { (input : Input) → IsStartable input → StartOnce input.start → (choices : List Choice) → ForksStartNew (state_of_run input choices) }
+{}
+
+/// A call that sets ids is made under its process's own ids, where no filter for it grants ids and what no filter decides is denied.
+pub fn own_ids_for_setting()
+    ensures { (input : Input) → IsStartable input → SetIdsUngranted input.policies → input.options.mode ≡ Enforce → (choices : List Choice) → SetsOwnIds input (state_of_run input choices) }
 {}
