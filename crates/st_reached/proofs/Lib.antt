@@ -9,3 +9,4 @@ pub mod OwnedKept
 pub mod Reached
 pub mod Spending
 pub mod Starting
+pub mod Still

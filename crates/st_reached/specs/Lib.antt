@@ -1,3 +1,4 @@
 pub mod Grants
 pub mod Reached
 pub mod Scripts
+pub mod Waiting

@@ -1,16 +1,17 @@
-ghost use Rattle.std.specs.Prelude.{◌≡◌, ◌≤◌, ℕ, suc, ◌+◌, List, Some};
+ghost use Rattle.std.specs.Prelude.{◌≡◌, ◌≤◌, ◌↔◌, ℕ, suc, ◌+◌, List, Some, None};
 ghost use Rattle.st_trace.specs.declared.entry.Choice.{Choice};
 ghost use Rattle.st_trace.specs.declared.entry.Entry.{Entry};
 ghost use Rattle.st_law.specs.declared.input.Input.{Input};
 ghost use Rattle.st_law.specs.declared.input.Mode.TheVariants.{Enforce};
 ghost use Rattle.st_law.specs.Inputs.{IsStartable};
-ghost use Rattle.st_law.specs.Machine.{entry_of, state_after, state_of_run};
+ghost use Rattle.st_law.specs.Machine.{entry_of, state_after, state_of_run, thread_entry};
 ghost use Rattle.st_law.specs.Processes.{process_count};
 ghost use Rattle.st_law.specs.Schedules.{instruction_count};
 ghost use Rattle.st_law.specs.State.{is_live};
 ghost use Rattle.st_reached.specs.Grants.{SetIdsUngranted};
 ghost use Rattle.st_reached.specs.Reached.{AllHeldLive, ForksStartNew, Owned, SetsOwnIds, life_after, most_numbers};
 ghost use Rattle.st_reached.specs.Scripts.{StartOnce};
+ghost use Rattle.st_reached.specs.Waiting.{IsStill};
 
 /// A number that lives is that of its thread's held call, in every state that a run reaches; and which numbers live behind one more
 /// entry is read off the entry.
@@ -45,4 +46,10 @@ pub fn a_fork_starts_a_new_thread()
 /// A call that sets ids is made under its process's own ids, where no filter for it grants ids and what no filter decides is denied.
 pub fn own_ids_for_setting()
     ensures { (input : Input) → IsStartable input → SetIdsUngranted input.policies → input.options.mode ≡ Enforce → (choices : List Choice) → SetsOwnIds input (state_of_run input choices) }
+{}
+
+/// A thread adds nothing exactly where it is still, in every state that a run reaches, where what no filter decides is denied: it hasn't
+/// started, or has ended, or holds a call whose message was neither faulted nor answered, and isn't dying.
+pub fn threads_that_are_still()
+    ensures { (input : Input) → IsStartable input → input.options.mode ≡ Enforce → (choices : List Choice) (t : ℕ) → (thread_entry input (state_of_run input choices) t ≡ None) ↔ IsStill (state_of_run input choices) t }
 {}
