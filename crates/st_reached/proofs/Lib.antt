@@ -10,3 +10,4 @@ pub mod Reached
 pub mod Spending
 pub mod Starting
 pub mod Still
+pub mod StillKept

@@ -1,8 +1,16 @@
--- Which threads add nothing.
-use Rattle.std.specs.Prelude.{◌≡◌, ℕ, true, false, Some, None}
+-- Which threads add nothing, and which of them an entry may have go on: the others needn't be asked again behind it.
+use Rattle.std.specs.Prelude.{◌≡◌, ℕ, Bool, true, false, ◌&&◌, ◌==◌, Option, Some, None}
+use Rattle.std.specs.List.{list_any}
+use Rattle.st_trace.specs.declared.entry.Change.{Change}
+use Rattle.st_trace.specs.declared.entry.Change.TheVariants.{Forked, Execed, Dying}
+use Rattle.st_trace.specs.declared.entry.Entry.{Entry}
+use Rattle.st_trace.specs.declared.entry.Entry.TheVariants.{Faulted, Answered, Used}
 use Rattle.st_trace.specs.declared.entry.Way.TheVariants.{Held}
+use Rattle.st_law.specs.Messages.{Head}
 use Rattle.st_law.specs.State.{State}
 use Rattle.st_law.specs.Threads.{PendingCall}
+
+-- ---- threads
 
 -- a thread that isn't dying holds a call, and its message was neither faulted nor answered
 pub record IsAwaiting (st : State) (t : ℕ) : Type 0 where
@@ -19,3 +27,29 @@ pub data IsStill (st : State) (t : ℕ) : Type 0 where
   unstarted : (st.threads t).owner ≡ 0 → IsStill st t
   ended : (st.threads t).ended ≡ true → IsStill st t
   awaiting : IsAwaiting st t → IsStill st t
+
+-- ---- which threads an entry wakes
+
+-- a change by which threads may go on whatever they hold: one starts, a process is killed, or it runs another binary
+abbrev pub wakes_all : Change → Bool
+wakes_all (Forked pid space tid) = true
+wakes_all (Execed binary space) = true
+wakes_all (Dying pid) = true
+wakes_all _ = false
+
+-- whether a head is that of thread t
+abbrev pub is_head_by : ℕ → Option Head → Bool
+is_head_by t None = false
+is_head_by t (Some head) = head.tid == t
+
+-- whether the message of a number is thread t's
+abbrev pub is_message_by : State → ℕ → ℕ → Bool
+is_message_by st t q = is_head_by t (st.messages q).head
+
+-- whether thread t, which is still, may go on behind an entry of another: a fault and an answer that is applied wake the thread of their
+-- number, and a call wakes every thread where one of its changes does
+abbrev pub wakes : State → Entry → ℕ → Bool
+wakes st (Used u seq call regs args ids result changes) t = list_any wakes_all changes
+wakes st (Faulted q errno) t = is_message_by st t q
+wakes st (Answered w snapshot verdict applied) t = applied && is_message_by st t snapshot.seq
+wakes st _ t = false

@@ -1,4 +1,4 @@
-ghost use Rattle.std.specs.Prelude.{◌≡◌, ◌≤◌, ◌↔◌, ℕ, suc, ◌+◌, List, Some, None};
+ghost use Rattle.std.specs.Prelude.{◌≡◌, ◌≢◌, ◌≤◌, ◌↔◌, ℕ, suc, ◌+◌, false, List, Some, None};
 ghost use Rattle.st_trace.specs.declared.entry.Choice.{Choice};
 ghost use Rattle.st_trace.specs.declared.entry.Entry.{Entry};
 ghost use Rattle.st_law.specs.declared.input.Input.{Input};
@@ -8,10 +8,11 @@ ghost use Rattle.st_law.specs.Machine.{entry_of, state_after, state_of_run, thre
 ghost use Rattle.st_law.specs.Processes.{process_count};
 ghost use Rattle.st_law.specs.Schedules.{instruction_count};
 ghost use Rattle.st_law.specs.State.{is_live};
+ghost use Rattle.st_law.specs.Threads.{thread_of};
 ghost use Rattle.st_reached.specs.Grants.{SetIdsUngranted};
 ghost use Rattle.st_reached.specs.Reached.{AllHeldLive, ForksStartNew, Owned, SetsOwnIds, life_after, most_numbers};
 ghost use Rattle.st_reached.specs.Scripts.{StartOnce};
-ghost use Rattle.st_reached.specs.Waiting.{IsStill};
+ghost use Rattle.st_reached.specs.Waiting.{IsStill, wakes};
 
 /// A number that lives is that of its thread's held call, in every state that a run reaches; and which numbers live behind one more
 /// entry is read off the entry.
@@ -52,4 +53,11 @@ pub fn own_ids_for_setting()
 /// started, or has ended, or holds a call whose message was neither faulted nor answered, and isn't dying.
 pub fn threads_that_are_still()
     ensures { (input : Input) → IsStartable input → input.options.mode ≡ Enforce → (choices : List Choice) (t : ℕ) → (thread_entry input (state_of_run input choices) t ≡ None) ↔ IsStill (state_of_run input choices) t }
+{}
+
+/// A thread that is still stays so behind each entry that isn't its own and doesn't wake it, in every state that a run reaches: so it adds
+/// nothing behind it either.
+pub fn what_stays_still()
+    ensures { (input : Input) → IsStartable input → (choices : List Choice) (c : Choice) (e : Entry) → entry_of input (state_of_run input choices) c ≡ Some e
+        → (t : ℕ) → IsStill (state_of_run input choices) t → thread_of e ≢ t → wakes (state_of_run input choices) e t ≡ false → IsStill (state_after input (state_of_run input choices) e) t }
 {}

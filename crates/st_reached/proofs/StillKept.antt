@@ -1,0 +1,228 @@
+-- A thread that is still stays so behind each entry of another that doesn't wake it.
+use native.Mathlib.Omega.{arith}
+use Rattle.std.proofs.Common.{◌≡◌, ◌≢◌, ◌≤◌, ◌<◌, ◌⊎◌, ℕ, suc, ◌+◌, Bool, true, false, cond, ◌&&◌, ◌||◌, ◌==◌, List, [], ◌∷◌, Option, Some, None, refl, sym, ap, subst, ◌∙◌, inl, inr}
+use Rattle.std.proofs.lemmas.Bool.{eq-eqb, ne_eqb, or_parts, true≢false}
+use Rattle.std.specs.List.{list_any}
+use Rattle.st_base.specs.declared.ids.Ids.{Ids}
+use Rattle.st_calls.specs.declared.argument.ArgText.{ArgText}
+use Rattle.st_calls.specs.declared.call.SysCall.{SysCall}
+use Rattle.st_effects.specs.Changes.{dying_after_change, owner_after_change, seq_after}
+use Rattle.st_effects.specs.Processes.{renewals}
+use Rattle.st_effects.specs.System.{HeldCall}
+use Rattle.st_trace.specs.declared.entry.CallResult.{CallResult}
+use Rattle.st_trace.specs.declared.entry.Change.{Change}
+use Rattle.st_trace.specs.declared.entry.Change.TheVariants.{Dying, Execed, Forked}
+use Rattle.st_trace.specs.declared.entry.Choice.{Choice}
+use Rattle.st_trace.specs.declared.entry.Entry.{Entry}
+use Rattle.st_trace.specs.declared.entry.Entry.TheVariants.{Entered, Faulted, Answered, Used, Denied, Ended}
+use Rattle.st_trace.specs.declared.entry.Way.{Way}
+use Rattle.st_trace.specs.declared.entry.Way.TheVariants.{Fast, Barred, Held, Untraced}
+use Rattle.st_law.specs.declared.input.Input.{Input}
+use Rattle.st_law.specs.declared.input.Mode.TheVariants.{Enforce}
+use Rattle.st_law.specs.Lawful.{IsLawful, IsUsed}
+use Rattle.st_law.specs.Machine.{entry_of, state_after, thread_entry}
+use Rattle.st_law.specs.State.{State, held_from, request_of, system_of, thread_count}
+use Rattle.st_law.specs.Threads.{child_of_next, thread_of}
+use Rattle.st_law.proofs.HeldCalls.{IsHolder}
+use Rattle.st_law.proofs.Invariant.{IsOpen}
+use Rattle.st_law.proofs.QuietChanges.{fold_same, mute_of_quiet, seq_mute}
+use Rattle.st_law.proofs.RenewalKept.{open_of}
+use Rattle.st_law.proofs.Renewals.{one_more}
+use Rattle.st_law.proofs.Shapes.{Each, Shape, quiet, forked, execed, renewed}
+use Rattle.st_law.proofs.Turns.{IsFresh}
+use Rattle.st_law.proofs.UsedShapes.{used_shape}
+use Rattle.st_reached.specs.Waiting.{IsAwaiting, IsStill, awaiting, ended, is_head_by, is_message_by, unstarted, wakes, wakes_all}
+use Rattle.st_reached.proofs.Reached.{Reached, lawful_entry}
+use Rattle.st_reached.proofs.Still.{none_still, still_none}
+
+-- ---- changes that wake nobody
+
+abbrev IsCalm : Change → Type 0
+IsCalm c = wakes_all c ≡ false
+
+calm_each : (changes : List Change) → list_any wakes_all changes ≡ false → Each IsCalm changes
+calm_each [] none = tt
+calm_each (c ∷ changes) none = let parts = or_parts (wakes_all c) (list_any wakes_all changes) none in (parts.0, calm_each changes parts.1)
+
+owner_calm : (t o : ℕ) (c : Change) → IsCalm c → owner_after_change t o c ≡ o
+owner_calm t o (Forked pid space tid) calm = absurd (true≢false calm)
+owner_calm t o _ calm = refl
+
+dying_calm : (t p u m : ℕ) (b : Bool) (c : Change) → IsCalm c → dying_after_change t p u m b c ≡ b
+dying_calm t p u m b (Dying pid) calm = absurd (true≢false calm)
+dying_calm t p u m b (Execed binary space) calm = absurd (true≢false calm)
+dying_calm t p u m b _ calm = refl
+
+-- ---- the number of a held call is the same, or a new one
+
+abbrev SameOrNew : ℕ → ℕ → List Change → Type 0
+SameOrNew n next changes = (seq_after n changes ≡ n) ⊎ (next ≤ seq_after n changes)
+
+module _ (m u : ℕ) where
+  renewals_new : (n next : ℕ) (helds : List HeldCall) → SameOrNew n next (renewals m u next helds)
+  renewals_new n next [] = inl refl
+  renewals_new n next (held ∷ more) = one_more m u (SameOrNew n next) next held more
+      (λ is_so. by (held.number == n) (renewals_new n (next + 1) more) (renewals_new next (next + 1) more))
+      (λ not_so. renewals_new n next more) where
+        here : SameOrNew next (next + 1) (renewals m u (next + 1) more) → next ≤ seq_after next (renewals m u (next + 1) more)
+        here (inl same) = omega (arith, same)
+        here (inr high) = omega (arith, high)
+
+        later : SameOrNew n (next + 1) (renewals m u (next + 1) more) → SameOrNew n next (renewals m u (next + 1) more)
+        later (inl same) = inl same
+        later (inr high) = inr (omega (arith, high))
+
+        by : (b : Bool) → SameOrNew n (next + 1) (renewals m u (next + 1) more) → SameOrNew next (next + 1) (renewals m u (next + 1) more)
+            → (seq_after (cond b next n) (renewals m u (next + 1) more) ≡ n) ⊎ (next ≤ seq_after (cond b next n) (renewals m u (next + 1) more))
+        by true x y = inr (here y)
+        by false x y = later x
+
+-- ---- from entry to entry
+
+module _ (i : Input) (st : State) (reached : Reached i st) (t : ℕ) where
+  abbrev number : ℕ
+  number = (st.threads t).number
+
+  -- a number's message was neither faulted nor answered
+  abbrev IsUnmet : ℕ → Type 0
+  IsUnmet q = ((st.messages q).fault ≡ None) × ((st.messages q).answered ≡ false)
+
+  -- a number that isn't drawn yet has none
+  unmet_above : (q : ℕ) → st.posted < q → IsUnmet q
+  unmet_above q high = by (st.messages q).claimed refl where
+    by : (b : Bool) → (st.messages q).claimed ≡ b → IsUnmet q
+    by true claimed = absurd (let low = reached.whole.turns.low q claimed in omega (arith, low, high))
+    by false unclaimed = let fresh : IsFresh (st.messages q) = reached.whole.turns.fresh q unclaimed in (fresh.fault, fresh.answered)
+
+  -- what an entry leaves of a thread that is still, by which it is still
+  pub record Leaves (e : Entry) : Type 0 where
+    pub owner : ((state_after i st e).threads t).owner ≡ (st.threads t).owner
+    pub over : ((state_after i st e).threads t).ended ≡ (st.threads t).ended
+    pub dying : ((state_after i st e).threads t).dying ≡ (st.threads t).dying
+    pub pending : ((state_after i st e).threads t).pending ≡ (st.threads t).pending
+    pub unfaulted : IsAwaiting st t → ((state_after i st e).messages ((state_after i st e).threads t).number).fault ≡ None
+    pub unanswered : IsAwaiting st t → ((state_after i st e).messages ((state_after i st e).threads t).number).answered ≡ false
+
+  stays : (e : Entry) → Leaves e → IsStill st t → IsStill (state_after i st e) t
+  stays e leaves (unstarted is) = unstarted (leaves.owner ∙ is)
+  stays e leaves (ended is) = ended (leaves.over ∙ is)
+  stays e leaves (awaiting x) = awaiting (record {
+    undying = leaves.dying ∙ x.undying;
+    entered = x.entered;
+    pending = leaves.pending ∙ x.pending;
+    first = x.first;
+    way = x.way;
+    unfaulted = leaves.unfaulted x;
+    unanswered = leaves.unanswered x;
+  })
+
+  -- ---- a call of another thread is entered
+
+  entered_leaves : (u : ℕ) (call : SysCall) (regs : List ℕ) (way : Way) → (u == t) ≡ false → Leaves (Entered u call regs way)
+  entered_leaves u call regs way other = record {
+    owner = refl;
+    over = refl;
+    dying = refl;
+    pending = ap (λ b. cond b (Some (record { call = call; regs = regs; way = way; child = child_of_next (st.threads t).left })) (st.threads t).pending) other;
+    unfaulted = λ x. ap (λ q. (st.messages q).fault) (number_same way) ∙ x.unfaulted;
+    unanswered = λ x. ap (λ q. (st.messages q).answered) (number_same way) ∙ x.unanswered;
+  } where
+    number_same : (each : Way) → ((state_after i st (Entered u call regs each)).threads t).number ≡ number
+    number_same Fast = refl
+    number_same (Barred n) = refl
+    number_same (Held q) = ap (λ b. cond b q number) other
+    number_same Untraced = refl
+
+  -- ---- a message of another thread is faulted or answered
+
+  -- the message of a thread's number is the thread's
+  own_message : IsAwaiting st t → is_message_by st t number ≡ true
+  own_message x =
+      let holder : IsHolder st t = record { entered = x.entered; pending = x.pending; first = x.first; way = x.way; undying = x.undying } in
+      let is_open : IsOpen st t x.entered.call x.entered.regs = open_of i st reached.whole.calls t holder in
+      ap (is_head_by t) is_open.posted ∙ eq-eqb is_open.head.tid t is_open.own.tid_is
+
+  other_number : IsAwaiting st t → (q : ℕ) → is_message_by st t q ≡ false → (q == number) ≡ false
+  other_number x q other = ne_eqb q number (λ same. true≢false (sym (own_message x) ∙ sym (ap (is_message_by st t) same) ∙ other))
+
+  unanswered_by : IsAwaiting st t → (q : ℕ) (applied : Bool) → (applied && is_message_by st t q) ≡ false → ((q == number && applied) || (st.messages number).answered) ≡ false
+  unanswered_by x q true other = (λ k. (other_number x q other k && true) || (st.messages number).answered) ∙ x.unanswered
+  unanswered_by x q false other = ap (λ b. b || (st.messages number).answered) (none (q == number)) ∙ x.unanswered where
+    none : (b : Bool) → (b && false) ≡ false
+    none true = refl
+    none false = refl
+
+  -- ---- a call of another thread is made
+
+  module _ (u : ℕ) (seq : Option ℕ) (call : SysCall) (regs : List ℕ) (args : List ArgText) (ids : Ids) (result : CallResult) (changes : List Change) where
+    number_by : Shape (system_of i st) (request_of i st u regs args ids) call changes → Each IsCalm changes → SameOrNew number (suc st.posted) changes
+    number_by (quiet x) calm = inl (seq_mute number changes (mute_of_quiet changes x))
+    number_by (forked is e) calm = absurd (true≢false (subst (Each IsCalm) e calm).0)
+    number_by (execed binary e) calm = absurd (true≢false (subst (Each IsCalm) e calm).0)
+    number_by (renewed set sets e) calm = subst (SameOrNew number (suc st.posted)) (sym e) (renewals_new (st.threads u).owner u number (suc st.posted) (held_from st 1 (thread_count i)))
+
+    unmet_then : IsAwaiting st t → SameOrNew number (suc st.posted) changes → IsUnmet (seq_after number changes)
+    unmet_then x (inl same) = subst IsUnmet (sym same) (x.unfaulted, x.unanswered)
+    unmet_then x (inr high) = unmet_above (seq_after number changes) (omega (arith, high))
+
+    used_leaves : (u == t) ≡ false → Each IsCalm changes → IsUsed i st u seq call regs args ids result changes → Leaves (Used u seq call regs args ids result changes)
+    used_leaves other calm y =
+        let drawn : SameOrNew number (suc st.posted) changes = number_by (used_shape i st u call regs args ids result changes seq y) calm in record {
+          owner = fold_same (owner_after_change t) IsCalm (λ o c x. owner_calm t o c x) (st.threads t).owner changes calm;
+          over = refl;
+          dying = fold_same (dying_after_change t (st.threads t).owner u (st.threads u).owner) IsCalm (λ b c x. dying_calm t (st.threads t).owner u (st.threads u).owner b c x) (st.threads t).dying changes calm;
+          pending = ap (λ b. cond b None (st.threads t).pending) other;
+          unfaulted = λ x. (unmet_then x drawn).0;
+          unanswered = λ x. (unmet_then x drawn).1;
+        }
+
+  -- ---- every entry
+
+  leaves : (e : Entry) → IsLawful i st e → thread_of e ≢ t → wakes st e t ≡ false → Leaves e
+  leaves (Entered u call regs way) y other calm = entered_leaves u call regs way (ne_eqb u t other)
+  leaves (Used u seq call regs args ids result changes) y other calm = used_leaves u seq call regs args ids result changes (ne_eqb u t other) (calm_each changes calm) y
+  leaves (Denied u seq errno cause) y other calm = record {
+    owner = refl;
+    over = refl;
+    dying = refl;
+    pending = ap (λ b. cond b None (st.threads t).pending) (ne_eqb u t other);
+    unfaulted = λ x. x.unfaulted;
+    unanswered = λ x. x.unanswered;
+  }
+  leaves (Ended u) y other calm = record {
+    owner = refl;
+    over = ap (λ b. b || (st.threads t).ended) (ne_eqb u t other);
+    dying = refl;
+    pending = refl;
+    unfaulted = λ x. x.unfaulted;
+    unanswered = λ x. x.unanswered;
+  }
+  leaves (Faulted q errno) y other calm = record {
+    owner = refl;
+    over = refl;
+    dying = refl;
+    pending = refl;
+    unfaulted = λ x. ap (λ b. cond b (Some errno) (st.messages number).fault) (other_number x q calm) ∙ x.unfaulted;
+    unanswered = λ x. x.unanswered;
+  }
+  leaves (Answered w s v applied) y other calm = record {
+    owner = refl;
+    over = refl;
+    dying = refl;
+    pending = refl;
+    unfaulted = λ x. x.unfaulted;
+    unanswered = λ x. unanswered_by x s.seq applied calm;
+  }
+  leaves _ y other calm = record { owner = refl; over = refl; dying = refl; pending = refl; unfaulted = λ x. x.unfaulted; unanswered = λ x. x.unanswered }
+
+  -- a thread that is still stays so behind a lawful entry
+  pub still_behind : IsStill st t → (e : Entry) → IsLawful i st e → thread_of e ≢ t → wakes st e t ≡ false → IsStill (state_after i st e) t
+  still_behind still e lawful other calm = stays e (leaves e lawful other calm) still
+
+  -- and behind the entry that a choice adds
+  pub still_more : IsStill st t → (c : Choice) (e : Entry) → entry_of i st c ≡ Some e → thread_of e ≢ t → wakes st e t ≡ false → IsStill (state_after i st e) t
+  still_more still c e is other calm = still_behind still e (lawful_entry i st reached c e is) other calm
+
+  -- where nobody is asked, it adds nothing behind the entry either
+  pub none_more : i.options.mode ≡ Enforce → thread_entry i st t ≡ None → (c : Choice) (e : Entry) → entry_of i st c ≡ Some e → thread_of e ≢ t → wakes st e t ≡ false → thread_entry i (state_after i st e) t ≡ None
+  none_more enforces none c e is other calm = still_none i (state_after i st e) t (still_more (none_still i st reached.whole enforces t none) c e is other calm)
