@@ -11,3 +11,4 @@ pub mod Spending
 pub mod Starting
 pub mod Still
 pub mod StillKept
+pub mod StillWorkers

@@ -59,7 +59,7 @@ and_none true = refl
 and_none false = refl
 
 -- what is something isn't none
-something : (A : Type 0) (o : Option Entry) → Is o → o ≡ None → A
+pub something : (A : Type 0) (o : Option Entry) → Is o → o ≡ None → A
 something A o x none = absurd (none-some x.0 (sym none ∙ x.1))
 
 -- arguments that are all there, or faulty

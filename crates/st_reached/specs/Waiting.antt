@@ -1,4 +1,4 @@
--- Which threads add nothing, and which of them an entry may have go on: the others needn't be asked again behind it.
+-- Which threads and workers add nothing, and which threads an entry may have go on: the others needn't be asked again behind it.
 use Rattle.std.specs.Prelude.{◌≡◌, ℕ, Bool, true, false, ◌&&◌, ◌==◌, Option, Some, None}
 use Rattle.std.specs.List.{list_any}
 use Rattle.st_trace.specs.declared.entry.Change.{Change}
@@ -6,8 +6,10 @@ use Rattle.st_trace.specs.declared.entry.Change.TheVariants.{Forked, Execed, Dyi
 use Rattle.st_trace.specs.declared.entry.Entry.{Entry}
 use Rattle.st_trace.specs.declared.entry.Entry.TheVariants.{Faulted, Answered, Used}
 use Rattle.st_trace.specs.declared.entry.Way.TheVariants.{Held}
+use Rattle.st_law.specs.declared.input.Input.{Input}
+use Rattle.st_law.specs.Machine.{least_waiting}
 use Rattle.st_law.specs.Messages.{Head}
-use Rattle.st_law.specs.State.{State}
+use Rattle.st_law.specs.State.{State, is_worker, worker_at}
 use Rattle.st_law.specs.Threads.{PendingCall}
 
 -- ---- threads
@@ -53,3 +55,10 @@ wakes st (Used u seq call regs args ids result changes) t = list_any wakes_all c
 wakes st (Faulted q errno) t = is_message_by st t q
 wakes st (Answered w snapshot verdict applied) t = applied && is_message_by st t snapshot.seq
 wakes st _ t = false
+
+-- ---- workers
+
+-- a worker is still: there is none of this number, or it is idle and no number waits
+pub data IsStillWorker (i : Input) (st : State) (w : ℕ) : Type 0 where
+  no_worker : is_worker i w ≡ false → IsStillWorker i st w
+  idle : worker_at st w ≡ None → least_waiting st ≡ None → IsStillWorker i st w

@@ -4,7 +4,7 @@ ghost use Rattle.st_trace.specs.declared.entry.Entry.{Entry};
 ghost use Rattle.st_law.specs.declared.input.Input.{Input};
 ghost use Rattle.st_law.specs.declared.input.Mode.TheVariants.{Enforce};
 ghost use Rattle.st_law.specs.Inputs.{IsStartable};
-ghost use Rattle.st_law.specs.Machine.{entry_of, state_after, state_of_run, thread_entry};
+ghost use Rattle.st_law.specs.Machine.{entry_of, state_after, state_of_run, thread_entry, worker_entry};
 ghost use Rattle.st_law.specs.Processes.{process_count};
 ghost use Rattle.st_law.specs.Schedules.{instruction_count};
 ghost use Rattle.st_law.specs.State.{is_live};
@@ -12,7 +12,7 @@ ghost use Rattle.st_law.specs.Threads.{thread_of};
 ghost use Rattle.st_reached.specs.Grants.{SetIdsUngranted};
 ghost use Rattle.st_reached.specs.Reached.{AllHeldLive, ForksStartNew, Owned, SetsOwnIds, life_after, most_numbers};
 ghost use Rattle.st_reached.specs.Scripts.{StartOnce};
-ghost use Rattle.st_reached.specs.Waiting.{IsStill, wakes};
+ghost use Rattle.st_reached.specs.Waiting.{IsStill, IsStillWorker, wakes};
 
 /// A number that lives is that of its thread's held call, in every state that a run reaches; and which numbers live behind one more
 /// entry is read off the entry.
@@ -60,4 +60,9 @@ pub fn threads_that_are_still()
 pub fn what_stays_still()
     ensures { (input : Input) → IsStartable input → (choices : List Choice) (c : Choice) (e : Entry) → entry_of input (state_of_run input choices) c ≡ Some e
         → (t : ℕ) → IsStill (state_of_run input choices) t → thread_of e ≢ t → wakes (state_of_run input choices) e t ≡ false → IsStill (state_after input (state_of_run input choices) e) t }
+{}
+
+/// A worker adds nothing exactly where there is none of its number, or it is idle and no number waits, in every state that a run reaches.
+pub fn workers_that_are_idle()
+    ensures { (input : Input) → IsStartable input → (choices : List Choice) (w : ℕ) → (worker_entry input (state_of_run input choices) w ≡ None) ↔ IsStillWorker input (state_of_run input choices) w }
 {}
