@@ -1,5 +1,5 @@
 -- Lines without a fault are within the bounds of a script.
-use Rattle.std.proofs.Common.{◌≡◌, ◌≢◌, ℕ, suc, ◌+◌, ◌-◌, ◌^◌, ◌≤◌, ◌<◌, Bool, true, false, ◌||◌, not, if◌then◌else◌, cond, nat_le, List, [], ◌∷◌, ◌++◌, length, Option, Some, None, Result, Ok, Err, refl, sym, ap, ◌∙◌, subst, arith}
+use Rattle.std.proofs.Common.{◌≡◌, ◌≢◌, ℕ, suc, ◌+◌, ◌-◌, ◌^◌, ◌≤◌, ◌<◌, Bool, true, false, ◌||◌, ◌&&◌, not, if◌then◌else◌, cond, nat_le, List, [], ◌∷◌, ◌++◌, length, Option, Some, None, Result, Ok, Err, refl, sym, ap, ◌∙◌, subst, arith}
 use Rattle.std.proofs.Math.Nat.{min-le_left, le-min}
 use Rattle.std.proofs.lemmas.Bool.{leb-false, ltb-false}
 use Rattle.std.proofs.lemmas.List.{length-append}
@@ -17,11 +17,12 @@ use Rattle.st_model.specs.declared.object.NewKind.{NewKind}
 use Rattle.st_model.specs.declared.object.NewKind.TheVariants as kind
 use Rattle.st_policy.specs.OneFilter.{FilterResult, filter_in}
 use Rattle.st_policy.specs.declared.env.Env.{Env}
-use Rattle.st_script_faults.specs.Faults.{Whole, is_expected, is_unknown, is_duplicate, is_too_many, is_large, fault_of, fault_by, first_fault, line_fault, unless_ask, answer_of, reply_in, threads_behind}
+use Rattle.st_script_faults.specs.Faults.{Whole, is_expected, is_unknown, is_duplicate, is_too_many, is_large, fault_of, fault_by, first_fault, line_fault, unless_ask, answer_of, reply_in, threads_behind, with_thread}
 use Rattle.st_whole_script.specs.Bounds.{IsWithinBounds}
 use Rattle.st_script_faults.specs.Names.{Name, Names, no_names, has_name, with_name, number_of, with_says}
 use Rattle.st_statements.specs.Parts.{is_long, is_normal}
-use Rattle.st_whole_script.specs.Reading.{object_said, process_said, processes_behind, reply_said, script_with, threads_in, with_process}
+use Rattle.st_trace.specs.declared.start.ThreadRow.{ThreadRow}
+use Rattle.st_whole_script.specs.Reading.{body_in, object_said, process_said, processes_behind, reply_said, script_with, thread_said, thread_with, threads_in, with_process}
 use Rattle.st_script_faults.specs.declared.fault.ScriptFault.{ScriptFault}
 use Rattle.st_script_faults.specs.declared.limits.TheConstants.{MOST_PROCESSES, MOST_THREADS, MOST_TREE_ROWS}
 use Rattle.st_whole_script.specs.declared.reading.ReadScript.{ReadScript}
@@ -168,9 +169,20 @@ pub no_reply_asks : (env : Env) (lines : List ScriptLine) → AllByRecursion (λ
 no_reply_asks env [] = tt
 no_reply_asks env (line ∷ lines) = replies_more (reply_said env line.says) (filter_map (λ line. reply_said env line.says) lines) (said_answers env line.says) (no_reply_asks env lines)
 
+-- ---- threads of forks
+
+pub not_false : (b : Bool) → not b ≡ false → b ≡ true
+not_false true e = refl
+not_false false e = absurd (cc)
+
+-- the fork of a line without a fault names a thread
+pub known_by : (cut there : Bool) → cut ≡ false → (not cut && not there) ≡ false → there ≡ true
+known_by true there whole known = absurd (cc)
+known_by false there whole known = not_false there known
+
 -- ---- processes of threads
 
-or_true : (a b : Bool) → b ≡ true → (a || b) ≡ true
+pub or_true : (a b : Bool) → b ≡ true → (a || b) ≡ true
 or_true true b e = refl
 or_true false b e = e
 
@@ -182,7 +194,7 @@ kept_before : (names : List Name) (other name : Name) → has_name names name �
 kept_before [] other name h = absurd (cc)
 kept_before (first ∷ names) other name h = kept_first (bytes_eq name first) (has_name names name) (has_name (names ++ other ∷ []) name) h (kept_before names other name)
 
-kept_in : (names : List Name) (other name : Name) (b : Bool) → has_name names name ≡ true → has_name (if b then names else names ++ other ∷ []) name ≡ true
+pub kept_in : (names : List Name) (other name : Name) (b : Bool) → has_name names name ≡ true → has_name (if b then names else names ++ other ∷ []) name ≡ true
 kept_in names other name true h = h
 kept_in names other name false h = kept_before names other name h
 
@@ -199,7 +211,7 @@ place_by : (b c : Bool) (place len : ℕ) → (b || c) ≡ true → (c ≡ true 
 place_by true c place len h ih = omega arith
 place_by false c place len h ih = let below = ih h in omega (arith, below)
 
-place_within : (names : List Name) (name : Name) → has_name names name ≡ true → position_or_len (bytes_eq name) names < length names
+pub place_within : (names : List Name) (name : Name) → has_name names name ≡ true → position_or_len (bytes_eq name) names < length names
 place_within [] name h = absurd (cc)
 place_within (first ∷ names) name h = place_by (bytes_eq name first) (has_name names name) (position_or_len (bytes_eq name) names) (length names) h (place_within names name)
 
@@ -223,10 +235,6 @@ numbered_within names name count h few =
     let most = min-le_left (position_or_len (bytes_eq name) names + 1) (2 ^ 32 - 1) in
     (le-min (omega arith) (omega arith), omega (arith, most, place, few))
 
-pub not_false : (b : Bool) → not b ≡ false → b ≡ true
-not_false true e = refl
-not_false false e = absurd (cc)
-
 behind_is : (above : Names) (s : Statement) → (with_says above (Some s)).processes ≡ with_process above.processes (Some s)
 behind_is above (says.Process process) = refl
 behind_is above s = refl
@@ -245,6 +253,23 @@ threads_have_processes whole ps ts count few above _ (Behind _ n s lines ok rest
 
 pub processes_within : (lines : List ScriptLine) → length (processes_behind [] lines) ≤ length (filter_map (λ line. process_said line.says) lines)
 processes_within lines = let e = names_within [] lines in omega (arith, e)
+
+-- ---- names of threads
+
+-- the threads of lines, by where the thread starts that the line above them says, if it says one
+abbrev pub threads_with : List Name → List Name → List ScriptLine → Option (Option Name) → List ThreadRow
+threads_with ps ts lines (Some process) = thread_with ps process (body_in ts lines) ∷ threads_in ps ts lines
+threads_with ps ts lines None = threads_in ps ts lines
+
+threads_by : (ps ts names : List Name) (o : Option Statement) (lines : List ScriptLine) → length (threads_behind (with_thread names o) lines) ≤ length (with_thread names o) + length (threads_in ps ts lines) →
+    length (threads_behind (with_thread names o) lines) ≤ length names + length (threads_with ps ts lines (thread_said o))
+threads_by ps ts names None lines ih = ih
+threads_by ps ts names (Some (says.Thread name process)) lines ih = let one = at_most_one names name (has_name names name) in omega (arith, ih, one)
+threads_by ps ts names (Some s) lines ih = ih
+
+pub threads_within : (ps ts names : List Name) (lines : List ScriptLine) → length (threads_behind names lines) ≤ length names + length (threads_in ps ts lines)
+threads_within ps ts names [] = omega arith
+threads_within ps ts names (line ∷ lines) = threads_by ps ts names line.says lines (threads_within ps ts (with_thread names line.says) lines)
 
 -- ---- all of it
 

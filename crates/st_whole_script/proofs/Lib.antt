@@ -1,6 +1,12 @@
+mod Bounded
 mod Counted
+mod FewInstructions
+mod InMemory
+mod Placed
 mod PutTexts
+mod ReadTexts
 mod Said
 mod Slashes
 mod Standing
 mod Startable
+mod StartedOnce

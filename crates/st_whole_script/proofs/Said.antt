@@ -1,5 +1,7 @@
--- What the lines of a script say: names in normal form, and no call that forks.
-use Rattle.std.proofs.Common.{◌≡◌, ◌≢◌, ℕ, Bool, true, false, if◌then◌else◌, List, [], ◌∷◌, codes, Option, Some, None, refl}
+-- What the lines of a script say: names in normal form, stores that lie in memory, and no call that forks; and what they say inside the
+-- body of a thread, and outside.
+use Rattle.std.proofs.Common.{◌≡◌, ◌≢◌, ℕ, ◌+◌, ◌*◌, ◌/◌, ◌%◌, ◌<◌, ◌==◌, Bool, true, false, ◌&&◌, if◌then◌else◌, nat_lt, List, [], ◌∷◌, codes, length, Option, Some, None, refl, arith}
+use Rattle.std.proofs.lemmas.Bool.{ltb-true}
 use Rattle.std.specs.List.{AllByRecursion}
 use Rattle.std.specs.Prelude.{IfSome, option_map, option_and_then}
 use Rattle.st_calls.specs.Call.{call_named}
@@ -7,6 +9,7 @@ use Rattle.st_calls.specs.declared.call.SysCall.{SysCall}
 use Rattle.st_calls.specs.declared.call.SysCall.TheVariants as calls
 use Rattle.st_lex.specs.Text.{is_keyword, is_word, text_of_token}
 use Rattle.st_lex.specs.declared.token.Token.{Token}
+use Rattle.st_model.specs.declared.limits.TheConstants.{SPACE_BYTES, SPACE_WORDS}
 use Rattle.st_model.specs.declared.object.NewKind.TheVariants as kind
 use Rattle.st_model.specs.declared.object.NewNode.{NewNode}
 use Rattle.st_statements.specs.Accounts.{user_row, group_row}
@@ -15,22 +18,42 @@ use Rattle.st_statements.specs.Objects.{dir_row, file_node, file_row, link_at, l
 use Rattle.st_statements.specs.Parts.{if_normal, is_normal, path_at, place_at, quoted_at, unless_root, word_at}
 use Rattle.st_statements.specs.Statements.{inner_row, is_inside_behind, lines_from, outer_row, statement_of}
 use Rattle.st_statements.specs.Tasks.{process_row, reply_row, thread_row, traced_at}
-use Rattle.st_statements.specs.Values.{id_at, mode_at, number_at}
+use Rattle.st_statements.specs.Values.{id_at, mode_at, number_at, number_below}
 use Rattle.st_statements.specs.declared.objects.TheConstants.{LINK_MODE}
 use Rattle.st_statements.specs.declared.statement.ScriptLine.{ScriptLine}
 use Rattle.st_statements.specs.declared.statement.Statement.{Statement}
 use Rattle.st_statements.specs.declared.statement.Statement.TheVariants as says
 
--- the paths of a statement are in normal form, and its call isn't fork
+-- the paths of a statement are in normal form, what it stores lies in memory, and its call isn't fork
 abbrev pub IsSaid : Statement → Type 0
 IsSaid (says.Object path new) = is_normal path ≡ true
 IsSaid (says.Process process) = is_normal process.cwd ≡ true
+IsSaid (says.Store place word) = place < SPACE_WORDS
+IsSaid (says.Put place bytes) = 8 * place + length bytes < SPACE_BYTES
 IsSaid (says.Call call regs) = call ≢ calls.Fork
 IsSaid _ = Unit {0}
 
 -- the same, where a row says something
 abbrev pub AreSaid : List ScriptLine → Type 0
 AreSaid lines = AllByRecursion (λ line. IfSome line.says IsSaid) lines
+
+-- whether a statement is one of a thread's body
+abbrev pub is_of_body : Statement → Bool
+is_of_body (says.Store place word) = true
+is_of_body (says.Put place bytes) = true
+is_of_body (says.Call call regs) = true
+is_of_body (says.Fork name) = true
+is_of_body says.End = true
+is_of_body _ = false
+
+-- the statements of lines, whose first is inside a body or outside, stand where they may
+abbrev pub ArePlaced : Bool → List ScriptLine → Type 0
+ArePlaced inside [] = Unit {0}
+ArePlaced inside (line ∷ lines) = IfSome line.says (λ s. is_of_body s ≡ inside) × ArePlaced (is_inside_behind inside line.says) lines
+
+-- what a row may say inside a body, or outside
+abbrev IsSaidIn : Bool → Statement → Type 0
+IsSaidIn inside s = IsSaid s × (is_of_body s ≡ inside)
 
 -- ---- what holds of an option
 
@@ -79,94 +102,135 @@ not_fork : (call : SysCall) → IfSome (unless_fork call) (λ c. c ≢ calls.For
 not_fork calls.Fork = tt
 not_fork call = λ e. cc
 
-object_said : (path : Option (List ℕ)) (new : Option NewNode) → IfSome path IsNormal → IfSome (object_of path new) IsSaid
-object_said path new is = if_then IsNormal IsSaid (λ p. option_map (says.Object p) new) path is (λ p normal. map_any IsSaid (says.Object p) new (λ n. normal))
+abbrev IsSaidOutside : Statement → Type 0
+IsSaidOutside s = IsSaidIn false s
 
-dir_said : (text : List ℕ) (row : List Token) → IfSome (dir_row text row) IsSaid
+abbrev IsSaidInside : Statement → Type 0
+IsSaidInside s = IsSaidIn true s
+
+object_said : (path : Option (List ℕ)) (new : Option NewNode) → IfSome path IsNormal → IfSome (object_of path new) IsSaidOutside
+object_said path new is = if_then IsNormal IsSaidOutside (λ p. option_map (says.Object p) new) path is (λ p normal. map_any IsSaidOutside (says.Object p) new (λ n. (normal, refl)))
+
+dir_said : (text : List ℕ) (row : List Token) → IfSome (dir_row text row) IsSaidOutside
 dir_said text (path ∷ uid ∷ gid ∷ mode ∷ []) = object_said (place_at text path) (node_of (Some kind.Dir) (id_at text uid) (id_at text gid) (mode_at text mode)) (normal_place text path)
 dir_said text _ = tt
 
-file_said : (text : List ℕ) (row : List Token) → IfSome (file_row text row) IsSaid
+file_said : (text : List ℕ) (row : List Token) → IfSome (file_row text row) IsSaidOutside
 file_said text (path ∷ uid ∷ gid ∷ mode ∷ content ∷ []) = object_said (place_at text path) (file_node text uid gid mode content) (normal_place text path)
 file_said text _ = tt
 
-link_said : (text : List ℕ) (row : List Token) → IfSome (link_row text row) IsSaid
+link_said : (text : List ℕ) (row : List Token) → IfSome (link_row text row) IsSaidOutside
 link_said text (path ∷ uid ∷ gid ∷ target ∷ []) = object_said (place_at text path) (node_of (link_at text target) (id_at text uid) (id_at text gid) (Some LINK_MODE)) (normal_place text path)
 link_said text _ = tt
 
-process_said : (text : List ℕ) (row : List Token) → IfSome (process_row text row) IsSaid
+process_said : (text : List ℕ) (row : List Token) → IfSome (process_row text row) IsSaidOutside
 process_said text (name ∷ traced ∷ binary ∷ uid ∷ gid ∷ cwd ∷ []) =
-    then_any IsSaid _ (word_at text name) (λ n. then_any IsSaid _ (traced_at text traced) (λ t. then_any IsSaid _ (id_at text uid) (λ u. then_any IsSaid _ (id_at text gid) (λ g.
-    then_any IsSaid _ (path_at text binary) (λ b. if_map IsNormal IsSaid (λ c. says.Process (record { name = n; traced = t; binary = b; uid = u; gid = g; cwd = c })) (path_at text cwd) (normal_path text cwd) (λ c is. is))))))
+    then_any IsSaidOutside _ (word_at text name) (λ n. then_any IsSaidOutside _ (traced_at text traced) (λ t. then_any IsSaidOutside _ (id_at text uid) (λ u. then_any IsSaidOutside _ (id_at text gid) (λ g.
+    then_any IsSaidOutside _ (path_at text binary) (λ b. if_map IsNormal IsSaidOutside (λ c. says.Process (record { name = n; traced = t; binary = b; uid = u; gid = g; cwd = c })) (path_at text cwd) (normal_path text cwd) (λ c is. (is, refl)))))))
 process_said text _ = tt
 
-user_said : (text : List ℕ) (row : List Token) → IfSome (user_row text row) IsSaid
+user_said : (text : List ℕ) (row : List Token) → IfSome (user_row text row) IsSaidOutside
 user_said text (name ∷ uid ∷ gid ∷ home ∷ []) =
-    then_any IsSaid _ (word_at text name) (λ n. then_any IsSaid _ (id_at text uid) (λ u. then_any IsSaid _ (id_at text gid) (λ g. map_any IsSaid (λ h. says.User (record { name = n; uid = u; gid = g; home = h })) (quoted_at text home) (λ h. tt))))
+    then_any IsSaidOutside _ (word_at text name) (λ n. then_any IsSaidOutside _ (id_at text uid) (λ u. then_any IsSaidOutside _ (id_at text gid) (λ g. map_any IsSaidOutside (λ h. says.User (record { name = n; uid = u; gid = g; home = h })) (quoted_at text home) (λ h. (tt, refl)))))
 user_said text _ = tt
 
-group_said : (text : List ℕ) (row : List Token) → IfSome (group_row text row) IsSaid
-group_said text (name ∷ gid ∷ []) = then_any IsSaid _ (word_at text name) (λ n. map_any IsSaid (λ g. says.Group (record { name = n; gid = g })) (id_at text gid) (λ g. tt))
+group_said : (text : List ℕ) (row : List Token) → IfSome (group_row text row) IsSaidOutside
+group_said text (name ∷ gid ∷ []) = then_any IsSaidOutside _ (word_at text name) (λ n. map_any IsSaidOutside (λ g. says.Group (record { name = n; gid = g })) (id_at text gid) (λ g. (tt, refl)))
 group_said text _ = tt
 
-thread_said : (text : List ℕ) (row : List Token) → IfSome (thread_row text row) IsSaid
-thread_said text (name ∷ []) = map_any IsSaid (λ n. says.Thread n None) (word_at text name) (λ n. tt)
+thread_said : (text : List ℕ) (row : List Token) → IfSome (thread_row text row) IsSaidOutside
+thread_said text (name ∷ []) = map_any IsSaidOutside (λ n. says.Thread n None) (word_at text name) (λ n. (tt, refl))
 thread_said text (name ∷ within ∷ process ∷ []) =
-    if_either IsSaid (is_keyword text (codes "in") within) _ None (then_any IsSaid _ (word_at text name) (λ n. map_any IsSaid (λ p. says.Thread n (Some p)) (word_at text process) (λ p. tt))) tt
+    if_either IsSaidOutside (is_keyword text (codes "in") within) _ None (then_any IsSaidOutside _ (word_at text name) (λ n. map_any IsSaidOutside (λ p. says.Thread n (Some p)) (word_at text process) (λ p. (tt, refl)))) tt
 thread_said text _ = tt
 
-reply_said : (text : List ℕ) (row : List Token) → IfSome (reply_row text row) IsSaid
+reply_said : (text : List ℕ) (row : List Token) → IfSome (reply_row text row) IsSaidOutside
 reply_said text [] = tt
-reply_said text (binary ∷ filter) = if_either IsSaid _ (Some (says.Reply _ _)) None tt tt
+reply_said text (binary ∷ filter) = if_either IsSaidOutside _ (Some (says.Reply _ _)) None (tt, refl) tt
 
-store_said : (text : List ℕ) (row : List Token) → IfSome (store_row text row) IsSaid
-store_said text (place ∷ word ∷ []) = then_any IsSaid (λ p. option_map (says.Store p) (number_at text word)) (word_place_at text place) (λ p. map_any IsSaid (says.Store p) (number_at text word) (λ w. tt))
+below_bound : (bound n : ℕ) (b : Bool) → nat_lt n bound ≡ b → IfSome (if b then Some n else None) (λ p. p < bound)
+below_bound bound n true is = ltb-true n bound is
+below_bound bound n false is = tt
+
+word_within : (text : List ℕ) (token : Token) → IfSome (word_place_at text token) (λ p. p < SPACE_WORDS)
+word_within text token = then_any (λ p. p < SPACE_WORDS) (number_below SPACE_WORDS) (number_at text token) (λ n. below_bound SPACE_WORDS n (nat_lt n SPACE_WORDS) refl)
+
+store_said : (text : List ℕ) (row : List Token) → IfSome (store_row text row) IsSaidInside
+store_said text (place ∷ word ∷ []) =
+    if_then (λ p. p < SPACE_WORDS) IsSaidInside (λ p. option_map (says.Store p) (number_at text word)) (word_place_at text place) (word_within text place)
+    (λ p within. map_any IsSaidInside (says.Store p) (number_at text word) (λ w. (within, refl)))
 store_said text _ = tt
 
-put_said : (text : List ℕ) (row : List Token) → IfSome (put_row text row) IsSaid
-put_said text (at ∷ quoted ∷ []) = then_any IsSaid _ (quoted_at text quoted) (λ bytes. then_any IsSaid (put_at bytes) (number_at text at) (λ n. map_any IsSaid (λ p. says.Put p bytes) (put_place bytes n) (λ p. tt)))
+abbrev IsTextWithin : List ℕ → ℕ → Type 0
+IsTextWithin bytes place = 8 * place + length bytes < SPACE_BYTES
+
+text_within : (bytes : List ℕ) (at : ℕ) (a b : Bool) → nat_lt (at + length bytes) SPACE_BYTES ≡ b → IfSome (if a && b then Some (at / 8) else None) (IsTextWithin bytes)
+text_within bytes at true true is = let within = ltb-true (at + length bytes) SPACE_BYTES is in omega (arith, within)
+text_within bytes at true false is = tt
+text_within bytes at false b is = tt
+
+put_said : (text : List ℕ) (row : List Token) → IfSome (put_row text row) IsSaidInside
+put_said text (at ∷ quoted ∷ []) = then_any IsSaidInside _ (quoted_at text quoted) (λ bytes. then_any IsSaidInside (put_at bytes) (number_at text at)
+    (λ n. if_map (IsTextWithin bytes) IsSaidInside (λ p. says.Put p bytes) (put_place bytes n) (text_within bytes n (n % 8 == 0) (nat_lt (n + length bytes) SPACE_BYTES) refl) (λ p within. (within, refl))))
 put_said text _ = tt
 
-call_said : (text : List ℕ) (row : List Token) → IfSome (call_row text row) IsSaid
+call_said : (text : List ℕ) (row : List Token) → IfSome (call_row text row) IsSaidInside
 call_said text [] = tt
 call_said text (name ∷ numbers) =
-    if_then (λ c. c ≢ calls.Fork) IsSaid _ (call_at text name)
+    if_then (λ c. c ≢ calls.Fork) IsSaidInside _ (call_at text name)
     (if_either (λ c. c ≢ calls.Fork) (is_word name.kind) (option_and_then unless_fork (call_named (text_of_token text name))) None (then_any (λ c. c ≢ calls.Fork) unless_fork (call_named (text_of_token text name)) not_fork) tt)
-    (λ call other. map_any IsSaid (says.Call call) (registers text numbers) (λ regs. other))
+    (λ call other. map_any IsSaidInside (says.Call call) (registers text numbers) (λ regs. (other, refl)))
 
-fork_said : (text : List ℕ) (row : List Token) → IfSome (fork_row text row) IsSaid
-fork_said text (name ∷ []) = map_any IsSaid says.Fork (word_at text name) (λ n. tt)
+fork_said : (text : List ℕ) (row : List Token) → IfSome (fork_row text row) IsSaidInside
+fork_said text (name ∷ []) = map_any IsSaidInside says.Fork (word_at text name) (λ n. (tt, refl))
 fork_said text _ = tt
 
-end_said : (row : List Token) → IfSome (end_row row) IsSaid
-end_said [] = tt
+end_said : (row : List Token) → IfSome (end_row row) IsSaidInside
+end_said [] = (tt, refl)
 end_said (token ∷ tokens) = tt
 
-outer_said : (text : List ℕ) (keyword : Token) (row : List Token) → IfSome (outer_row text keyword row) IsSaid
+outer_said : (text : List ℕ) (keyword : Token) (row : List Token) → IfSome (outer_row text keyword row) IsSaidOutside
 outer_said text keyword row =
-    if_either IsSaid (is_keyword text (codes "user") keyword) _ _ (user_said text row)
-    (if_either IsSaid (is_keyword text (codes "group") keyword) _ _ (group_said text row)
-    (if_either IsSaid (is_keyword text (codes "dir") keyword) _ _ (dir_said text row)
-    (if_either IsSaid (is_keyword text (codes "file") keyword) _ _ (file_said text row)
-    (if_either IsSaid (is_keyword text (codes "link") keyword) _ _ (link_said text row)
-    (if_either IsSaid (is_keyword text (codes "process") keyword) _ _ (process_said text row)
-    (if_either IsSaid (is_keyword text (codes "thread") keyword) _ _ (thread_said text row)
-    (if_either IsSaid (is_keyword text (codes "reply") keyword) _ None (reply_said text row) tt)))))))
+    if_either IsSaidOutside (is_keyword text (codes "user") keyword) _ _ (user_said text row)
+    (if_either IsSaidOutside (is_keyword text (codes "group") keyword) _ _ (group_said text row)
+    (if_either IsSaidOutside (is_keyword text (codes "dir") keyword) _ _ (dir_said text row)
+    (if_either IsSaidOutside (is_keyword text (codes "file") keyword) _ _ (file_said text row)
+    (if_either IsSaidOutside (is_keyword text (codes "link") keyword) _ _ (link_said text row)
+    (if_either IsSaidOutside (is_keyword text (codes "process") keyword) _ _ (process_said text row)
+    (if_either IsSaidOutside (is_keyword text (codes "thread") keyword) _ _ (thread_said text row)
+    (if_either IsSaidOutside (is_keyword text (codes "reply") keyword) _ None (reply_said text row) tt)))))))
 
-inner_said : (text : List ℕ) (keyword : Token) (row : List Token) → IfSome (inner_row text keyword row) IsSaid
+inner_said : (text : List ℕ) (keyword : Token) (row : List Token) → IfSome (inner_row text keyword row) IsSaidInside
 inner_said text keyword row =
-    if_either IsSaid (is_keyword text (codes "store") keyword) _ _ (store_said text row)
-    (if_either IsSaid (is_keyword text (codes "put") keyword) _ _ (put_said text row)
-    (if_either IsSaid (is_keyword text (codes "call") keyword) _ _ (call_said text row)
-    (if_either IsSaid (is_keyword text (codes "fork") keyword) _ _ (fork_said text row)
-    (if_either IsSaid (is_keyword text (codes "end") keyword) _ None (end_said row) tt))))
+    if_either IsSaidInside (is_keyword text (codes "store") keyword) _ _ (store_said text row)
+    (if_either IsSaidInside (is_keyword text (codes "put") keyword) _ _ (put_said text row)
+    (if_either IsSaidInside (is_keyword text (codes "call") keyword) _ _ (call_said text row)
+    (if_either IsSaidInside (is_keyword text (codes "fork") keyword) _ _ (fork_said text row)
+    (if_either IsSaidInside (is_keyword text (codes "end") keyword) _ None (end_said row) tt))))
 
-row_said : (text : List ℕ) (inside : Bool) (row : List Token) → IfSome (statement_of text inside row) IsSaid
+row_said : (text : List ℕ) (inside : Bool) (row : List Token) → IfSome (statement_of text inside row) (IsSaidIn inside)
 row_said text inside [] = tt
 row_said text true (keyword ∷ row) = inner_said text keyword row
 row_said text false (keyword ∷ row) = outer_said text keyword row
 
+-- ---- lines
+
+if_first : {A : Type 0} (P Q : A → Type 0) (o : Option A) → IfSome o (λ a. P a × Q a) → IfSome o P
+if_first P Q None is = tt
+if_first P Q (Some a) is = is.0
+
+if_second : {A : Type 0} (P Q : A → Type 0) (o : Option A) → IfSome o (λ a. P a × Q a) → IfSome o Q
+if_second P Q None is = tt
+if_second P Q (Some a) is = is.1
+
 -- each line of a script says such a statement, or nothing
 pub lines_said : (text : List ℕ) (inside : Bool) (rows : List (List Token)) → AreSaid (lines_from text inside rows)
 lines_said text inside [] = tt
-lines_said text inside (row ∷ rows) = (row_said text inside row, lines_said text (is_inside_behind inside (statement_of text inside row)) rows)
+lines_said text inside (row ∷ rows) =
+    (if_first IsSaid (λ s. is_of_body s ≡ inside) (statement_of text inside row) (row_said text inside row), lines_said text (is_inside_behind inside (statement_of text inside row)) rows)
+
+-- and says it where it may
+pub lines_placed : (text : List ℕ) (inside : Bool) (rows : List (List Token)) → ArePlaced inside (lines_from text inside rows)
+lines_placed text inside [] = tt
+lines_placed text inside (row ∷ rows) =
+    (if_second IsSaid (λ s. is_of_body s ≡ inside) (statement_of text inside row) (row_said text inside row), lines_placed text (is_inside_behind inside (statement_of text inside row)) rows)

@@ -1,9 +1,9 @@
 -- A run can start with what lines without a fault say.
-use Rattle.std.proofs.Common.{◌≡◌, ℕ, zero, suc, ◌+◌, ◌≤◌, Bool, true, false, ◌||◌, ◌&&◌, not, nat_lt, List, [], ◌∷◌, ◌++◌, length, map, slice_get, Option, Some, None, Result, Ok, Err, refl, sym, ap, ◌∙◌, subst, arith}
+use Rattle.std.proofs.Common.{◌≡◌, ℕ, zero, suc, ◌≤◌, true, false, ◌||◌, nat_lt, List, [], ◌∷◌, length, map, slice_get, Option, Some, None, Ok, refl, sym, ap, ◌∙◌, arith}
 use Rattle.std.proofs.lemmas.Bool.{ltb-false}
 use Rattle.std.proofs.lemmas.List.Elements.{All-from_recursion}
 use Rattle.std.specs.List.{All, AllByRecursion, filter_map}
-use Rattle.std.specs.Prelude.{IfOk, is_some, unwrap_or}
+use Rattle.std.specs.Prelude.{unwrap_or}
 use Rattle.st_base.specs.Numbered.{item_at_number}
 use Rattle.st_filter.specs.declared.set.BinaryPolicy.{BinaryPolicy}
 use Rattle.st_law.specs.Inputs.{HasProcess, IsInstruction, IsStartable}
@@ -14,40 +14,30 @@ use Rattle.st_names.specs.Name.{printed_name}
 use Rattle.st_names.specs.declared.limits.TheConstants.{LONGEST_NAME}
 use Rattle.st_lex.specs.Rows.{rows}
 use Rattle.st_lex.specs.Tokens.{lexed_text}
-use Rattle.st_lex.specs.declared.token.LexFault.{LexFault}
-use Rattle.st_script_faults.specs.Faults.{Whole, first_fault, first_of, lexical, script_fault, threads_behind, whole_of, with_thread}
+use Rattle.st_policy.proofs.Rows.{each-append}
+use Rattle.st_script_faults.specs.Faults.{Whole, first_fault, threads_behind}
 use Rattle.st_script_faults.specs.Names.{Name, Names, has_name, no_names, with_says}
-use Rattle.st_script_faults.specs.declared.fault.ScriptFault.{ScriptFault}
 use Rattle.st_statements.specs.Lines.{looked_at}
 use Rattle.st_statements.specs.Parts.{is_long}
 use Rattle.st_statements.specs.Statements.{lines_in}
 use Rattle.st_statements.specs.declared.statement.ScriptLine.{ScriptLine}
-use Rattle.st_statements.specs.declared.statement.Statement.{Statement}
 use Rattle.st_statements.specs.declared.statement.Statement.TheVariants as says
 use Rattle.st_trace.specs.declared.start.ThreadRow.{ThreadRow}
 use Rattle.st_whole_script.specs.Bounds.{IsWithinBounds}
-use Rattle.st_whole_script.specs.Reading.{body_in, process_said, processes_behind, script_in, script_with, store_of, stores, thread_said, thread_with, threads_in, unless_faulty}
+use Rattle.st_whole_script.specs.Reading.{body_in, process_said, processes_behind, script_in, script_with, store_of, stores, threads_in}
 use Rattle.st_whole_script.specs.Startable.{CanStart, input_with}
 use Rattle.st_whole_script.specs.declared.reading.ReadScript.{ReadScript}
-use Rattle.st_whole_script.proofs.Counted.{NoFault, AtEnd, Behind, at_most_one, none_has, not_false, numbered_within, or_left, or_right, within_bounds}
+use Rattle.st_whole_script.proofs.Counted.{NoFault, AtEnd, Behind, known_by, none_has, numbered_within, or_left, or_right, threads_within, within_bounds}
+use Rattle.st_whole_script.proofs.ReadTexts.{read_has, whole_in}
 use Rattle.st_whole_script.proofs.Said.{AreSaid, lines_said}
 use Rattle.st_whole_script.proofs.Slashes.{normal_slashed, printed_short}
 use Rattle.st_whole_script.proofs.Standing.{objects_stand}
 
 -- ---- instructions
 
-all_append : {A : Type 0} (P : A → Type 0) (xs ys : List A) → AllByRecursion P xs → AllByRecursion P ys → AllByRecursion P (xs ++ ys)
-all_append P [] ys here there = there
-all_append P (x ∷ xs) ys here there = (here.0, all_append P xs ys here.1 there)
-
 all_map : {A B : Type 0} (P : B → Type 0) (f : A → B) (xs : List A) → ((x : A) → P (f x)) → AllByRecursion P (map f xs)
 all_map P f [] all = tt
 all_map P f (x ∷ xs) all = (all x, all_map P f xs all)
-
--- the fork of a line without a fault names a thread
-known_by : (cut there : Bool) → cut ≡ false → (not cut && not there) ≡ false → there ≡ true
-known_by true there whole known = absurd (cc)
-known_by false there whole known = not_false there known
 
 module _ (i : Input) (whole : Whole) (threads : List Name) (uncut : whole.is_cut ≡ false) (threads_are : whole.threads ≡ threads) (few : length threads ≤ length i.start.threads) where
   bodies_are : (above : Names) (lines : List ScriptLine) → NoFault whole above lines → AreSaid lines → AllByRecursion (IsInstruction i) (body_in threads lines)
@@ -59,7 +49,7 @@ module _ (i : Input) (whole : Whole) (threads : List Name) (uncut : whole.is_cut
       let among : has_name threads name ≡ true = ap (λ names. has_name names name) (sym threads_are) ∙ there in
       (numbered_within threads name (length i.start.threads) among few, bodies_are (with_says above (Some (says.Fork name))) lines rest said.1)
   bodies_are above _ (Behind _ n (says.Put place bytes) lines ok rest) said =
-      all_append (IsInstruction i) (stores place bytes) (body_in threads lines) (all_map (IsInstruction i) (store_of place bytes) _ (λ k. tt)) (bodies_are (with_says above (Some (says.Put place bytes))) lines rest said.1)
+      each-append (IsInstruction i) (stores place bytes) (body_in threads lines) (all_map (IsInstruction i) (store_of place bytes) _ (λ k. tt)) (bodies_are (with_says above (Some (says.Put place bytes))) lines rest said.1)
   bodies_are above _ (Behind _ n says.End lines ok rest) said = tt
   bodies_are above _ (Behind _ n s lines ok rest) said = bodies_are (with_says above (Some s)) lines rest said.1
 
@@ -70,22 +60,6 @@ module _ (i : Input) (whole : Whole) (threads : List Name) (uncut : whole.is_cut
     threads_have_bodies processes (with_says above (Some (says.Thread name process))) lines rest said.1,
   )
   threads_have_bodies processes above _ (Behind _ n s lines ok rest) said = threads_have_bodies processes (with_says above (Some s)) lines rest said.1
-
--- ---- counts
-
-abbrev threads_with : List Name → List Name → List ScriptLine → Option (Option Name) → List ThreadRow
-threads_with ps ts lines (Some process) = thread_with ps process (body_in ts lines) ∷ threads_in ps ts lines
-threads_with ps ts lines None = threads_in ps ts lines
-
-threads_by : (ps ts names : List Name) (o : Option Statement) (lines : List ScriptLine) → length (threads_behind (with_thread names o) lines) ≤ length (with_thread names o) + length (threads_in ps ts lines) →
-    length (threads_behind (with_thread names o) lines) ≤ length names + length (threads_with ps ts lines (thread_said o))
-threads_by ps ts names None lines ih = ih
-threads_by ps ts names (Some (says.Thread name process)) lines ih = let one = at_most_one names name (has_name names name) in omega (arith, ih, one)
-threads_by ps ts names (Some s) lines ih = ih
-
-threads_within : (ps ts names : List Name) (lines : List ScriptLine) → length (threads_behind names lines) ≤ length names + length (threads_in ps ts lines)
-threads_within ps ts names [] = omega arith
-threads_within ps ts names (line ∷ lines) = threads_by ps ts names line.says lines (threads_within ps ts (with_thread names line.says) lines)
 
 -- ---- owners
 
@@ -142,34 +116,6 @@ can_start whole lines uncut threads_are none said =
       directories = All-from_recursion _ _ (directories_short whole no_names lines ok said);
     }
 
--- ---- texts
-
-no_first : (a b : Option ScriptFault) → first_of a b ≡ None → (a ≡ None) × (b ≡ None)
-no_first (Some fault) b e = absurd (cc)
-no_first None b e = (refl, e)
-
-not_cut : (broken : Option LexFault) → lexical broken ≡ None → is_some broken ≡ false
-not_cut (Some fault) e = absurd (cc)
-not_cut None e = refl
-
-module _ (text : List ℕ) (options : Options) where
-  abbrev lines : List ScriptLine
-  lines = lines_in text
-
-  abbrev whole : Whole
-  whole = whole_of (is_some (lexed_text text).fault) options lines
-
-  by_fault : (o : Option ScriptFault) → script_fault options (lexed_text text).fault lines ≡ o → (script : ReadScript) → unless_faulty o (script_with whole.env lines) ≡ Ok script → CanStart script
-  by_fault (Some fault) here script is = absurd (cc)
-  by_fault None here script is =
-      let none = no_first (first_fault whole no_names lines) (lexical (lexed_text text).fault) here in
-      let same : script_with whole.env lines ≡ script = cc in
-      subst CanStart same (can_start whole lines (not_cut (lexed_text text).fault none.1) refl none.0 (lines_said text false (rows (looked_at (lexed_text text)))))
-
 -- a run can start with what is read
 pub script_can_start : (text : List ℕ) (options : Options) (script : ReadScript) → script_in text options ≡ Ok script → CanStart script
-script_can_start text options script is = by_fault text options (script_fault options (lexed_text text).fault (lines_in text)) refl script is
-
-pub result_can_start : {E : Type 0} (text : List ℕ) (options : Options) (r : Result ReadScript E) → IfOk r (λ script. script_in text options ≡ Ok script) → IfOk r CanStart
-result_can_start text options (Ok script) is = script_can_start text options script is
-result_can_start text options (Err error) is = tt
+script_can_start text options = read_has CanStart text options (λ uncut none. can_start (whole_in text options) (lines_in text) uncut refl none (lines_said text false (rows (looked_at (lexed_text text)))))

@@ -1,6 +1,7 @@
 ghost use Rattle.std.specs.Prelude.{◌≡◌, ◌≢◌, ◌^◌, ◌<◌, ℕ, List, None, Ok, Err, length, IfOk, IfErr};
 ghost use Rattle.std.specs.List.{filter_map};
 ghost use Rattle.st_law.specs.declared.input.Options.{Options};
+ghost use Rattle.st_reached.specs.Scripts.{IsBounded};
 ghost use Rattle.st_whole_script.specs.Bounds.{IsWithinBounds};
 ghost use Rattle.st_whole_script.specs.Startable.{CanStart};
 ghost use Rattle.st_whole_script.specs.declared.reading.ReadScript.{ReadScript};
@@ -261,6 +262,7 @@ pub fn read_script(alloc: Global, text: &[u8], options: &Options) -> Result<Read
     ensures fault { IfErr result (λ f. f ≢ ScriptFault.NoMemory → script_in text.now options.now ≡ Err f) }
     ensures bounds { IfOk result IsWithinBounds }
     ensures can_start { IfOk result CanStart }
+    ensures bounded { IfOk result (λ script. IsBounded script.start) }
 {
     let lexed = tokens(alloc, text)?;
     let lines = lines_of_tokens(alloc, text, looked_at(&lexed))?;
@@ -270,4 +272,9 @@ pub fn read_script(alloc: Global, text: &[u8], options: &Options) -> Result<Read
 /// A run can start with what is read, under any policies and with one to eight workers.
 pub fn what_is_read_can_start()
     ensures { (text : List ℕ) (options : Options) (script : ReadScript) → script_in text options ≡ Ok script → CanStart script }
+{}
+
+/// What is read isn't too long, stores into memory only, and starts each thread in one way at most.
+pub fn what_is_read_is_bounded()
+    ensures { (text : List ℕ) (options : Options) (script : ReadScript) → script_in text options ≡ Ok script → IsBounded script.start }
 {}
