@@ -10,3 +10,4 @@ mod Slashes
 mod Standing
 mod Startable
 mod StartedOnce
+mod Ungranted

@@ -2,6 +2,7 @@
 #![tactic(auto)]
 
 pub mod bodies;
+pub mod policies;
 pub mod reading;
 
 pub use reading::{ReadScript, read_script};
