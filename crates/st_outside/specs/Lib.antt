@@ -3,3 +3,4 @@ pub mod Files
 pub mod MemoryFiles
 pub mod MemorySink
 pub mod Sink
+pub mod StdFiles

@@ -5,12 +5,13 @@ use Rattle.st_outside.specs.Files.{FileView, Absent, FileBytes}
 use Rattle.st_outside.specs.declared.memory_files.HeldFile.{HeldFile}
 
 -- files in memory: those that were added, in that order, how many fetches there were,
--- the numbers of the fetches that fail, and the count of faults
+-- the numbers of the fetches that fail, the count of faults, and the names that were asked for
 pub record FilesInMemory : Type 0 where
   pub files : List HeldFile
   pub fetches : ℕ
   pub failing : List ℕ
   pub faults : ℕ
+  pub asked : List (List ℕ)
 
 -- the next fetch fails: its number is one of those named
 abbrev pub fetch_fails : FilesInMemory → Bool

@@ -1,4 +1,4 @@
-ghost use Rattle.std.specs.Prelude.{◌≡◌, ◌≢◌, ℕ, ◌≤◌, List, length, IfOk};
+ghost use Rattle.std.specs.Prelude.{◌≡◌, ◌≢◌, ℕ, ◌≤◌, List, [], ◌∷◌, ◌++◌, length, IfOk};
 ghost use Rattle.st_outside.specs.Count.{HasRisen};
 ghost use Rattle.st_outside.specs.Files.{FileView, CanHold, CanLack, CanExceed, CanFit};
 
@@ -26,15 +26,19 @@ pub enum FetchFault {
     NoMemory,
 }
 
-/// Files by name. Each name holds something, where that is told, and a count of faults never falls.
+/// Files by name. Each name holds something, where that is told; the names that were asked for are known, in order; and a count of
+/// faults never falls.
 pub trait Files {
     ghost held: { Self → List ℕ → FileView };
 
+    ghost asked: { Self → List (List ℕ) };
+
     ghost faults: { Self → ℕ };
 
-    /// The whole content of the file of that name.
+    /// The whole content of the file of that name, which is asked for whatever comes.
     fn fetch(&mut self, alloc: Global, name: &Text) -> Result<Text, FetchFault>
         ensures held { held self.new ≡ held self.old }
+        ensures asked { asked self.new ≡ asked self.old ++ name.now ∷ [] }
         ensures content { IfOk result (λ text. CanHold (held self.old name.now) text) }
         ensures within { IfOk result (λ text. length text ≤ FILE_LIMIT) }
         ensures missing { result ≡ Err FetchFault.Missing → CanLack (held self.old name.now) }

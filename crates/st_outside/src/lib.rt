@@ -3,6 +3,7 @@
 
 mod count;
 pub mod files;
+pub mod history;
 pub mod memory_files;
 pub mod memory_sink;
 pub mod sink;
@@ -10,6 +11,7 @@ pub mod std_files;
 pub mod std_sink;
 
 pub use files::{FILE_LIMIT, FetchFault, Files};
+pub use history::History;
 pub use memory_files::MemoryFiles;
 pub use memory_sink::MemorySink;
 pub use sink::{Failed, Sink, write_all};

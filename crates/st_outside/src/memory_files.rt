@@ -5,6 +5,7 @@ ghost use Rattle.st_outside.specs.MemoryFiles.{view_of_name, fetch_fails};
 
 use crate::count::{contains_call, one_more};
 use crate::files::{FILE_LIMIT, FetchFault, Files};
+use crate::history::History;
 use st_base::Text;
 use std::alloc::{AllocError, Global};
 use std::marker::Model;
@@ -17,12 +18,13 @@ pub struct HeldFile {
 }
 
 /// Files in memory. They tell what each name holds, and the named fetches fail.
-#[derive(Debug, Drop)]
+#[derive(Drop)]
 pub struct MemoryFiles {
     files: Vec<HeldFile>,
     fetches: u64,
     failing: Vec<u32>,
     faults: u64,
+    asked: History<Text>,
 }
 
 impl Model for MemoryFiles {
@@ -30,19 +32,20 @@ impl Model for MemoryFiles {
 
     ghost Value = { FilesInMemory };
 
-    ghost view = { λ m. record { files = m.files.items; fetches = m.fetches; failing = m.failing.items; faults = m.faults } };
+    ghost view = { λ m. record { files = m.files.items; fetches = m.fetches; failing = m.failing.items; faults = m.faults; asked = m.asked.items } };
 }
 
 impl MemoryFiles {
     /// No files, and no fetch that fails.
     pub fn new(alloc: Global) -> Self
-        ensures { result ≡ record { files = []; fetches = 0; failing = []; faults = 0 } }
+        ensures { result ≡ record { files = []; fetches = 0; failing = []; faults = 0; asked = [] } }
     {
         MemoryFiles {
             files: Vec::new(alloc),
             fetches: 0,
             failing: Vec::new(alloc),
             faults: 0,
+            asked: History::new(),
         }
     }
 
@@ -90,10 +93,13 @@ fn content_of<'a>(files: &'a [HeldFile], name: &Text) -> Option<&'a Text>
 impl Files for MemoryFiles {
     ghost held = { λ m. view_of_name m.files };
 
+    ghost asked = { λ m. m.asked };
+
     ghost faults = { λ m. m.faults };
 
     fn fetch(&mut self, alloc: Global, name: &Text) -> Result<Text, FetchFault>
         ensures held { view_of_name self.new.files ≡ view_of_name self.old.files }
+        ensures asked { self.new.asked ≡ self.old.asked ++ name.now ∷ [] }
         ensures content { IfOk result (λ text. CanHold (view_of_name self.old.files name.now) text) }
         ensures within { IfOk result (λ text. length text ≤ FILE_LIMIT) }
         ensures missing { result ≡ Err FetchFault.Missing → CanLack (view_of_name self.old.files name.now) }
@@ -107,9 +113,10 @@ impl Files for MemoryFiles {
         ensures lacks { (result ≡ Err FetchFault.Missing) ↔ (IsFalse (fetch_fails self.old) × (view_of_name self.old.files name.now ≡ Absent)) }
         ensures exceeds { (result ≡ Err FetchFault.TooLong) ↔ (IsFalse (fetch_fails self.old) × CanExceed (view_of_name self.old.files name.now)) }
         ensures gives { IfOk result (λ text. view_of_name self.old.files name.now ≡ FileBytes text) }
-        ensures after { result ≢ Err FetchFault.Failed → self.new ≡ record self.old { fetches = next_count self.old.fetches } }
-        ensures after_failure { result ≡ Err FetchFault.Failed → self.new ≡ record self.old { fetches = next_count self.old.fetches; faults = next_count self.old.faults } }
+        ensures after { result ≢ Err FetchFault.Failed → self.new ≡ record self.old { fetches = next_count self.old.fetches; asked = self.old.asked ++ name.now ∷ [] } }
+        ensures after_failure { result ≡ Err FetchFault.Failed → self.new ≡ record self.old { fetches = next_count self.old.fetches; faults = next_count self.old.faults; asked = self.old.asked ++ name.now ∷ [] } }
     {
+        self.asked = self.asked.and(name);
         self.fetches = one_more(self.fetches);
         if contains_call(&self.failing, self.fetches) {
             self.faults = one_more(self.faults);

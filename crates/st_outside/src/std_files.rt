@@ -1,11 +1,15 @@
-ghost use Rattle.std.specs.Prelude.{◌≡◌, ◌≢◌, ℕ, ◌<◌, ◌≤◌, length, IfOk, IfSome};
-ghost use Rattle.st_outside.specs.Files.{Unknown};
+ghost use Rattle.std.specs.Prelude.{◌≡◌, ◌≢◌, ℕ, ◌<◌, ◌≤◌, ◌↔◌, [], ◌∷◌, ◌++◌, length, IfOk, IfSome, IsUtf8};
+ghost use Rattle.std.specs.IoError.{error_kind};
+ghost use Rattle.st_outside.specs.Count.{HasRisen};
+ghost use Rattle.st_outside.specs.Files.{CanHold, CanLack, CanExceed, CanFit};
+ghost use Rattle.st_outside.specs.StdFiles.{untold};
 
 use crate::count::one_more;
 use crate::files::{FILE_LIMIT, FetchFault, Files};
+use crate::history::History;
 use st_base::Text;
 use std::alloc::Global;
-use std::io::{ErrorKind, Read};
+use std::io::{self, ErrorKind, Read};
 use std::marker::Model;
 use std::{fs, rt, str};
 
@@ -14,38 +18,59 @@ use std::{fs, rt, str};
 pub struct StdFiles<'a, R: rt::Files> {
     rt: &'a R,
     faults: u64,
+    asked: History<Text>,
 }
 
 impl<'a, R: rt::Files> Model for StdFiles<'a, R> {
-    ghost use Rattle.std.specs.Prelude.{ℕ};
+    ghost use Rattle.st_outside.specs.StdFiles.{HostFiles};
 
-    ghost Value = { ℕ };
+    ghost Value = { HostFiles };
 
-    ghost view = { λ f. f.faults };
+    ghost view = { λ f. record { asked = f.asked.items; faults = f.faults } };
 }
 
 impl<'a, R: rt::Files> StdFiles<'a, R> {
     /// The files that this runtime opens.
     pub fn new(rt: &'a R) -> Self
-        ensures { result ≡ 0 }
+        ensures { result ≡ record { asked = []; faults = 0 } }
     {
-        StdFiles { rt, faults: 0 }
+        StdFiles {
+            rt,
+            faults: 0,
+            asked: History::new(),
+        }
     }
 
     /// How many faults there were; at 2^64 - 1 the count stays.
     pub fn faults(&self) -> u64
-        ensures { result ≡ self.now }
+        ensures { result ≡ self.now.faults }
     {
         self.faults
     }
 }
 
 impl<'a, R: rt::Files> Files for StdFiles<'a, R> {
-    ghost held = { λ _ _. Unknown };
+    ghost held = { λ _. untold };
 
-    ghost faults = { λ f. f };
+    ghost asked = { λ f. f.asked };
 
-    fn fetch(&mut self, alloc: Global, name: &Text) -> Result<Text, FetchFault> {
+    ghost faults = { λ f. f.faults };
+
+    fn fetch(&mut self, alloc: Global, name: &Text) -> Result<Text, FetchFault>
+        ensures held { untold ≡ untold }
+        ensures asked { self.new.asked ≡ self.old.asked ++ name.now ∷ [] }
+        ensures content { IfOk result (λ text. CanHold (untold name.now) text) }
+        ensures within { IfOk result (λ text. length text ≤ FILE_LIMIT) }
+        ensures missing { result ≡ Err FetchFault.Missing → CanLack (untold name.now) }
+        ensures too_long { result ≡ Err FetchFault.TooLong → CanExceed (untold name.now) }
+        ensures no_memory { result ≡ Err FetchFault.NoMemory → CanFit (untold name.now) }
+        ensures failed { result ≡ Err FetchFault.Failed → HasRisen self.old.faults self.new.faults }
+        ensures quiet { result ≢ Err FetchFault.Failed → self.new.faults ≡ self.old.faults }
+
+        // The host has no file whose name isn't UTF-8.
+        ensures no_text { (IsUtf8 name.now → ⊥) → result ≡ Err FetchFault.Failed }
+    {
+        self.asked = self.asked.and(name);
         let result = read_named(self.rt, alloc, name);
         if matches!(&result, Err(FetchFault::Failed)) {
             self.faults = one_more(self.faults);
@@ -54,15 +79,26 @@ impl<'a, R: rt::Files> Files for StdFiles<'a, R> {
     }
 }
 
-// The file of that name. Only where the host says that there is none it is missing.
+// Why a file wasn't opened. Only where the host says that there is none it is missing.
+fn fault_of_open(error: &io::Error) -> FetchFault
+    ensures missing { (result ≡ FetchFault.Missing) ↔ (error_kind error.now ≡ ErrorKind.NotFound) }
+    ensures failed { result ≢ FetchFault.Missing → result ≡ FetchFault.Failed }
+{
+    match error.kind() {
+        ErrorKind::NotFound => FetchFault::Missing,
+        _ => FetchFault::Failed,
+    }
+}
+
+// The file of that name.
 fn read_named<R: rt::Files>(rt: &R, alloc: Global, name: &Text) -> Result<Text, FetchFault>
     ensures within { IfOk result (λ text. length text ≤ FILE_LIMIT) }
+    ensures no_text { (IsUtf8 name.now → ⊥) → result ≡ Err FetchFault.Failed }
 {
     let path = str::from_utf8(name.bytes()).map_err(|_| FetchFault::Failed)?;
     match fs::open(rt, path) {
         Ok(mut file) => read_text(&mut file, alloc),
-        Err(error) if error.kind() == ErrorKind::NotFound => Err(FetchFault::Missing),
-        Err(_) => Err(FetchFault::Failed),
+        Err(error) => Err(fault_of_open(&error)),
     }
 }
 
@@ -123,12 +159,15 @@ mod tests {
         assert_eq!(rt; got, Err(FetchFault::TooLong));
         fs::remove_file(&rt, path)?;
 
-        // A name, what comes, and the count of faults after it: no such file, a directory, no UTF-8, a name through a file.
+        // A name, what comes, and the count of faults after it: no such file, a directory, no UTF-8, a name through a file, a file
+        // whose reading is refused, a name whose opening is.
         for (name, want, faults) in [
             (path.as_bytes(), FetchFault::Missing, 0),
             (b"/tmp", FetchFault::Failed, 1),
             (b"/tmp/\xff", FetchFault::Failed, 2),
             (b"/etc/passwd/x", FetchFault::Failed, 3),
+            (b"/proc/self/mem", FetchFault::Failed, 4),
+            ([b'x'; 256].as_slice(), FetchFault::Failed, 5),
         ] {
             let name = Text::of(rt.alloc(), name)?;
             let got = files

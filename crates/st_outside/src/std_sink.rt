@@ -56,11 +56,73 @@ impl<'a, R: Print> Sink for StdSink<'a, R> {
 mod tests {
     use super::*;
     use crate::sink::write_all;
+    use std::fmt::Display;
+    use std::{fs, io};
+
+    // The host's disk that is always full.
+    #[derive(Drop)]
+    struct FullDisk<'a>(&'a HostRuntime);
+
+    impl Print for FullDisk<'_> {
+        fn print<D: Display + Drop>(&self, _value: D) -> io::Result<()> {
+            Ok(())
+        }
+
+        fn println<D: Display + Drop>(&self, _value: D) -> io::Result<()> {
+            Ok(())
+        }
+
+        fn write_all(&self, bytes: &[u8]) -> io::Result<()> {
+            fs::write(self.0, "/dev/full", bytes)
+        }
+    }
+
+    // A device that takes so many bytes at a time, and writes none.
+    #[derive(Drop)]
+    struct Slow(usize);
+
+    impl Print for Slow {
+        fn print<D: Display + Drop>(&self, _value: D) -> io::Result<()> {
+            Ok(())
+        }
+
+        fn println<D: Display + Drop>(&self, _value: D) -> io::Result<()> {
+            Ok(())
+        }
+
+        fn write_all(&self, _bytes: &[u8]) -> io::Result<()> {
+            Ok(())
+        }
+
+        fn write_some(&self, bytes: &[u8]) -> io::Result<usize> {
+            Ok(self.0.min(bytes.len()))
+        }
+    }
 
     #[test]
     fn writes_to_standard_output(rt: HostRuntime) {
         let mut sink = StdSink::new(&rt);
         assert_eq!(rt; write_all(&mut sink, b"standard output\n"), Ok(()));
         assert_eq!(rt; sink.faults(), 0);
+    }
+
+    #[test]
+    fn a_full_disk_is_a_fault(rt: HostRuntime) {
+        let disk = FullDisk(&rt);
+        let mut sink = StdSink::new(&disk);
+        assert_eq!(rt; write_all(&mut sink, b"text"), Err(Failed));
+        assert_eq!(rt; sink.faults(), 1);
+    }
+
+    #[test]
+    fn a_short_write_goes_on(rt: HostRuntime) {
+        let slow = Slow(1);
+        let mut sink = StdSink::new(&slow);
+        assert_eq!(rt; sink.write_piece(b"text"), Ok(1));
+        assert_eq!(rt; write_all(&mut sink, b"text"), Ok(()));
+        let stuck = Slow(0);
+        let mut sink = StdSink::new(&stuck);
+        assert_eq!(rt; write_all(&mut sink, b"text"), Err(Failed));
+        assert_eq!(rt; sink.faults(), 1);
     }
 }
