@@ -1,0 +1,117 @@
+-- What commands are asked to do.
+use Rattle.std.specs.Prelude.{ℕ, Bool, true, false, not, ◌&&◌, nat_le, nat_lt, ◌==◌, if◌then◌else◌, List, [], ◌∷◌, Option, Some, None, option_map, unwrap_or}
+use Rattle.std.specs.List.{list_all}
+use Rattle.st_law.specs.declared.input.Mode.{Mode}
+use Rattle.st_law.specs.declared.input.Mode.TheVariants.{Enforce}
+use Rattle.st_law.specs.declared.input.Options.{Options}
+use Rattle.st_command.specs.Words.{Word, has_dash}
+use Rattle.st_command.specs.Given.{GivenOption, PolicyFile, ModeIs, IdsAre, WorkersAre, PrintIs, count_of, Taken}
+use Rattle.st_command.specs.declared.given.Kind.{Kind}
+use Rattle.st_command.specs.declared.given.Kind.TheVariants as kind
+use Rattle.st_command.specs.declared.given.Print.{Print}
+use Rattle.st_command.specs.declared.given.Print.TheVariants.{Audit}
+
+-- what `step` is asked to do: its files by name, the options of its run, and what is printed of it
+pub record StepWords : Type 0 where
+  pub policies : List Word
+  pub script : Word
+  pub schedule : Word
+  pub options : Options
+  pub print : Print
+
+-- what `check` is asked to do: its files by name, and the ids of `-c`
+pub record CheckWords : Type 0 where
+  pub policy : Word
+  pub script : Option Word
+  pub ids : Option (ℕ × ℕ)
+
+-- ---- what options say
+
+abbrev pub policy_of : GivenOption → Option Word
+policy_of (PolicyFile name) = Some name
+policy_of _ = None
+
+abbrev pub policies_of : List GivenOption → List Word
+policies_of [] = []
+policies_of (option ∷ options) = elim (policy_of option) [ Some name ↦ name ∷ policies_of options | None ↦ policies_of options ]
+
+abbrev pub mode_of : List GivenOption → Option Mode
+mode_of [] = None
+mode_of (ModeIs mode ∷ options) = Some mode
+mode_of (_ ∷ options) = mode_of options
+
+abbrev pub ids_of : List GivenOption → Option (ℕ × ℕ)
+ids_of [] = None
+ids_of (IdsAre uid gid ∷ options) = Some (uid, gid)
+ids_of (_ ∷ options) = ids_of options
+
+abbrev pub workers_of : List GivenOption → Option ℕ
+workers_of [] = None
+workers_of (WorkersAre count ∷ options) = Some count
+workers_of (_ ∷ options) = workers_of options
+
+abbrev pub print_of : List GivenOption → Option Print
+print_of [] = None
+print_of (PrintIs print ∷ options) = Some print
+print_of (_ ∷ options) = print_of options
+
+-- what a run is asked to be: without a mode it denies what no filter decides, and it has one worker unless it is told
+abbrev pub options_of : List GivenOption → Options
+options_of given = record {
+  mode = unwrap_or (mode_of given) Enforce;
+  inherit = nat_lt 0 (count_of kind.Inherit given);
+  aliasing = count_of kind.Unaliased given == 0;
+  ids = ids_of given;
+  workers = unwrap_or (workers_of given) 1;
+}
+
+-- what `step` is asked to do by these options and operands; the audit is printed unless it is told
+abbrev pub step_of : List GivenOption → Word → Word → StepWords
+step_of given script schedule = record {
+  policies = policies_of given;
+  script = script;
+  schedule = schedule;
+  options = options_of given;
+  print = unwrap_or (print_of given) Audit;
+}
+
+-- ---- the words behind the command's name
+
+-- the kinds of options that may be given once
+abbrev pub single_kinds : List Kind
+single_kinds = kind.Mode ∷ kind.Inherit ∷ kind.Unaliased ∷ kind.Ids ∷ kind.Workers ∷ kind.Print ∷ []
+
+-- whether options may be given together: at most 8 policy files, and each other kind once
+abbrev pub may_be_given : List GivenOption → Bool
+may_be_given given = nat_le (count_of kind.Policy given) 8 && list_all (λ kind. nat_le (count_of kind given) 1) single_kinds
+
+-- what `step` is asked to do by the words behind its options
+abbrev pub step_with : List GivenOption → List Word → Option StepWords
+step_with given (script ∷ schedule ∷ []) =
+    if not (has_dash script) && (not (has_dash schedule) && may_be_given given) then Some (step_of given script schedule) else None
+step_with given _ = None
+
+-- what `step` is asked to do by its options and the words behind them
+abbrev pub step_in : Taken → Option StepWords
+step_in taken = step_with taken.given taken.rest
+
+-- the ids of `check`, which has no other option
+abbrev pub check_ids : List GivenOption → Option (Option (ℕ × ℕ))
+check_ids [] = Some None
+check_ids (option ∷ []) = option_map Some (ids_of (option ∷ []))
+check_ids _ = None
+
+-- what `check` is asked to do with these ids by the words behind its options
+abbrev pub check_with : Option (ℕ × ℕ) → List Word → Option CheckWords
+check_with ids (policy ∷ []) = if not (has_dash policy) then Some (record { policy = policy; script = None; ids = ids }) else None
+check_with ids (policy ∷ script ∷ []) =
+    if not (has_dash policy) && not (has_dash script) then Some (record { policy = policy; script = Some script; ids = ids }) else None
+check_with ids _ = None
+
+-- what `check` is asked to do by its options and the words behind them
+abbrev pub check_in : Taken → Option CheckWords
+check_in taken = elim (check_ids taken.given) [ Some ids ↦ check_with ids taken.rest | None ↦ None ]
+
+-- the options that the script of `check` is read with: but for the ids those of no words
+abbrev pub check_options : CheckWords → Options
+check_options check = record { mode = Enforce; inherit = false; aliasing = true; ids = check.ids; workers = 1 }

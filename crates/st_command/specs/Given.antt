@@ -1,0 +1,141 @@
+-- Options as they are given, one behind the other.
+use Rattle.std.specs.Prelude.{ℕ, ◌+◌, ◌<◌, ◌≤◌, Bool, true, false, if◌then◌else◌, List, [], ◌∷◌, ◌++◌, codes, decimal, ◌^◌, Option, Some, None, option_map}
+use Rattle.std.specs.Str.{bytes_eq}
+use Rattle.st_law.specs.declared.input.Mode.{Mode}
+use Rattle.st_law.specs.declared.input.Mode.TheVariants.{Enforce, Learn, AskText}
+use Rattle.st_command.specs.Words.{Word, ids_in, workers_in}
+use Rattle.st_command.specs.declared.given.Kind.{Kind}
+use Rattle.st_command.specs.declared.given.Kind.TheVariants as kind
+use Rattle.st_command.specs.declared.given.Print.{Print}
+use Rattle.st_command.specs.declared.given.Print.TheVariants.{Audit, Trace, Schedule, Policy}
+
+-- an option: a policy file, a mode, that policies are inherited, that aliasing is off, ids, a number of workers, or what is printed
+pub data GivenOption : Type 0 where
+  PolicyFile : Word → GivenOption
+  ModeIs : Mode → GivenOption
+  Inherits : GivenOption
+  Unaliased : GivenOption
+  IdsAre : ℕ → ℕ → GivenOption
+  WorkersAre : ℕ → GivenOption
+  PrintIs : Print → GivenOption
+
+-- ---- how options are spelled
+
+abbrev pub mode_word : Mode → Word
+mode_word Enforce = codes "-a"
+mode_word Learn = codes "-A"
+mode_word AskText = codes "-t"
+
+abbrev pub print_word : Print → Word
+print_word Audit = codes "audit"
+print_word Trace = codes "trace"
+print_word Schedule = codes "schedule"
+print_word Policy = codes "policy"
+
+-- the words of an option
+abbrev pub spelled : GivenOption → List Word
+spelled (PolicyFile name) = codes "-f" ∷ name ∷ []
+spelled (ModeIs mode) = mode_word mode ∷ []
+spelled Inherits = codes "-i" ∷ []
+spelled Unaliased = codes "-u" ∷ []
+spelled (IdsAre uid gid) = codes "-c" ∷ (decimal uid ++ (codes ":" ++ decimal gid)) ∷ []
+spelled (WorkersAre count) = codes "-w" ∷ decimal count ∷ []
+spelled (PrintIs print) = codes "--print" ∷ print_word print ∷ []
+
+-- the words of options in order
+abbrev pub all_spelled : List GivenOption → List Word
+all_spelled [] = []
+all_spelled (option ∷ options) = spelled option ++ all_spelled options
+
+-- an option's value is within its bounds
+abbrev pub IsWithin : GivenOption → Type 0
+IsWithin (IdsAre uid gid) = (uid < 2 ^ 32) × (gid < 2 ^ 32)
+IsWithin (WorkersAre count) = (1 ≤ count) × (count ≤ 8)
+IsWithin _ = Unit {0}
+
+-- each of some options is
+abbrev pub AreWithin : List GivenOption → Type 0
+AreWithin [] = Unit {0}
+AreWithin (option ∷ options) = IsWithin option × AreWithin options
+
+-- ---- how often options are given
+
+-- whether an option is of a kind
+abbrev pub is_of : Kind → GivenOption → Bool
+is_of kind.Policy (PolicyFile name) = true
+is_of kind.Mode (ModeIs mode) = true
+is_of kind.Inherit Inherits = true
+is_of kind.Unaliased Unaliased = true
+is_of kind.Ids (IdsAre uid gid) = true
+is_of kind.Workers (WorkersAre count) = true
+is_of kind.Print (PrintIs print) = true
+is_of _ _ = false
+
+-- how many options of a kind there are
+abbrev pub count_of : Kind → List GivenOption → ℕ
+count_of kind [] = 0
+count_of kind (option ∷ options) = (if is_of kind option then 1 else 0) + count_of kind options
+
+-- ---- the options at the front of words
+
+-- the option that stands alone as this word
+abbrev pub alone : Word → Option GivenOption
+alone word =
+    if bytes_eq word (codes "-A") then Some (ModeIs Learn)
+    else if bytes_eq word (codes "-a") then Some (ModeIs Enforce)
+    else if bytes_eq word (codes "-t") then Some (ModeIs AskText)
+    else if bytes_eq word (codes "-i") then Some Inherits
+    else if bytes_eq word (codes "-u") then Some Unaliased
+    else None
+
+-- what is printed
+abbrev pub print_in : Word → Option Print
+print_in word =
+    if bytes_eq word (codes "audit") then Some Audit
+    else if bytes_eq word (codes "trace") then Some Trace
+    else if bytes_eq word (codes "schedule") then Some Schedule
+    else if bytes_eq word (codes "policy") then Some Policy
+    else None
+
+-- the option that a word is with its value behind it
+abbrev pub valued : Word → Word → Option GivenOption
+valued word value =
+    if bytes_eq word (codes "-f") then Some (PolicyFile value)
+    else if bytes_eq word (codes "-c") then option_map (λ ids. IdsAre ids.0 ids.1) (ids_in value)
+    else if bytes_eq word (codes "-w") then option_map WorkersAre (workers_in value)
+    else if bytes_eq word (codes "--print") then option_map PrintIs (print_in value)
+    else None
+
+-- the options at the front of words, and the words behind them
+pub record Taken : Type 0 where
+  pub given : List GivenOption
+  pub rest : List Word
+
+abbrev pub with_option : GivenOption → Taken → Taken
+with_option option taken = record { given = option ∷ taken.given; rest = taken.rest }
+
+abbrev pub none_taken : List Word → Taken
+none_taken words = record { given = []; rest = words }
+
+-- as many options as there are, one behind the other
+abbrev pub options_in : List Word → Taken
+options_in [] = none_taken []
+options_in (word ∷ []) = elim (alone word) [ Some option ↦ with_option option (none_taken []) | None ↦ none_taken (word ∷ []) ]
+options_in (word ∷ value ∷ words) =
+    elim (alone word) [
+      | Some option ↦ with_option option (options_in (value ∷ words))
+      | None ↦ elim (valued word value) [
+        | Some option ↦ with_option option (options_in words)
+        | None ↦ none_taken (word ∷ value ∷ words)
+      ]
+    ]
+
+-- the option that words begin with, and the words behind it
+abbrev pub next_option : List Word → Option (GivenOption × List Word)
+next_option [] = None
+next_option (word ∷ []) = option_map (λ option. (option, [])) (alone word)
+next_option (word ∷ value ∷ words) =
+    elim (alone word) [
+      | Some option ↦ Some (option, value ∷ words)
+      | None ↦ option_map (λ option. (option, words)) (valued word value)
+    ]

@@ -1,0 +1,58 @@
+-- The grammar of the command line: which words spell which command.
+--
+--     check [-c U:G] POLICY [SCRIPT]
+--     step {OPTION} SCRIPT SCHEDULE
+use Rattle.std.specs.Prelude.{◌≡◌, ◌≢◌, ℕ, ◌<◌, ◌≤◌, ◌^◌, false, List, [], ◌∷◌, ◌++◌, codes, Option, Some, None}
+use Rattle.st_command.specs.Words.{Word, has_dash}
+use Rattle.st_command.specs.Given.{GivenOption, IdsAre, spelled, all_spelled, AreWithin, count_of}
+use Rattle.st_command.specs.Command.{StepWords, CheckWords, step_of}
+use Rattle.st_command.specs.declared.command.Command.{Command}
+use Rattle.st_command.specs.declared.command.Command.TheVariants as command
+use Rattle.st_command.specs.declared.given.Kind.{Kind}
+use Rattle.st_command.specs.declared.given.Kind.TheVariants as kind
+
+-- options may be given together: at most 8 policy files, and every other kind of option once
+pub record MayBeGiven (given : List GivenOption) : Type 0 where
+  pub few_policies : count_of kind.Policy given ≤ 8
+  pub once : (k : Kind) → k ≢ kind.Policy → count_of k given ≤ 1
+
+-- words are `step`, options in any order, a script and a schedule
+pub record SpellsStep (words : List Word) (step : StepWords) : Type 0 where
+  pub given : List GivenOption
+  pub within : AreWithin given
+  pub together : MayBeGiven given
+  pub script : has_dash step.script ≡ false
+  pub schedule : has_dash step.schedule ≡ false
+  pub words_are : words ≡ codes "step" ∷ (all_spelled given ++ step.script ∷ step.schedule ∷ [])
+  pub asked : step ≡ step_of given step.script step.schedule
+
+-- the words of ids, if they are given
+abbrev pub ids_spelled : Option (ℕ × ℕ) → List Word
+ids_spelled None = []
+ids_spelled (Some ids) = spelled (IdsAre ids.0 ids.1)
+
+-- ids are within their bounds
+abbrev pub IdsFit : Option (ℕ × ℕ) → Type 0
+IdsFit None = Unit {0}
+IdsFit (Some ids) = (ids.0 < 2 ^ 32) × (ids.1 < 2 ^ 32)
+
+-- the word of an operand that may be left out, and that it is one
+abbrev pub maybe_word : Option Word → List Word
+maybe_word None = []
+maybe_word (Some word) = word ∷ []
+
+abbrev pub MayBeOperand : Option Word → Type 0
+MayBeOperand None = Unit {0}
+MayBeOperand (Some word) = has_dash word ≡ false
+
+-- words are `check`, ids or none, a policy, and a script or none
+pub record SpellsCheck (words : List Word) (check : CheckWords) : Type 0 where
+  pub ids : IdsFit check.ids
+  pub policy : has_dash check.policy ≡ false
+  pub script : MayBeOperand check.script
+  pub words_are : words ≡ codes "check" ∷ (ids_spelled check.ids ++ check.policy ∷ maybe_word check.script)
+
+-- words spell a command
+abbrev pub Spells : List Word → Command → Type 0
+Spells words (command.Step step) = SpellsStep words step
+Spells words (command.Check check) = SpellsCheck words check

@@ -1,0 +1,5 @@
+pub mod Words
+pub mod Given
+pub mod Command
+pub mod Grammar
+pub mod Reading

@@ -1,0 +1,42 @@
+-- The command that words spell, found from the left.
+use Rattle.std.specs.Prelude.{◌≤◌, if◌then◌else◌, List, [], ◌∷◌, length, codes, Option, None, option_map}
+use Rattle.std.specs.Str.{bytes_eq}
+use Rattle.std.specs.Borrow.{Bor}
+use Rattle.st_command.specs.Words.{Word}
+use Rattle.st_command.specs.Given.{GivenOption, PolicyFile, ModeIs, Inherits, Unaliased, IdsAre, WorkersAre, PrintIs, options_in}
+use Rattle.st_command.specs.Command.{check_in, step_in}
+use Rattle.st_command.specs.declared.command.Command.{Command}
+use Rattle.st_command.specs.declared.command.Command.TheVariants as command
+use Rattle.st_command.specs.declared.given.Given.{Given}
+use Rattle.st_command.specs.declared.given.Given.TheVariants as given
+
+-- the command of this name that the words behind it spell
+abbrev pub command_behind : Word → List Word → Option Command
+command_behind name words =
+    if bytes_eq name (codes "check") then option_map command.Check (check_in (options_in words))
+    else if bytes_eq name (codes "step") then option_map command.Step (step_in (options_in words))
+    else None
+
+-- the command that words spell, if they do
+abbrev pub command_in : List Word → Option Command
+command_in [] = None
+command_in (name ∷ words) = command_behind name words
+
+-- the limits that each command keeps that words spell
+abbrev pub IsWithinLimits : Command → Type 0
+IsWithinLimits (command.Step step) = (length step.policies ≤ 8) × (1 ≤ step.options.workers) × (step.options.workers ≤ 8)
+IsWithinLimits (command.Check check) = Unit {0}
+
+-- an option of the code, without the address of its word
+abbrev pub shown : Given → GivenOption
+shown (given.Policy name) = PolicyFile name.now
+shown (given.Mode mode) = ModeIs mode
+shown given.Inherit = Inherits
+shown given.Unaliased = Unaliased
+shown (given.Ids uid gid) = IdsAre uid gid
+shown (given.Workers count) = WorkersAre count
+shown (given.Print print) = PrintIs print
+
+-- such an option, and the words behind it
+abbrev pub shown_next : Given × Bor (List Word) → GivenOption × List Word
+shown_next next = (shown next.0, next.1.now)

@@ -1,0 +1,69 @@
+ghost use Rattle.std.specs.Prelude.{◌≡◌};
+ghost use Rattle.st_command.specs.Command.{check_options};
+
+use crate::given::Print;
+use st_base::{Sequence, Text};
+use st_law::{Mode, Options};
+use std::marker::Model;
+
+/// What `step` is asked to do.
+#[derive(Debug, Drop)]
+pub struct StepWords<'a> {
+    /// The names of the policy files, in order.
+    pub policies: Sequence<&'a Text>,
+    pub script: &'a Text,
+    pub schedule: &'a Text,
+    pub options: Options,
+    pub print: Print,
+}
+
+impl<'a> Model for StepWords<'a> {
+    ghost use Rattle.std.specs.Prelude.{map};
+    ghost use Rattle.st_command.specs.Command as command;
+
+    ghost Value = { command.StepWords };
+
+    ghost view = { λ s. record { policies = map (λ name. name.now) s.policies; script = s.script.now; schedule = s.schedule.now; options = s.options; print = s.print } };
+}
+
+/// What `check` is asked to do.
+#[derive(Debug, Drop)]
+pub struct CheckWords<'a> {
+    pub policy: &'a Text,
+    pub script: Option<&'a Text>,
+    /// The ids of `-c`, with which filters may grant ids.
+    pub ids: Option<(u32, u32)>,
+}
+
+impl<'a> Model for CheckWords<'a> {
+    ghost use Rattle.std.specs.Prelude.{option_copied};
+    ghost use Rattle.st_command.specs.Command as command;
+
+    ghost Value = { command.CheckWords };
+
+    ghost view = { λ c. record { policy = c.policy.now; script = option_copied c.script; ids = c.ids } };
+}
+
+impl CheckWords<'_> {
+    /// The options that its script is read with: nothing runs, so but for the ids they are those of no words.
+    pub fn options(&self) -> Options
+        ensures { result ≡ check_options self.now }
+    {
+        Options {
+            mode: Mode::Enforce,
+            inherit: false,
+            aliasing: true,
+            ids: self.ids,
+            workers: 1,
+        }
+    }
+}
+
+/// What words ask for.
+#[derive(Debug, Drop)]
+pub enum Command<'a> {
+    /// `check [-c U:G] POLICY [SCRIPT]`
+    Check(CheckWords<'a>),
+    /// `step OPTIONS SCRIPT SCHEDULE`
+    Step(StepWords<'a>),
+}

@@ -1,0 +1,10 @@
+ghost use Rattle.std.specs.Prelude.{◌≡◌, ◌↔◌, List, Some};
+ghost use Rattle.st_command.specs.Words.{Word};
+ghost use Rattle.st_command.specs.Grammar.{Spells};
+ghost use Rattle.st_command.specs.Reading.{command_in};
+ghost use Rattle.st_command.specs.declared.command.Command.{Command};
+
+/// Words spell a command exactly where it is the one that is read from them. So they spell one at the most.
+pub fn words_spell_what_is_read()
+    ensures { (words : List Word) (command : Command) → Spells words command ↔ (command_in words ≡ Some command) }
+{}

@@ -1,0 +1,15 @@
+//! The words of the command line: which command they spell, and with which options.
+#![tactic(auto)]
+
+pub mod command;
+pub mod given;
+pub mod law;
+pub mod reading;
+mod words;
+
+pub use command::{CheckWords, Command, StepWords};
+pub use given::Print;
+pub use reading::read_words;
+
+#[cfg(test)]
+mod tests;

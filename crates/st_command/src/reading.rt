@@ -1,0 +1,176 @@
+ghost use Rattle.std.specs.Prelude.{◌≡◌, ◌<◌, length, map, option_map, IfOk, IfSome};
+ghost use Rattle.st_command.specs.Given.{next_option, options_in};
+ghost use Rattle.st_command.specs.Command.{may_be_given, options_of, step_of, step_with, check_ids, check_with};
+ghost use Rattle.st_command.specs.Reading.{shown, shown_next, command_behind, command_in, IsWithinLimits};
+
+use crate::command::{CheckWords, Command, StepWords};
+use crate::given::{
+    Given, Kind, Print, alone, count_of, ids_of, mode_of, policies_of, print_of, valued, workers_of,
+};
+use crate::words::has_dash;
+use st_base::{Sequence, Text};
+use st_law::{Mode, Options};
+use std::alloc::{AllocError, Global};
+
+/// How many policy files there may be.
+pub const MOST_POLICIES: usize = 8;
+
+// The option that words begin with, and the words behind it.
+fn next_option<'a>(words: &'a [Text]) -> Option<(Given<'a>, &'a [Text])>
+    ensures is { option_map shown_next result ≡ next_option words.now }
+    ensures shorter { IfSome result (λ next. length next.1.now < length words.now) }
+{
+    let (word, behind) = words.split_first()?;
+    if let Some(option) = alone(word.bytes()) {
+        return Some((option, behind));
+    }
+    let (value, behind) = behind.split_first()?;
+    let option = valued(word.bytes(), value)?;
+    Some((option, behind))
+}
+
+// The options at the front of words, and the words behind them.
+fn options_in<'a>(
+    alloc: Global,
+    words: &'a [Text],
+) -> Result<(Sequence<Given<'a>>, &'a [Text]), AllocError>
+    ensures { IfOk result (λ taken. record { given = map shown taken.0; rest = taken.1.now } ≡ options_in words.now) }
+{
+    let mut given = Sequence::new(alloc);
+    let mut rest = words;
+    while let Some((option, behind)) = next_option(rest) {
+        given.push(option)?;
+        rest = behind;
+    }
+    Ok((given, rest))
+}
+
+// Whether options may be given together: at most eight policy files, and each other kind once.
+fn may_be_given(given: &[Given<'_>]) -> bool
+    ensures { result ≡ may_be_given (map shown given.now) }
+{
+    count_of(Kind::Policy, given) <= MOST_POLICIES
+        && count_of(Kind::Mode, given) <= 1
+        && count_of(Kind::Inherit, given) <= 1
+        && count_of(Kind::Unaliased, given) <= 1
+        && count_of(Kind::Ids, given) <= 1
+        && count_of(Kind::Workers, given) <= 1
+        && count_of(Kind::Print, given) <= 1
+}
+
+fn options_of(given: &[Given<'_>]) -> Options
+    ensures { result ≡ options_of (map shown given.now) }
+{
+    Options {
+        mode: mode_of(given).unwrap_or(Mode::Enforce),
+        inherit: count_of(Kind::Inherit, given) > 0,
+        aliasing: count_of(Kind::Unaliased, given) == 0,
+        ids: ids_of(given),
+        workers: workers_of(given).unwrap_or(1),
+    }
+}
+
+fn step_of<'a>(
+    alloc: Global,
+    given: &[Given<'a>],
+    script: &'a Text,
+    schedule: &'a Text,
+) -> Result<StepWords<'a>, AllocError>
+    ensures { IfOk result (λ step. step ≡ step_of (map shown given.now) script.now schedule.now) }
+{
+    Ok(StepWords {
+        policies: policies_of(alloc, given)?,
+        script,
+        schedule,
+        options: options_of(given),
+        print: print_of(given).unwrap_or(Print::Audit),
+    })
+}
+
+// What `step` is asked to do by its options and the words behind them.
+fn step_with<'a>(
+    alloc: Global,
+    given: &[Given<'a>],
+    operands: &'a [Text],
+) -> Result<Option<StepWords<'a>>, AllocError>
+    ensures { IfOk result (λ step. step ≡ step_with (map shown given.now) operands.now) }
+{
+    let [script, schedule] = operands else {
+        return Ok(None);
+    };
+    if !has_dash(script.bytes()) && !has_dash(schedule.bytes()) && may_be_given(given) {
+        Ok(Some(step_of(alloc, given, script, schedule)?))
+    } else {
+        Ok(None)
+    }
+}
+
+// The ids of `check`, which has no other option.
+fn check_ids(given: &[Given<'_>]) -> Option<Option<(u32, u32)>>
+    ensures { result ≡ check_ids (map shown given.now) }
+{
+    match given {
+        [] => Some(None),
+        [_] => Some(Some(ids_of(given)?)),
+        _ => None,
+    }
+}
+
+// What `check` is asked to do with these ids by the words behind its options.
+fn check_with<'a>(ids: Option<(u32, u32)>, operands: &'a [Text]) -> Option<CheckWords<'a>>
+    ensures { result ≡ check_with ids operands.now }
+{
+    let (policy, script) = match operands {
+        [policy] => (policy, None),
+        [policy, script] => (policy, Some(script)),
+        _ => return None,
+    };
+    if has_dash(policy.bytes()) || script.is_some_and(|script| has_dash(script.bytes())) {
+        return None;
+    }
+    Some(CheckWords {
+        policy,
+        script,
+        ids,
+    })
+}
+
+// The command of this name that the words behind it spell.
+fn command_behind<'a>(
+    alloc: Global,
+    name: &[u8],
+    words: &'a [Text],
+) -> Result<Option<Command<'a>>, AllocError>
+    ensures { IfOk result (λ command. command ≡ command_behind name.now words.now) }
+{
+    let (given, operands) = options_in(alloc, words)?;
+    if name == b"check".as_slice() {
+        let Some(ids) = check_ids(given.as_slice()) else {
+            return Ok(None);
+        };
+        Ok(check_with(ids, operands).map(Command::Check))
+    } else if name == b"step".as_slice() {
+        let step = step_with(alloc, given.as_slice(), operands)?;
+        Ok(step.map(Command::Step))
+    } else {
+        Ok(None)
+    }
+}
+
+fn command_in(alloc: Global, words: &[Text]) -> Result<Option<Command<'_>>, AllocError>
+    ensures { IfOk result (λ command. command ≡ command_in words.now) }
+{
+    match words.split_first() {
+        Some((name, behind)) => command_behind(alloc, name.bytes(), behind),
+        None => Ok(None),
+    }
+}
+
+/// The command that words spell; none exactly where they spell none.
+#[tactic(auto, using(crate::proofs::Limits::limits_kept))]
+pub fn read_words(alloc: Global, words: &[Text]) -> Result<Option<Command<'_>>, AllocError>
+    ensures is { IfOk result (λ command. command ≡ command_in words.now) }
+    ensures limits { IfOk result (λ command. IfSome command IsWithinLimits) }
+{
+    command_in(alloc, words)
+}
