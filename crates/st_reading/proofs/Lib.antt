@@ -1,0 +1,4 @@
+pub mod Fetched
+pub mod Leads
+pub mod Meanings
+pub mod Refusals

@@ -1,0 +1,196 @@
+-- A command over files that are told means exactly one thing.
+use Rattle.std.proofs.Common.{◌≡◌, ℕ, ◌+◌, ◌≤◌, ◌<◌, ◌⊎◌, inl, inr, Bool, true, false, List, [], ◌∷◌, ◌++◌, length, Option, Some, None, is_some, Result, Ok, Err, refl, sym, ap, ◌∙◌, subst, arith, nat_le, leb-true}
+use Rattle.std.proofs.lemmas.Bool.Decides.{nat_tests}
+use Rattle.st_outside.specs.Files.{FileView, Unknown, Absent, FileBytes}
+use Rattle.st_outside.specs.declared.files.TheConstants.{FILE_LIMIT}
+use Rattle.st_filter.specs.declared.set.BinaryPolicy.{BinaryPolicy}
+use Rattle.st_filter.specs.declared.set.TheConstants.{MOST_FILTERS}
+use Rattle.st_filter.specs.Policies.{filters_in}
+use Rattle.st_policy.specs.declared.env.Env.{Env}
+use Rattle.st_policy.specs.declared.fault.PolicyFault.{PolicyFault}
+use Rattle.st_policy.specs.Canon.{canon}
+use Rattle.st_policy.specs.Diagram.{fault_in}
+use Rattle.st_policy.proofs.Complete.{reads-once, reads-faultless, faultless-reads}
+use Rattle.st_schedule.specs.Schedule.{schedule_in}
+use Rattle.st_script_faults.specs.declared.fault.ScriptFault.{ScriptFault}
+use Rattle.st_whole_script.specs.Reading.{script_in}
+use Rattle.st_whole_script.specs.Startable.{input_with}
+use Rattle.st_whole_script.specs.declared.reading.ReadScript.{ReadScript}
+use Rattle.st_command.specs.Words.{Word}
+use Rattle.st_command.specs.Command.{StepWords, CheckWords, check_options}
+use Rattle.st_command.specs.declared.command.Command.{Command}
+use Rattle.st_command.specs.declared.command.Command.TheVariants as command
+use Rattle.st_reading.specs.Bare.{bare_env}
+use Rattle.st_reading.specs.Meaning.{Held, Meaning, Stops, Refuses, Runs, Prints, is_stop, Reads, Fetches, SaysScript, SaysPolicy, MeansPolicies, MeansSchedule, MeansBehindScript, MeansStep, MeansCanon, MeansCheck, Means, names_of, IsTold, AreTold}
+use Rattle.st_reading.specs.declared.refusal.Refusal.TheVariants.{Missing, TooLong, Script, Policy}
+use Rattle.st_reading.specs.declared.refusal.Which.{Which}
+use Rattle.st_reading.specs.declared.refusal.Which.TheVariants as which
+
+-- ---- one at the most
+
+-- a relation that holds of one outcome at the most, beside stops
+abbrev pub IsOne : (Meaning → Type 0) → Type 0
+IsOne R = (a b : Meaning) → is_stop a ≡ false → is_stop b ≡ false → R a → R b → a ≡ b
+
+stopped : (o : Meaning) (w : Which) (P : Type 0) → is_stop o ≡ false → o ≡ Stops w → P
+stopped o w P go is = let yes : is_stop o ≡ true = ap is_stop is in cc
+
+too_long : (content text : List ℕ) → text ≡ content → FILE_LIMIT < length content → length text ≤ FILE_LIMIT → ⊥
+too_long content text same long short = let e : length text ≡ length content = ap length same in omega arith
+
+reads_one : (h : FileView) (w : Which) (R : List ℕ → Meaning → Type 0) → IsTold h → ((text : List ℕ) → IsOne (R text)) → (a b : Meaning) → is_stop a ≡ false → is_stop b ≡ false → Reads h w (λ text. R text a) a → Reads h w (λ text. R text b) b → a ≡ b
+reads_one Unknown w R told one a b u v p q = absurd told
+reads_one Absent w R told one a b u v (inl p) (inl q) = p.1 ∙ sym q.1
+reads_one Absent w R told one a b u v (inl p) (inr (inl q)) = absurd q.0
+reads_one Absent w R told one a b u v (inl p) (inr (inr q)) = absurd q.1
+reads_one Absent w R told one a b u v (inr (inl p)) q = absurd p.0
+reads_one Absent w R told one a b u v (inr (inr p)) q = absurd p.1
+reads_one (FileBytes text) w R told one a b u v (inl p) q = absurd p.0
+reads_one (FileBytes text) w R told one a b u v (inr p) (inl q) = absurd q.0
+reads_one (FileBytes text) w R told one a b u v (inr (inl p)) (inr (inl q)) = p.1 ∙ sym q.1
+reads_one (FileBytes text) w R told one a b u v (inr (inl p)) (inr (inr q)) = absurd (too_long text q.0 q.1 p.0 q.2)
+reads_one (FileBytes text) w R told one a b u v (inr (inr p)) (inr (inl q)) = absurd (too_long text p.0 p.1 q.0 p.2)
+reads_one (FileBytes text) w R told one a b u v (inr (inr p)) (inr (inr q)) =
+    one text a b u v (subst (λ t. R t a) p.1 p.3) (subst (λ t. R t b) q.1 q.3)
+
+-- a file that is told has one content, so what is fetched means one thing where each content does
+fetches_one : (h : FileView) (w : Which) (R : List ℕ → Meaning → Type 0) → IsTold h → ((text : List ℕ) → IsOne (R text)) → IsOne (λ o. Fetches h w (λ text. R text o) o)
+fetches_one h w R told one a b u v (inl p) q = stopped a w (a ≡ b) u p
+fetches_one h w R told one a b u v (inr p) (inl q) = stopped b w (a ≡ b) v q
+fetches_one h w R told one a b u v (inr p) (inr q) = reads_one h w R told one a b u v p q
+
+script_one : (said : Result ReadScript ScriptFault) (R : ReadScript → Meaning → Type 0) → ((script : ReadScript) → IsOne (R script)) → IsOne (λ o. SaysScript said (λ script. R script o) o)
+script_one (Ok script) R one a b u v p q = one script a b u v p q
+script_one (Err fault) R one a b u v p q = p ∙ sym q
+
+abbrev fault_or : PolicyFault → Option PolicyFault → PolicyFault
+fault_or d None = d
+fault_or d (Some h) = h
+
+same_fault : (n : ℕ) (f g : PolicyFault) → Some f ≡ Some g → Refuses (Policy n f) ≡ Refuses (Policy n g)
+same_fault n f g e = ap (λ (h : PolicyFault). Refuses (Policy n h)) (ap (fault_or f) e)
+
+-- a text has one reading or one first fault
+policy_one : (text : List ℕ) (env : Env) (before : List BinaryPolicy) (n : ℕ) (R : List BinaryPolicy → Meaning → Type 0) → ((policies : List BinaryPolicy) → IsOne (R policies)) →
+    IsOne (λ o. SaysPolicy text env before n (λ policies. R policies o) o)
+policy_one text env before n R one a b u v (inl p) (inl q) =
+    one q.0 a b u v (subst (λ ps. R ps a) (reads-once text env before p.0 q.0 p.1 q.1) p.2) q.2
+policy_one text env before n R one a b u v (inl p) (inr q) = let e : None ≡ Some q.0 = sym (reads-faultless text env before p.0 p.1) ∙ q.1 in absurd (cc)
+policy_one text env before n R one a b u v (inr p) (inl q) = let e : None ≡ Some p.0 = sym (reads-faultless text env before q.0 q.1) ∙ p.1 in absurd (cc)
+policy_one text env before n R one a b u v (inr p) (inr q) = p.2 ∙ same_fault n p.0 q.0 (sym p.1 ∙ q.1) ∙ sym q.2
+
+policies_one : (held : Held) (env : Env) (R : List BinaryPolicy → Meaning → Type 0) → ((policies : List BinaryPolicy) → IsOne (R policies)) →
+    (names : List Word) → AreTold held names → (n : ℕ) (before : List BinaryPolicy) → IsOne (λ o. MeansPolicies held env n names before (λ policies. R policies o) o)
+policies_one held env R one [] told n before = one before
+policies_one held env R one (name ∷ names) told n before =
+    fetches_one (held name) (which.Policy n) (λ text o. SaysPolicy text env before n (λ policies. MeansPolicies held env (n + 1) names policies (λ policies. R policies o) o) o) told.0
+    (λ text. policy_one text env before n (λ policies o. MeansPolicies held env (n + 1) names policies (λ policies. R policies o) o)
+    (policies_one held env R one names told.1 (n + 1)))
+
+told_front : (held : Held) (front back : List Word) → AreTold held (front ++ back) → AreTold held front
+told_front held [] back told = tt
+told_front held (name ∷ front) back told = (told.0, told_front held front back told.1)
+
+told_back : (held : Held) (front back : List Word) → AreTold held (front ++ back) → AreTold held back
+told_back held [] back told = told
+told_back held (name ∷ front) back told = told_back held front back told.1
+
+is_one : (outcome : Meaning) → IsOne (λ o. o ≡ outcome)
+is_one outcome a b u v p q = p ∙ sym q
+
+canon_one : (held : Held) (name : Word) (env : Env) → IsTold (held name) → IsOne (MeansCanon held name env)
+canon_one held name env told =
+    policies_one held env (λ policies o. o ≡ Prints (canon policies)) (λ policies. is_one (Prints (canon policies))) (name ∷ []) (told, tt) 1 []
+
+step_one : (held : Held) (step : StepWords) → AreTold held (names_of (command.Step step)) → IsOne (MeansStep held step)
+step_one held step told =
+    let schedule_told : IsTold (held step.schedule) = (told_back held step.policies (step.schedule ∷ []) told.1).0 in
+    fetches_one (held step.script) which.Script (λ text o. SaysScript (script_in text step.options) (λ script. MeansBehindScript held step script o) o) told.0
+    (λ text. script_one (script_in text step.options) (MeansBehindScript held step)
+    (λ script. policies_one held script.env (λ policies o. MeansSchedule held step script policies o)
+    (λ policies. fetches_one (held step.schedule) which.Schedule (λ text o. o ≡ Runs (input_with policies step.options script) (schedule_in text)) schedule_told
+    (λ text. is_one (Runs (input_with policies step.options script) (schedule_in text))))
+    step.policies (told_front held step.policies (step.schedule ∷ []) told.1) 1 []))
+
+check_one : (held : Held) (policy : Word) (ids : Option (ℕ × ℕ)) (script : Option Word) → let check : CheckWords = record { policy = policy; script = script; ids = ids } in
+    AreTold held (names_of (command.Check check)) → IsOne (MeansCheck held check script)
+check_one held policy ids None told = canon_one held policy (bare_env (is_some ids)) told.0
+check_one held policy ids (Some name) told =
+    let check : CheckWords = record { policy = policy; script = Some name; ids = ids } in
+    fetches_one (held name) which.Script (λ text o. SaysScript (script_in text (check_options check)) (λ script. MeansCanon held policy script.env o) o) told.0
+    (λ text. script_one (script_in text (check_options check)) (λ script o. MeansCanon held policy script.env o) (λ script. canon_one held policy script.env told.1.0))
+
+pub one_meaning : (held : Held) (c : Command) → AreTold held (names_of c) → IsOne (Means held c)
+one_meaning held (command.Step step) told = step_one held step told
+one_meaning held (command.Check check) told = check_one held check.policy check.ids check.script told
+
+-- ---- one at the least
+
+-- a relation that holds of some outcome that is no stop
+abbrev HasOne : (Meaning → Type 0) → Type 0
+HasOne R = (o : Meaning) × (is_stop o ≡ false) × R o
+
+cut_or_whole : (text : List ℕ) (b : Bool) → nat_le (length text) FILE_LIMIT ≡ b → (length text ≤ FILE_LIMIT) ⊎ (FILE_LIMIT < length text)
+cut_or_whole text true e = inl (leb-true (length text) FILE_LIMIT e)
+cut_or_whole text false e = inr (grind (arith, nat_tests))
+
+fetches_some : (h : FileView) (w : Which) (R : List ℕ → Meaning → Type 0) → IsTold h → ((text : List ℕ) → HasOne (R text)) → HasOne (λ o. Fetches h w (λ text. R text o) o)
+fetches_some Unknown w R told some = absurd told
+fetches_some Absent w R told some = (Refuses (Missing w), refl, inr (inl (tt, refl)))
+fetches_some (FileBytes text) w R told some = by (cut_or_whole text (nat_le (length text) FILE_LIMIT) refl)
+  where
+    by : (length text ≤ FILE_LIMIT) ⊎ (FILE_LIMIT < length text) → HasOne (λ o. Fetches (FileBytes text) w (λ text. R text o) o)
+    by (inl whole) = let one = some text in (one.0, one.1, inr (inr (inr (text, refl, whole, one.2))))
+    by (inr long) = (Refuses (TooLong w), refl, inr (inr (inl (long, refl))))
+
+script_some : (said : Result ReadScript ScriptFault) (R : ReadScript → Meaning → Type 0) → ((script : ReadScript) → HasOne (R script)) → HasOne (λ o. SaysScript said (λ script. R script o) o)
+script_some (Ok script) R some = some script
+script_some (Err fault) R some = (Refuses (Script fault), refl, refl)
+
+policy_some : (text : List ℕ) (env : Env) (before : List BinaryPolicy) (n : ℕ) (R : List BinaryPolicy → Meaning → Type 0) → filters_in before ≤ MOST_FILTERS →
+    ((policies : List BinaryPolicy) → filters_in policies ≤ MOST_FILTERS → HasOne (R policies)) → HasOne (λ o. SaysPolicy text env before n (λ policies. R policies o) o)
+policy_some text env before n R few some = by (fault_in text env before) refl
+  where
+    by : (found : Option PolicyFault) → fault_in text env before ≡ found → HasOne (λ o. SaysPolicy text env before n (λ policies. R policies o) o)
+    by (Some fault) e = (Refuses (Policy n fault), refl, inr (fault, e, refl))
+    by None e =
+        let read = faultless-reads text env before few e in
+        let one = some read.0 read.1.few in
+        (one.0, one.1, inl (read.0, read.1, one.2))
+
+policies_some : (held : Held) (env : Env) (R : List BinaryPolicy → Meaning → Type 0) → ((policies : List BinaryPolicy) → HasOne (R policies)) →
+    (names : List Word) → AreTold held names → (n : ℕ) (before : List BinaryPolicy) → filters_in before ≤ MOST_FILTERS → HasOne (λ o. MeansPolicies held env n names before (λ policies. R policies o) o)
+policies_some held env R some [] told n before few = some before
+policies_some held env R some (name ∷ names) told n before few =
+    fetches_some (held name) (which.Policy n) (λ text o. SaysPolicy text env before n (λ policies. MeansPolicies held env (n + 1) names policies (λ policies. R policies o) o) o) told.0
+    (λ text. policy_some text env before n (λ policies o. MeansPolicies held env (n + 1) names policies (λ policies. R policies o) o) few
+    (λ policies more. policies_some held env R some names told.1 (n + 1) policies more))
+
+is_some_one : (outcome : Meaning) → is_stop outcome ≡ false → HasOne (λ o. o ≡ outcome)
+is_some_one outcome go = (outcome, go, refl)
+
+canon_some : (held : Held) (name : Word) (env : Env) → IsTold (held name) → HasOne (MeansCanon held name env)
+canon_some held name env told =
+    policies_some held env (λ policies o. o ≡ Prints (canon policies)) (λ policies. is_some_one (Prints (canon policies)) refl) (name ∷ []) (told, tt) 1 [] (omega arith)
+
+step_some : (held : Held) (step : StepWords) → AreTold held (names_of (command.Step step)) → HasOne (MeansStep held step)
+step_some held step told =
+    let schedule_told : IsTold (held step.schedule) = (told_back held step.policies (step.schedule ∷ []) told.1).0 in
+    fetches_some (held step.script) which.Script (λ text o. SaysScript (script_in text step.options) (λ script. MeansBehindScript held step script o) o) told.0
+    (λ text. script_some (script_in text step.options) (MeansBehindScript held step)
+    (λ script. policies_some held script.env (λ policies o. MeansSchedule held step script policies o)
+    (λ policies. fetches_some (held step.schedule) which.Schedule (λ text o. o ≡ Runs (input_with policies step.options script) (schedule_in text)) schedule_told
+    (λ text. is_some_one (Runs (input_with policies step.options script) (schedule_in text)) refl))
+    step.policies (told_front held step.policies (step.schedule ∷ []) told.1) 1 [] (omega arith)))
+
+check_some : (held : Held) (policy : Word) (ids : Option (ℕ × ℕ)) (script : Option Word) → let check : CheckWords = record { policy = policy; script = script; ids = ids } in
+    AreTold held (names_of (command.Check check)) → HasOne (MeansCheck held check script)
+check_some held policy ids None told = canon_some held policy (bare_env (is_some ids)) told.0
+check_some held policy ids (Some name) told =
+    let check : CheckWords = record { policy = policy; script = Some name; ids = ids } in
+    fetches_some (held name) which.Script (λ text o. SaysScript (script_in text (check_options check)) (λ script. MeansCanon held policy script.env o) o) told.0
+    (λ text. script_some (script_in text (check_options check)) (λ script o. MeansCanon held policy script.env o) (λ script. canon_some held policy script.env told.1.0))
+
+pub some_meaning : (held : Held) (c : Command) → AreTold held (names_of c) → HasOne (Means held c)
+some_meaning held (command.Step step) told = step_some held step told
+some_meaning held (command.Check check) told = check_some held check.policy check.ids check.script told

@@ -1,0 +1,13 @@
+-- What policies are read with where there is no script.
+use Rattle.std.specs.Prelude.{Bool, false, [], ◌∷◌, codes}
+use Rattle.st_policy.specs.declared.env.Env.{Env}
+
+-- the user `root` and the group `wheel` alone, both 0, and the texts of root
+abbrev pub bare_env : Bool → Env
+bare_env elevate = record {
+  users = record { name = codes "root"; id = 0 } ∷ [];
+  groups = record { name = codes "wheel"; id = 0 } ∷ [];
+  dollars = record { home = codes "/root"; user = codes "root"; cwd = codes "/" };
+  elevate = elevate;
+  learn = false;
+}

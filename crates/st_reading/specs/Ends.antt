@@ -1,0 +1,74 @@
+-- How a command is read, against what it and its files mean.
+use Rattle.std.specs.Prelude.{◌≡◌, ◌⊎◌, ℕ, List, [], ◌∷◌, ◌++◌, Result, Ok, Err}
+use Rattle.st_outside.specs.Count.{HasRisen}
+use Rattle.st_outside.specs.Files.{CanFit}
+use Rattle.st_filter.specs.declared.set.BinaryPolicy.{BinaryPolicy}
+use Rattle.st_law.specs.declared.input.Input.{Input}
+use Rattle.st_whole_script.specs.Startable.{CanStart, input_with}
+use Rattle.st_whole_script.specs.declared.reading.ReadScript.{ReadScript}
+use Rattle.st_command.specs.Words.{Word}
+use Rattle.st_command.specs.declared.command.Command.{Command}
+use Rattle.st_reading.specs.Meaning.{Held, Meaning, Stops, Refuses, Runs, Prints, Means, names_to, last_file}
+use Rattle.st_reading.specs.declared.reading.Reading.{Reading}
+use Rattle.st_reading.specs.declared.reading.Reading.TheVariants as reading
+use Rattle.st_reading.specs.declared.refusal.Refusal.{Refusal}
+use Rattle.st_reading.specs.declared.refusal.Refusal.TheVariants.{Missing, TooLong, Script, Policy, ReadFault, NoMemory}
+use Rattle.st_reading.specs.declared.refusal.Which.{Which}
+use Rattle.st_reading.specs.declared.refusal.Which.TheVariants as which
+
+-- the names of a command up to this file were asked for, in order, and no other
+abbrev pub AskedTo : Command → Which → List Word → List Word → Type 0
+AskedTo c w old new = new ≡ old ++ names_to c w
+
+-- the last of some names can hold a file that a fetch gives
+pub record LastFits (held : Held) (names : List Word) : Type 0 where
+  pub front : List Word
+  pub name : Word
+  pub names_are : names ≡ front ++ name ∷ []
+  pub fits : CanFit (held name)
+
+-- all before some file is as it has to be, and the names up to that file were asked for
+pub record StopsAt (held : Held) (c : Command) (old new : List Word) (w : Which) : Type 0 where
+  pub meant : Means held c (Stops w)
+  pub asked : AskedTo c w old new
+
+-- memory was wanting before any file was asked for, or behind asking for one that can be fetched, all before it as it has to be
+abbrev pub WantsMemory : Held → Command → List Word → List Word → Type 0
+WantsMemory held c old new = (new ≡ old) ⊎ ((w : Which) × StopsAt held c old new w × LastFits held (names_to c w))
+
+-- a refusal is the one that is meant, and the names up to the file that it is of were asked for; or a file that is come to can't be
+-- read and the count of faults rose; or memory is wanting
+abbrev pub Refused : Held → Command → ℕ → ℕ → List Word → List Word → Refusal → Type 0
+Refused held c faults faults_after old new (Missing w) = Means held c (Refuses (Missing w)) × AskedTo c w old new
+Refused held c faults faults_after old new (TooLong w) = Means held c (Refuses (TooLong w)) × AskedTo c w old new
+Refused held c faults faults_after old new (Script fault) = Means held c (Refuses (Script fault)) × AskedTo c which.Script old new
+Refused held c faults faults_after old new (Policy n fault) = Means held c (Refuses (Policy n fault)) × AskedTo c (which.Policy n) old new
+Refused held c faults faults_after old new ReadFault = HasRisen faults faults_after × ((w : Which) × StopsAt held c old new w)
+Refused held c faults faults_after old new NoMemory = WantsMemory held c old new
+
+-- what is read means that it is run, or printed
+abbrev pub as_meaning : Reading → Meaning
+as_meaning (reading.Run input schedule) = Runs input schedule
+as_meaning (reading.Text text) = Prints text
+
+-- a command is read as it means, all its names asked for, or refused
+abbrev pub Ends : Held → Command → ℕ → ℕ → List Word → List Word → Result Reading Refusal → Type 0
+Ends held c faults faults_after old new (Ok read) = Means held c (as_meaning read) × AskedTo c (last_file c) old new
+Ends held c faults faults_after old new (Err refusal) = Refused held c faults faults_after old new refusal
+
+-- what an answer says that a command means
+abbrev pub ending : Result Reading Refusal → Meaning
+ending (Ok read) = as_meaning read
+ending (Err refusal) = Refuses refusal
+
+-- an input is of a script that a run can start with
+pub record IsOfScript (input : Input) : Type 0 where
+  pub script : ReadScript
+  pub policies : List BinaryPolicy
+  pub can_start : CanStart script
+  pub input_is : input ≡ input_with policies input.options script
+
+-- what is read to be run can start
+abbrev pub CanBeRun : Reading → Type 0
+CanBeRun (reading.Run input schedule) = IsOfScript input
+CanBeRun (reading.Text text) = Unit {0}

@@ -1,0 +1,4 @@
+pub mod Bare
+pub mod Meaning
+pub mod Files
+pub mod Ends

@@ -1,0 +1,113 @@
+ghost use Rattle.std.specs.Prelude.{◌≡◌, ◌≢◌, ◌≤◌, ◌<◌, ◌+◌, ◌^◌, [], ◌∷◌, ◌++◌, length, map, IfOk, IfErr, OnErr};
+ghost use Rattle.st_outside.specs.Files.{CanHold};
+ghost use Rattle.st_outside.specs.declared.files.TheConstants.{FILE_LIMIT};
+ghost use Rattle.st_whole_script.specs.Startable.{CanStart};
+ghost use Rattle.st_reading.specs.Files.{FetchRefused, ScriptEnds, PolicyEnds, PoliciesEnd, ScheduleEnds};
+
+use crate::refusal::{Refusal, Which};
+use st_base::Text;
+use st_law::{Options, ReadSchedule};
+use st_outside::{FetchFault, Files};
+use st_policy::{Env, PolicyFault, PolicySet, read_policies};
+use st_schedule::read_schedule;
+use st_script_faults::ScriptFault;
+use st_whole_script::{ReadScript, read_script};
+use std::alloc::Global;
+
+// The whole content of a file.
+fn fetch<F: Files>(alloc: Global, files: &mut F, name: &Text, which: Which) -> Result<Text, Refusal>
+    ensures held { F.held files.new ≡ F.held files.old }
+    ensures asked { F.asked files.new ≡ F.asked files.old ++ name.now ∷ [] }
+    ensures content { IfOk result (λ text. CanHold (F.held files.old name.now) text) }
+    ensures within { IfOk result (λ text. length text ≤ FILE_LIMIT) }
+    ensures refused { IfErr result (FetchRefused (F.held files.old name.now) which (F.faults files.old) (F.faults files.new)) }
+    ensures quiet { result ≢ Err Refusal.ReadFault → F.faults files.new ≡ F.faults files.old }
+{
+    match files.fetch(alloc, name) {
+        Ok(text) => Ok(text),
+        Err(FetchFault::Failed) => Err(Refusal::ReadFault),
+        Err(FetchFault::Missing) => Err(Refusal::Missing(which)),
+        Err(FetchFault::TooLong) => Err(Refusal::TooLong(which)),
+        Err(FetchFault::NoMemory) => Err(Refusal::NoMemory),
+    }
+}
+
+/// Fetches a script and reads it.
+pub(crate) fn read_script_file<F: Files>(
+    alloc: Global,
+    files: &mut F,
+    name: &Text,
+    options: &Options,
+) -> Result<ReadScript, Refusal>
+    ensures held { F.held files.new ≡ F.held files.old }
+    ensures asked { F.asked files.new ≡ F.asked files.old ++ name.now ∷ [] }
+    ensures ends { ScriptEnds (F.held files.old name.now) options.now (F.faults files.old) (F.faults files.new) result }
+    ensures can_start { IfOk result CanStart }
+    ensures quiet { result ≢ Err Refusal.ReadFault → F.faults files.new ≡ F.faults files.old }
+{
+    let text = fetch(alloc, files, name, Which::Script)?;
+    match read_script(alloc, text.bytes(), options) {
+        Ok(script) => Ok(script),
+        Err(ScriptFault::NoMemory) => Err(Refusal::NoMemory),
+        Err(fault) => Err(Refusal::Script(fault)),
+    }
+}
+
+// Fetches policy file `number` and reads it behind the policies of those before it.
+fn read_policy_file<F: Files>(
+    alloc: Global,
+    files: &mut F,
+    env: &Env,
+    number: u32,
+    name: &Text,
+    policies: &mut PolicySet,
+) -> Result<(), Refusal>
+    ensures held { F.held files.new ≡ F.held files.old }
+    ensures asked { F.asked files.new ≡ F.asked files.old ++ name.now ∷ [] }
+    ensures ends { PolicyEnds (F.held files.old name.now) env.now policies.old number (F.faults files.old) (F.faults files.new) policies.new result }
+    ensures same { OnErr result (policies.new ≡ policies.old) }
+    ensures quiet { result ≢ Err Refusal.ReadFault → F.faults files.new ≡ F.faults files.old }
+{
+    let text = fetch(alloc, files, name, Which::Policy(number))?;
+    match read_policies(alloc, text.bytes(), env, policies) {
+        Ok(()) => Ok(()),
+        Err(PolicyFault::NoMemory) => Err(Refusal::NoMemory),
+        Err(fault) => Err(Refusal::Policy(number, fault)),
+    }
+}
+
+/// Fetches policy files and reads them in order, each behind the policies of those before it.
+pub(crate) fn read_policy_files<F: Files>(
+    alloc: Global,
+    files: &mut F,
+    env: &Env,
+    names: &[&Text],
+) -> Result<PolicySet, Refusal>
+    requires { length names.now ≤ 8 }
+    ensures held { F.held files.new ≡ F.held files.old }
+    ensures ends { PoliciesEnd (F.held files.old) env.now (map (λ name. name.now) names.now) (F.faults files.old) (F.faults files.new) (F.asked files.old) (F.asked files.new) result }
+    ensures quiet { result ≢ Err Refusal.ReadFault → F.faults files.new ≡ F.faults files.old }
+{
+    let mut policies = PolicySet::new(alloc);
+    let mut number = 0;
+    for name in names {
+        number += 1;
+        read_policy_file(alloc, files, env, number, name, &mut policies)?;
+    }
+    Ok(policies)
+}
+
+/// Fetches a schedule and reads it.
+pub(crate) fn read_schedule_file<F: Files>(
+    alloc: Global,
+    files: &mut F,
+    name: &Text,
+) -> Result<ReadSchedule, Refusal>
+    ensures held { F.held files.new ≡ F.held files.old }
+    ensures asked { F.asked files.new ≡ F.asked files.old ++ name.now ∷ [] }
+    ensures ends { ScheduleEnds (F.held files.old name.now) (F.faults files.old) (F.faults files.new) result }
+    ensures quiet { result ≢ Err Refusal.ReadFault → F.faults files.new ≡ F.faults files.old }
+{
+    let text = fetch(alloc, files, name, Which::Schedule)?;
+    Ok(read_schedule(alloc, text.bytes())?)
+}

@@ -1,0 +1,15 @@
+//! What a command and its files mean up to a run: the script, the policies, and the schedule are fetched and read, in that order.
+#![tactic(auto)]
+
+pub mod environment;
+pub mod files;
+pub mod law;
+pub mod reading;
+pub mod refusal;
+
+pub use environment::bare_env;
+pub use reading::{Reading, read_command};
+pub use refusal::{Refusal, Which};
+
+#[cfg(test)]
+mod tests;

@@ -1,0 +1,116 @@
+ghost use Rattle.std.specs.Prelude.{◌≡◌, ◌≢◌, ◌⊎◌, false, IfOk};
+ghost use Rattle.st_outside.specs.Count.{HasRisen};
+ghost use Rattle.st_command.specs.Reading.{IsWithinLimits};
+ghost use Rattle.st_command.specs.declared.command.Command.TheVariants as command;
+ghost use Rattle.st_reading.specs.Meaning.{Meaning, Means, is_stop, AreTold, names_of};
+ghost use Rattle.st_reading.specs.Files.{EnvEnds};
+ghost use Rattle.st_reading.specs.Ends.{Ends, CanBeRun, ending};
+
+use crate::environment::bare_env;
+use crate::files::{read_policy_files, read_schedule_file, read_script_file};
+use crate::refusal::Refusal;
+use st_base::Text;
+use st_command::{CheckWords, Command, StepWords};
+use st_law::{Input, ReadSchedule};
+use st_outside::Files;
+use st_policy::{Env, print_policies};
+use st_whole_script::ReadScript;
+use std::alloc::Global;
+
+/// What a command comes to, as far as it is read.
+#[derive(Debug, Drop)]
+pub enum Reading {
+    /// A run of this input by this schedule.
+    Run(Input, ReadSchedule),
+    /// A text to be written.
+    Text(Text),
+}
+
+// The run that `step` asks for.
+fn read_step<F: Files>(
+    alloc: Global,
+    step: &StepWords<'_>,
+    files: &mut F,
+) -> Result<Reading, Refusal>
+    requires { IsWithinLimits (command.Step step.now) }
+    ensures held { F.held files.new ≡ F.held files.old }
+    ensures ends { Ends (F.held files.old) (command.Step step.now) (F.faults files.old) (F.faults files.new) (F.asked files.old) (F.asked files.new) result }
+    ensures can_run { IfOk result CanBeRun }
+    ensures quiet { result ≢ Err Refusal.ReadFault → F.faults files.new ≡ F.faults files.old }
+{
+    let script = read_script_file(alloc, files, step.script, &step.options)?;
+    let policies = read_policy_files(alloc, files, &script.env, step.policies.as_slice())?;
+    let schedule = read_schedule_file(alloc, files, step.schedule)?;
+    let ReadScript { start, replies, .. } = script;
+    let input = Input {
+        policies,
+        start,
+        replies,
+        options: step.options,
+    };
+    Ok(Reading::Run(input, schedule))
+}
+
+// What `check` reads its policy with.
+fn env_of_check<F: Files>(
+    alloc: Global,
+    check: &CheckWords<'_>,
+    files: &mut F,
+) -> Result<Env, Refusal>
+    ensures held { F.held files.new ≡ F.held files.old }
+    ensures ends { EnvEnds (F.held files.old) check.now (F.faults files.old) (F.faults files.new) (F.asked files.old) (F.asked files.new) result }
+    ensures quiet { result ≢ Err Refusal.ReadFault → F.faults files.new ≡ F.faults files.old }
+{
+    match check.script {
+        Some(name) => {
+            let script = read_script_file(alloc, files, name, &check.options())?;
+            Ok(script.env)
+        }
+        None => Ok(bare_env(alloc, check.ids.is_some())?),
+    }
+}
+
+// The canonical text that `check` asks for.
+fn read_check<F: Files>(
+    alloc: Global,
+    check: &CheckWords<'_>,
+    files: &mut F,
+) -> Result<Reading, Refusal>
+    ensures held { F.held files.new ≡ F.held files.old }
+    ensures ends { Ends (F.held files.old) (command.Check check.now) (F.faults files.old) (F.faults files.new) (F.asked files.old) (F.asked files.new) result }
+    ensures can_run { IfOk result CanBeRun }
+    ensures quiet { result ≢ Err Refusal.ReadFault → F.faults files.new ≡ F.faults files.old }
+{
+    let env = env_of_check(alloc, check, files)?;
+    let policies = read_policy_files(alloc, files, &env, &[check.policy])?;
+    Ok(Reading::Text(print_policies(alloc, &policies)?))
+}
+
+/// Fetches what a command names and reads it: the script, then each policy file, behind the policies of those before it and with the
+/// names that the script gives, then the schedule.
+pub fn read_command<F: Files>(
+    alloc: Global,
+    command: &Command<'_>,
+    files: &mut F,
+) -> Result<Reading, Refusal>
+    requires { IsWithinLimits command.now }
+
+    // What is answered is what the command means, and the names that were asked for are those of the command, in order, up to the
+    // file that is told.
+    ensures ends { Ends (F.held files.old) command.now (F.faults files.old) (F.faults files.new) (F.asked files.old) (F.asked files.new) result }
+    ensures can_run { IfOk result CanBeRun }
+
+    // All else stays.
+    ensures held { F.held files.new ≡ F.held files.old }
+    ensures quiet { result ≢ Err Refusal.ReadFault → F.faults files.new ≡ F.faults files.old }
+
+    // Where each name of the command is told and no count rose, the answer is what it means, unless memory runs out.
+    ensures complete { AreTold (F.held files.old) (names_of command.now) → (HasRisen (F.faults files.old) (F.faults files.new) → ⊥) →
+        (outcome : Meaning) → is_stop outcome ≡ false → Means (F.held files.old) command.now outcome →
+        (result ≡ Err Refusal.NoMemory) ⊎ (ending result ≡ outcome) }
+{
+    match command {
+        Command::Step(step) => read_step(alloc, step, files),
+        Command::Check(check) => read_check(alloc, check, files),
+    }
+}
