@@ -27,7 +27,7 @@ pub record HasComeAsFar (a b : ThreadState) : Type 0 where
   pub ended : b.ended ≡ a.ended
 
 row_same : (row : ThreadRow) (a b : ThreadState) → HasComeAsFar a b → IsRow row a → IsRow row b
-row_same row a b far is = record { left = far.left ∙ is.left; pending = far.pending ∙ is.pending; number = far.number ∙ is.number; dying = far.dying ∙ is.dying; ended = far.ended ∙ is.ended }
+row_same row a b far is = record { left = far.left ∙ is.left; pending = far.pending ∙ is.pending; number = λ q e. far.number ∙ is.number q e; dying = far.dying ∙ is.dying; ended = far.ended ∙ is.ended }
 
 pub row_of_same : (o : Option ThreadRow) (a b : ThreadState) → HasComeAsFar a b → IsRowOf o a → IsRowOf o b
 row_of_same None a b far is = tt
@@ -60,6 +60,8 @@ module _ (m : Running) (st : State) (is : IsMachine m st) (c : Choice) (e : Entr
       → AreRows threads (state_after m.input st e).threads → length threads ≡ length m.threads → IsMachine (with_parts m system workers threads) (state_after m.input st e)
   behind system workers threads is_system is_kept are same = record {
     reached = reached_more m.input st is.reached c e entry;
+    bounded = is.bounded;
+    ungranted = is.ungranted;
     enforces = is.enforces;
     system = is_system;
     workers = is_kept;

@@ -1,7 +1,7 @@
 -- What runs first is the law's machine in its first state.
 use Rattle.std.proofs.Common.{◌≡◌, ◌∙◌, ℕ, zero, suc, List, length, map, Option, Some, None, refl, ap, sym, subst}
 use Rattle.std.proofs.lemmas.List.{length-map}
-use Rattle.std.proofs.lemmas.Option.{slice_get-map}
+use Rattle.std.proofs.lemmas.Option.{none-some, slice_get-map}
 use Rattle.std.specs.Option.{option_map}
 use Rattle.st_base.specs.Numbered.{item_at_number}
 use Rattle.st_compile.specs.Table.{BinaryAnswers, IsTableOf}
@@ -12,6 +12,8 @@ use Rattle.st_law.specs.Inputs.{IsStartable}
 use Rattle.st_law.specs.Machine.{first_state, first_thread}
 use Rattle.st_law.specs.State.{is_live}
 use Rattle.st_law.specs.Threads.{body_of_row}
+use Rattle.st_reached.specs.Grants.{SetIdsUngranted}
+use Rattle.st_reached.specs.Scripts.{IsBounded}
 use Rattle.st_system.specs.System.{IsSystem, Parts}
 use Rattle.st_workers.specs.Kept.{IsKept}
 use Rattle.st_workers.specs.UnderWay.{UnderWay}
@@ -31,12 +33,14 @@ module _ (i : Input) (system : Parts) (workers : UnderWay) (threads : List Threa
   rows t = subst (λ (o : Option ThreadRow). IsRowOf o (first_thread i t)) (sym (ap (λ (l : List ThreadRow). item_at_number l t) are ∙ item-map i.start.threads t)) (by (item_at_number i.start.threads t) refl) where
     by : (o : Option start.ThreadRow) → item_at_number i.start.threads t ≡ o → IsRowOf (option_map row_of o) (first_thread i t)
     by None e = tt
-    by (Some row) e = record { left = ap body_of_row e; pending = refl; number = refl; dying = refl; ended = refl }
+    by (Some row) e = record { left = ap body_of_row e; pending = refl; number = λ q e. absurd (none-some q e); dying = refl; ended = refl }
 
-  pub begun : IsStartable i → i.options.mode ≡ Enforce → IsSystem i (first_state i) system → IsKept i (first_state i) (is_live (first_state i)) workers → IsTableOf i.policies answers
+  pub begun : IsStartable i → IsBounded i.start → SetIdsUngranted i.policies → i.options.mode ≡ Enforce → IsSystem i (first_state i) system → IsKept i (first_state i) (is_live (first_state i)) workers → IsTableOf i.policies answers
       → IsMachine (record { input = i; system = system; workers = workers; threads = threads; answers = answers }) (first_state i)
-  begun startable enforces is_system is_kept is_table = record {
+  begun startable bounded ungranted enforces is_system is_kept is_table = record {
     reached = reached_first i startable;
+    bounded = bounded;
+    ungranted = ungranted;
     enforces = enforces;
     system = is_system;
     workers = is_kept;

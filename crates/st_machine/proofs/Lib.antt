@@ -1,5 +1,20 @@
 mod After
 mod Begun
+mod CanMake
+pub mod Choices
+mod Enabling
+mod Entered
+mod Fits
+mod HeldEnds
+mod Made
+mod MadeSteps
+mod Moving
 mod NextSteps
+mod Planned
 mod Reached
+mod Renewed
+mod RenewedLaw
+mod RenewedSteps
+mod Room
+mod Rows
 mod Served

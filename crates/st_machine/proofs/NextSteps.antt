@@ -37,13 +37,14 @@ use Rattle.st_machine.specs.Step.{step_entry}
 use Rattle.st_machine.specs.Thread.{ThreadRow, IsHeld, IsRow, IsRowOf}
 use Rattle.st_machine.specs.declared.step.Step.{Step}
 use Rattle.st_machine.proofs.Reached.{reached_of}
+use Rattle.st_machine.proofs.Rows.{held_number}
 
 and_none : (b : Bool) → (b && false) ≡ false
 and_none true = refl
 and_none false = refl
 
 module _ (m : Running) (st : State) (is : IsMachine m st) (t : ℕ) where
-  row_of : (row : ThreadRow) → item_at_number m.threads t ≡ Some row → IsRow row (st.threads t)
+  pub row_of : (row : ThreadRow) → item_at_number m.threads t ≡ Some row → IsRow row (st.threads t)
   row_of row e = subst (λ (o : Option ThreadRow). IsRowOf o (st.threads t)) e (is.threads t)
 
   -- ---- whether it runs
@@ -111,8 +112,15 @@ module _ (m : Running) (st : State) (is : IsMachine m st) (t pid seq : ℕ) (ent
   pub process_is : (st.threads t).owner ≡ pid
   process_is = owner_is m st is t pid x.process
 
-  pub number_is : (st.threads t).number ≡ seq
-  number_is = its.number ∙ x.number
+  number_by : (way : Way) → entered.way ≡ way → IsHeld way → (st.threads t).number ≡ seq
+  number_by (Held first) e held = its.number x.row.number (held_number x.row x.undying entered x.pending first e) ∙ x.number
+  number_by Fast e held = absurd held
+  number_by (Barred n) e held = absurd held
+  number_by Untraced e held = absurd held
+
+  -- its number, where its call is held
+  pub number_is : IsHeld entered.way → (st.threads t).number ≡ seq
+  number_is held = number_by entered.way refl held
 
   fine : Fine m.input st t entered
   fine = subst (IfPending (Fine m.input st t)) (its.pending ∙ x.pending) ((reached_of m.input st is.reached).whole.calls.fine t)
@@ -128,7 +136,7 @@ module _ (m : Running) (st : State) (is : IsMachine m st) (t pid seq : ℕ) (ent
   held_live held =
       let undying : (st.threads t).dying ≡ false = its.dying ∙ x.undying in
       let own : IsOpen st t entered.call entered.regs = open_by entered.way held (fine.fine undying) in
-      ap (is_live st) (sym number_is)
+      ap (is_live st) (sym (number_is held))
       ∙ ap (λ (o : Option Head). is_live_by o (st.messages (st.threads t).number).closed (λ u. (st.threads u).dying)) own.posted
       ∙ (λ k. not (own.unclosed k) && not ((st.threads (own.own.tid_is k)).dying))
       ∙ ap not undying

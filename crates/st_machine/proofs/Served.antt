@@ -24,9 +24,9 @@ use Rattle.st_law.specs.declared.input.Input.{Input}
 use Rattle.st_law.specs.Machine.{space_of_head, state_after, word_for, worker_entry}
 use Rattle.st_law.specs.Messages.{Head}
 use Rattle.st_law.specs.State as law
-use Rattle.st_law.specs.State.{State}
+use Rattle.st_law.specs.State.{State, ThreadState}
 use Rattle.st_base.specs.declared.errno.Errno.{Errno}
-use Rattle.st_model.specs.Processes.{thread_at as started_at}
+use Rattle.st_model.specs.Processes.{StartedThread, thread_at as started_at}
 use Rattle.st_system.specs.System.{IsSystem, IsThread, Parts}
 use Rattle.st_workers.specs.Kept.{head_of, Follows, IsKept, IsKeptAfter, Stands}
 use Rattle.st_workers.specs.UnderWay.{turn_at, UnderWay}
@@ -51,6 +51,8 @@ with_workers m workers = with_parts m m.system workers m.threads
 pub stands_so : (m : Running) (new : UnderWay) → Stands m.workers new → machine.Stands m (with_workers m new)
 stands_so m new stands st is = record {
   reached = is.reached;
+  bounded = is.bounded;
+  ungranted = is.ungranted;
   enforces = is.enforces;
   system = is.system;
   workers = stands m.input st.messages st.turns (law.is_live st) st.posted is.workers;
@@ -93,17 +95,21 @@ applied_as Stale false x = refl
 
 -- ---- one more entry of a worker
 
--- the system stands behind it
-same_system : (i : Input) (st new : State) (parts : Parts) → new.tree ≡ st.tree → new.descriptors ≡ st.descriptors → new.processes ≡ st.processes → new.next_process ≡ st.next_process → new.memory ≡ st.memory → new.next_space ≡ st.next_space
-    → new.threads ≡ st.threads → IsSystem i st parts → IsSystem i new parts
-same_system i st new parts tree descriptors processes next_process memory next_space threads x = record {
+same_thread : (o : Option StartedThread) (a b : ThreadState) → b.owner ≡ a.owner → b.ended ≡ a.ended → IsThread o a → IsThread o b
+same_thread None a b owner ended x = (owner ∙ x.0, ended ∙ x.1)
+same_thread (Some thread) a b owner ended x = (owner ∙ x.0, ended ∙ x.1)
+
+-- the system stands behind an entry that leaves its parts
+pub same_system : (i : Input) (st new : State) (parts : Parts) → new.tree ≡ st.tree → new.descriptors ≡ st.descriptors → new.processes ≡ st.processes → new.next_process ≡ st.next_process → new.memory ≡ st.memory
+    → new.next_space ≡ st.next_space → ((t : ℕ) → (new.threads t).owner ≡ (st.threads t).owner) → ((t : ℕ) → (new.threads t).ended ≡ (st.threads t).ended) → IsSystem i st parts → IsSystem i new parts
+same_system i st new parts tree descriptors processes next_process memory next_space owners ends x = record {
   tree = tree ∙ x.tree;
   descriptors = descriptors ∙ x.descriptors;
   processes = λ p. (λ k. processes k p) ∙ x.processes p;
   next_process = next_process ∙ x.next_process;
   memory = λ s b left. (λ k. memory k s b) ∙ x.memory s b left;
   next_space = next_space ∙ x.next_space;
-  threads = λ t. subst (IsThread (started_at parts.processes t)) (λ k. sym threads k t) (x.threads t);
+  threads = λ t. same_thread (started_at parts.processes t) (st.threads t) (new.threads t) (owners t) (ends t) (x.threads t);
   among = x.among;
 }
 
@@ -119,28 +125,28 @@ module _ (m : Running) (st : State) (is : IsMachine m st) (w : ℕ) (new : Under
   claimed_step v q is_entry kept = (
     is_entry,
     behind m st is (choice.Worker w) (entry.Claimed v q) is_entry refl m.system new m.threads
-        (same_system m.input st (state_after m.input st (entry.Claimed v q)) m.system refl refl refl refl refl refl refl is.system) kept rows refl,
+        (same_system m.input st (state_after m.input st (entry.Claimed v q)) m.system refl refl refl refl refl refl (λ t. refl) (λ t. refl) is.system) kept rows refl,
   )
 
   pub copied_step : (q part place word : ℕ) → worker_entry m.input st w ≡ Some (entry.Copied q part place word) → IsKeptAfter m.input st (entry.Copied q part place word) (law.is_live st) new → IsServedBy (entry.Copied q part place word)
   copied_step q part place word is_entry kept = (
     is_entry,
     behind m st is (choice.Worker w) (entry.Copied q part place word) is_entry refl m.system new m.threads
-        (same_system m.input st (state_after m.input st (entry.Copied q part place word)) m.system refl refl refl refl refl refl refl is.system) kept rows refl,
+        (same_system m.input st (state_after m.input st (entry.Copied q part place word)) m.system refl refl refl refl refl refl (λ t. refl) (λ t. refl) is.system) kept rows refl,
   )
 
   pub looked_step : (q part : ℕ) (name : Components) (seen : SeenText) → worker_entry m.input st w ≡ Some (entry.Looked q part name seen) → IsKeptAfter m.input st (entry.Looked q part name seen) (law.is_live st) new → IsServedBy (entry.Looked q part name seen)
   looked_step q part name seen is_entry kept = (
     is_entry,
     behind m st is (choice.Worker w) (entry.Looked q part name seen) is_entry refl m.system new m.threads
-        (same_system m.input st (state_after m.input st (entry.Looked q part name seen)) m.system refl refl refl refl refl refl refl is.system) kept rows refl,
+        (same_system m.input st (state_after m.input st (entry.Looked q part name seen)) m.system refl refl refl refl refl refl (λ t. refl) (λ t. refl) is.system) kept rows refl,
   )
 
   pub faulted_step : (q : ℕ) (errno : Errno) → worker_entry m.input st w ≡ Some (entry.Faulted q errno) → IsKeptAfter m.input st (entry.Faulted q errno) (law.is_live st) new → IsServedBy (entry.Faulted q errno)
   faulted_step q errno is_entry kept = (
     is_entry,
     behind m st is (choice.Worker w) (entry.Faulted q errno) is_entry refl m.system new m.threads
-        (same_system m.input st (state_after m.input st (entry.Faulted q errno)) m.system refl refl refl refl refl refl refl is.system) kept rows refl,
+        (same_system m.input st (state_after m.input st (entry.Faulted q errno)) m.system refl refl refl refl refl refl (λ t. refl) (λ t. refl) is.system) kept rows refl,
   )
 
   pub answered_step : (v : ℕ) (s : Snapshot) (verdict : Verdict) (applied : Bool) → worker_entry m.input st w ≡ Some (entry.Answered v s verdict applied) → IsKeptAfter m.input st (entry.Answered v s verdict applied) (law.is_live st) new
@@ -148,7 +154,7 @@ module _ (m : Running) (st : State) (is : IsMachine m st) (w : ℕ) (new : Under
   answered_step v s verdict applied is_entry kept = (
     is_entry,
     behind m st is (choice.Worker w) (entry.Answered v s verdict applied) is_entry refl m.system new m.threads
-        (same_system m.input st (state_after m.input st (entry.Answered v s verdict applied)) m.system refl refl refl refl refl refl refl is.system) kept rows refl,
+        (same_system m.input st (state_after m.input st (entry.Answered v s verdict applied)) m.system refl refl refl refl refl refl (λ t. refl) (λ t. refl) is.system) kept rows refl,
   )
 
 -- ---- the steps, by what the messages promise

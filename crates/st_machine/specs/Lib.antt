@@ -1,5 +1,10 @@
-pub mod NextSteps
+pub mod Enabled
+pub mod Ending
+pub mod Entering
 pub mod Machine
+pub mod Making
+pub mod NextSteps
+pub mod Renewing
 pub mod Serving
 pub mod Step
 pub mod Thread

@@ -9,6 +9,8 @@ use Rattle.st_law.specs.declared.input.Mode.TheVariants.{Enforce}
 use Rattle.st_law.specs.Inputs.{IsStartable}
 use Rattle.st_law.specs.Machine.{entry_of, state_after, state_of_run, thread_entry}
 use Rattle.st_law.specs.State.{State, is_live, thread_count}
+use Rattle.st_reached.specs.Grants.{SetIdsUngranted}
+use Rattle.st_reached.specs.Scripts.{IsBounded}
 use Rattle.st_system.specs.System.{IsSystem, Parts}
 use Rattle.st_workers.specs.Kept.{IsKept}
 use Rattle.st_workers.specs.Tasks.{task_of, IsTask, IsThere}
@@ -36,6 +38,8 @@ pub record IsReached (i : Input) (st : State) : Type 0 where
 -- what runs is the law's machine in this state
 pub record IsMachine (m : Running) (st : State) : Type 0 where
   pub reached : IsReached m.input st
+  pub bounded : IsBounded m.input.start
+  pub ungranted : SetIdsUngranted m.input.policies
   pub enforces : m.input.options.mode ≡ Enforce
   pub system : IsSystem m.input st m.system
   pub workers : IsKept m.input st (is_live st) m.workers

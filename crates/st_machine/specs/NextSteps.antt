@@ -1,11 +1,13 @@
 -- What a thread does next, part by part: each part gives the step whose entry is the law's.
-use Rattle.std.specs.Prelude.{◌≡◌, ℕ, false, List, Option, Some, None}
+use Rattle.std.specs.Prelude.{◌≡◌, ℕ, true, false, List, Option, Some, None}
 use Rattle.st_base.specs.Numbered.{item_at_number}
 use Rattle.st_base.specs.declared.ids.Ids.{Ids}
+use Rattle.st_calls.specs.Call.{follows}
 use Rattle.st_calls.specs.declared.call.SysCall.{SysCall}
 use Rattle.st_calls.specs.declared.judged.Snapshot.{Snapshot}
 use Rattle.st_calls.specs.declared.judged.Verdict.{Verdict}
 use Rattle.st_calls.specs.declared.rule.FastAnswer.{FastAnswer}
+use Rattle.st_exec_fs.specs.Open.{IsNoLink}
 use Rattle.st_model.specs.Processes.{pid_of, IsPid}
 use Rattle.st_messages.specs.declared.message.MsgState.{MsgState}
 use Rattle.st_messages.specs.declared.message.MsgState.TheVariants.{Waiting, Claimed, Answered, Faulted}
@@ -14,10 +16,14 @@ use Rattle.st_trace.specs.declared.entry.Entry.TheVariants.{Denied}
 use Rattle.st_law.specs.Machine.{barred_entry, decided_entry, held_entry, pending_entry, permitted_entry, unheld_entry}
 use Rattle.st_law.specs.State.{State, answer_in, arguments_now, link_now, process_in, snapshot_in}
 use Rattle.st_law.specs.Threads.{PendingCall}
+use Rattle.st_system.specs.Fit.{AreFit, first_name}
+use Rattle.st_system.specs.System.{Parts}
 use Rattle.st_machine.specs.Machine.{IsMachine, Running}
 use Rattle.st_machine.specs.Step.{step_entry}
 use Rattle.st_machine.specs.Thread.{ThreadRow}
 use Rattle.st_machine.specs.declared.step.Step.{Step}
+use Rattle.st_machine.specs.declared.step.Step.TheVariants.{Wait, End, Store, Enter, Make, Fail, Deny}
+use Rattle.st_machine.specs.declared.step.Use.{Use}
 
 -- a thread of a process has entered a call, hasn't ended and isn't dying; a call that it holds has this number
 pub record HasEntered (m : Running) (t pid : ℕ) (entered : PendingCall) (seq : ℕ) : Type 0 where
@@ -71,3 +77,20 @@ IsStepOf m st t seq (Some Waiting) step = step_entry m.input st t step ≡ None
 IsStepOf m st t seq (Some (Claimed worker)) step = step_entry m.input st t step ≡ None
 IsStepOf m st t seq (Some (Faulted errno)) step = step_entry m.input st t step ≡ Some (Denied t (Some seq) errno Fault)
 IsStepOf m st t seq (Some (Answered decided)) step = (s : Snapshot) → snapshot_in st seq ≡ Some s → decided_entry m.input st t seq s decided ≡ step_entry m.input st t step
+
+-- ---- whether the call of a step can be made
+
+-- the arguments are fit for the call, and where it follows a link at the end of its first name, that is no link's
+pub record IsFit (parts : Parts) (made : Use) : Type 0 where
+  pub fit : AreFit made.call made.args
+  pub unlinked : follows made.call made.regs 0 ≡ true → IsNoLink parts.tree (first_name made.args)
+
+-- the call that a step makes, if it makes one, can be made
+abbrev pub CanBeDone : Parts → Step → Type 0
+CanBeDone parts (Make made) = IsFit parts made
+CanBeDone parts Wait = Unit {0}
+CanBeDone parts End = Unit {0}
+CanBeDone parts (Store place word) = Unit {0}
+CanBeDone parts (Enter call regs) = Unit {0}
+CanBeDone parts (Fail call regs ids errno) = Unit {0}
+CanBeDone parts (Deny seq errno cause) = Unit {0}

@@ -1,8 +1,8 @@
 -- What is kept of a thread beside its process, which the system knows.
-use Rattle.std.specs.Prelude.{◌≡◌, ℕ, Bool, false, List, drop, Option, Some, None}
-use Rattle.st_calls.specs.declared.call.SysCall.{SysCall}
+use Rattle.std.specs.Prelude.{◌≡◌, ℕ, Bool, false, if◌then◌else◌, List, drop, Option, Some, None}
 use Rattle.st_trace.specs.declared.entry.Way.{Way}
 use Rattle.st_trace.specs.declared.entry.Way.TheVariants.{Fast, Barred, Held, Untraced}
+use Rattle.st_calls.specs.declared.call.SysCall.{SysCall}
 use Rattle.st_trace.specs.declared.start.Instr.{Instr}
 use Rattle.st_law.specs.State.{ThreadState}
 use Rattle.st_law.specs.Threads.{PendingCall, child_of_next}
@@ -28,7 +28,7 @@ number_of_way Fast before = before
 number_of_way (Barred n) before = before
 number_of_way Untraced before = before
 
--- a thread that enters the call of its next instruction this way
+-- a thread that enters its next instruction's call this way
 abbrev pub row_entered : ThreadRow → SysCall → List ℕ → Way → ThreadRow
 row_entered row call regs way = record {
   left = drop 1 row.left;
@@ -38,11 +38,27 @@ row_entered row call regs way = record {
   ended = row.ended;
 }
 
--- a row is what the law's machine keeps of a thread
+-- the number of a call that is held, by its way
+abbrev pub number_by_way : ℕ → Way → Option ℕ
+number_by_way number (Held first) = Some number
+number_by_way number Fast = None
+number_by_way number (Barred n) = None
+number_by_way number Untraced = None
+
+-- the number of a pending call, if it is held
+abbrev pub number_pending : ℕ → Option PendingCall → Option ℕ
+number_pending number None = None
+number_pending number (Some entered) = number_by_way number entered.way
+
+-- the number of the call that a thread holds; one that is dying holds none
+abbrev pub number_held : ThreadRow → Option ℕ
+number_held row = if row.dying then None else number_pending row.number row.pending
+
+-- a row is what the law's machine keeps of a thread; its number means something only while it holds a call
 pub record IsRow (row : ThreadRow) (thread : ThreadState) : Type 0 where
   pub left : thread.left ≡ row.left
   pub pending : thread.pending ≡ row.pending
-  pub number : thread.number ≡ row.number
+  pub number : (q : ℕ) → number_held row ≡ Some q → thread.number ≡ q
   pub dying : thread.dying ≡ row.dying
   pub ended : thread.ended ≡ row.ended
 

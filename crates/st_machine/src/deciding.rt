@@ -1,6 +1,7 @@
 // What a thread does next, as the law's machine has it.
-ghost use Rattle.std.specs.Prelude.{◌≡◌, IfOk, Some};
-ghost use Rattle.st_machine.specs.NextSteps.{HasEntered, IsAnswerOf, IsBarredStep, IsDecidedStep, IsHeldStep, IsPendingStep, IsPermittedStep, IsUnheldStep};
+ghost use Rattle.std.specs.Prelude.{◌≡◌, ◌<◌, false, true, IfSome, IfOk, IsNone, None, Some};
+ghost use Rattle.st_law.specs.declared.input.Input.{Input};
+ghost use Rattle.st_machine.specs.NextSteps.{CanBeDone, HasEntered, IsAnswerOf, IsBarredStep, IsDecidedStep, IsHeldStep, IsPendingStep, IsPermittedStep, IsUnheldStep};
 ghost use Rattle.st_machine.specs.Machine.{IsNext};
 ghost use Rattle.st_messages.specs.Messages.{state_at};
 ghost use Rattle.st_messages.specs.declared.message.MsgState.TheVariants.{Answered};
@@ -33,7 +34,8 @@ fn deny(seq: Seq, errno: Errno, cause: Cause) -> Step
 impl<'a> Machine<'a> {
     /// What a thread does next.
     pub fn next_step(&self, alloc: Global, tid: Tid) -> Result<Step, AllocError>
-        ensures { IfOk result (IsNext self.now tid) }
+        ensures step { IfOk result (IsNext self.now tid) }
+        ensures fit { IfOk result (CanBeDone self.now.system) }
     {
         let Some(thread) = self.thread(tid) else {
             return Ok(Step::Wait);
@@ -63,7 +65,8 @@ impl<'a> Machine<'a> {
         seq: Seq,
     ) -> Result<Step, AllocError>
         requires { HasEntered self.now tid pid entered seq }
-        ensures { IfOk result (IsPendingStep self.now tid entered) }
+        ensures step { IfOk result (IsPendingStep self.now tid entered) }
+        ensures fit { IfOk result (CanBeDone self.now.system) }
     {
         match entered.way {
             Way::Fast | Way::Untraced => self.unheld_step(alloc, tid, pid, entered, seq),
@@ -73,7 +76,7 @@ impl<'a> Machine<'a> {
     }
 
     // The kernel's own answer for a call of a process.
-    fn answer(&self, pid: Pid, call: SysCall, regs: &[u64; 6]) -> FastAnswer
+    pub(crate) fn answer(&self, pid: Pid, call: SysCall, regs: &[u64; 6]) -> FastAnswer
         requires { IsPid self.now.system.processes pid }
         ensures { IsAnswerOf self.now pid call regs.now result }
     {
@@ -91,7 +94,8 @@ impl<'a> Machine<'a> {
         seq: Seq,
     ) -> Result<Step, AllocError>
         requires { HasEntered self.now tid pid entered seq }
-        ensures { IfOk result (IsUnheldStep self.now tid entered) }
+        ensures step { IfOk result (IsUnheldStep self.now tid entered) }
+        ensures fit { IfOk result (CanBeDone self.now.system) }
     {
         let PendingCall { call, regs, .. } = entered;
         let ids = self.system.ids(pid);
@@ -130,7 +134,8 @@ impl<'a> Machine<'a> {
     // A barred call is denied with the error of the filter that bars it.
     fn barred_step(&self, tid: Tid, pid: Pid, entered: PendingCall, seq: Seq, number: u32) -> Step
         requires { HasEntered self.now tid pid entered seq }
-        ensures { IsBarredStep self.now tid entered number result }
+        ensures step { IsBarredStep self.now tid entered number result }
+        ensures fit { CanBeDone self.now.system result }
     {
         match self.answer(pid, entered.call, &entered.regs) {
             FastAnswer::Refuse(errno) => Step::Deny {
@@ -153,7 +158,8 @@ impl<'a> Machine<'a> {
     ) -> Result<Step, AllocError>
         requires entered { HasEntered self.now tid pid entered seq }
         requires held { IsHeld entered.way }
-        ensures { IfOk result (IsHeldStep self.now tid seq) }
+        ensures step { IfOk result (IsHeldStep self.now tid seq) }
+        ensures fit { IfOk result (CanBeDone self.now.system) }
     {
         let Some(state) = self.workers.state(seq) else {
             return Ok(Step::Wait);
@@ -174,7 +180,8 @@ impl<'a> Machine<'a> {
         verdict: Verdict,
     ) -> Result<Step, AllocError>
         requires { state_at self.now.workers.calls seq ≡ Some (Answered verdict) }
-        ensures { IfOk result (IsDecidedStep self.now tid seq verdict) }
+        ensures step { IfOk result (IsDecidedStep self.now tid seq verdict) }
+        ensures fit { IfOk result (CanBeDone self.now.system) }
     {
         match verdict {
             Verdict::Permit(_, ids) => self.permitted_step(alloc, tid, seq, ids),
@@ -192,7 +199,8 @@ impl<'a> Machine<'a> {
         ids: Ids,
     ) -> Result<Step, AllocError>
         requires { IsAnswered (state_at self.now.workers.calls seq) }
-        ensures { IfOk result (IsPermittedStep self.now tid seq ids) }
+        ensures step { IfOk result (IsPermittedStep self.now tid seq ids) }
+        ensures fit { IfOk result (CanBeDone self.now.system) }
     {
         let copies = self.workers.snapshot(alloc, seq)?;
         let Snapshot {

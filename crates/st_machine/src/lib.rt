@@ -1,8 +1,15 @@
 //! The machine that runs: threads over the modelled system, and workers over the messages of their calls, step by step.
 #![tactic(auto)]
 
+mod acting;
+mod choosing;
 mod deciding;
+mod enabled;
+mod ending;
+mod entering;
 pub mod machine;
+mod making;
+mod renewing;
 mod serving;
 pub mod step;
 pub mod thread;

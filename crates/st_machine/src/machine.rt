@@ -1,10 +1,14 @@
-ghost use Rattle.std.specs.Prelude.{◌≡◌, IfSome, IfOk, None, Some, map};
+ghost use Rattle.std.specs.Prelude.{◌≡◌, ◌≤◌, ◌<◌, ◌-◌, ℕ, IfSome, IfOk, Option, None, Some, map};
 ghost use Rattle.st_base.specs.Numbered.{item_at_number};
+ghost use Rattle.st_filter.specs.Policies.{policy_of};
 ghost use Rattle.st_law.specs.Inputs.{IsStartable};
 ghost use Rattle.st_law.specs.Machine.{first_state};
+ghost use Rattle.st_law.specs.State.{thread_count};
 ghost use Rattle.st_law.specs.declared.input.Mode.TheVariants.{Enforce};
 ghost use Rattle.st_machine.specs.Machine.{IsMachine};
 ghost use Rattle.st_machine.specs.Thread.{first_row};
+ghost use Rattle.st_reached.specs.Grants.{SetIdsUngranted};
+ghost use Rattle.st_reached.specs.Scripts.{IsBounded};
 ghost use Rattle.st_system.specs.Start.{CanStart};
 
 use crate::thread::Thread;
@@ -57,6 +61,8 @@ impl<'a> Machine<'a> {
     pub fn start(alloc: Global, input: &'a Input) -> Result<Self, AllocError>
         requires startable { IsStartable input.now }
         requires system { CanStart input.now }
+        requires bounded { IsBounded input.now.start }
+        requires ungranted { SetIdsUngranted input.now.policies }
         requires enforces { input.now.options.mode ≡ Enforce }
         ensures input { IfOk result (λ machine. machine.input ≡ input.now) }
         ensures first { IfOk result (λ machine. IsMachine machine (first_state input.now)) }
@@ -83,5 +89,22 @@ impl<'a> Machine<'a> {
         ensures some { IfSome result (λ thread. item_at_number self.now.threads tid ≡ Some thread.now) }
     {
         self.threads.get((tid as usize).checked_sub(1)?)
+    }
+
+    /// How many threads the script has.
+    pub fn thread_count(&self) -> u32
+        ensures count { result ≡ thread_count self.now.input }
+        ensures few { result ≤ 64 }
+    {
+        self.threads.len() as u32
+    }
+
+    /// How many workers there are.
+    pub fn worker_count(&self) -> u32
+        ensures workers { result ≡ self.now.workers.calls.workers }
+        ensures input { result ≡ self.now.input.options.workers }
+        ensures few { result ≤ 8 }
+    {
+        self.workers.workers()
     }
 }

@@ -30,6 +30,7 @@ impl<'a> Machine<'a> {
         requires { IsWorker self.old.workers.calls worker }
         ensures step { IfOk result (λ entry. IsStep self.old (Worker worker) entry self.new) }
         ensures err { OnErr result (Stands self.old self.new) }
+        ensures input { self.new.input ≡ self.old.input }
     {
         match self.workers.task(worker) {
             Task::Rest => Ok(None),
@@ -48,6 +49,7 @@ impl<'a> Machine<'a> {
         requires { HasTask self.old worker tasks.Claim }
         ensures step { IfOk result (λ entry. IsStep self.old (Worker worker) (Some entry) self.new) }
         ensures err { OnErr result (Stands self.old self.new) }
+        ensures input { self.new.input ≡ self.old.input }
     {
         let seq = self.workers.claim(alloc, worker)?;
         Ok(Entry::Claimed { worker, seq })
@@ -65,6 +67,7 @@ impl<'a> Machine<'a> {
         requires task { HasTask self.old worker (tasks.Copy seq part place) }
         ensures step { IfOk result (λ entry. IsStep self.old (Worker worker) (Some entry) self.new) }
         ensures err { OnErr result (Stands self.old self.new) }
+        ensures input { self.new.input ≡ self.old.input }
     {
         let pid = self.workers.head(seq).pid;
         let word = self.system.word(pid, place);
@@ -88,6 +91,7 @@ impl<'a> Machine<'a> {
         requires { HasTask self.old worker (tasks.Look seq part) }
         ensures step { IfOk result (λ entry. IsStep self.old (Worker worker) (Some entry) self.new) }
         ensures err { OnErr result (Stands self.old self.new) }
+        ensures input { self.new.input ≡ self.old.input }
     {
         let name = self.workers.look_name(alloc, worker)?;
         let seen = self.system.look(&name);
@@ -104,7 +108,8 @@ impl<'a> Machine<'a> {
     // A worker tells the error of its message.
     fn fault(&mut self, worker: Worker, seq: Seq, errno: Errno) -> Entry
         requires { HasTask self.old worker (tasks.Fault seq errno) }
-        ensures { IsStep self.old (Worker worker) (Some result) self.new }
+        ensures step { IsStep self.old (Worker worker) (Some result) self.new }
+        ensures input { self.new.input ≡ self.old.input }
     {
         self.workers.fault(worker);
         Entry::Faulted { seq, errno }
@@ -114,7 +119,8 @@ impl<'a> Machine<'a> {
     fn answer_of(&mut self, worker: Worker) -> Entry
         requires task { HasTask self.old worker tasks.Answer }
         requires worker { IsWorker self.old.workers.calls worker }
-        ensures { IsStep self.old (Worker worker) (Some result) self.new }
+        ensures step { IsStep self.old (Worker worker) (Some result) self.new }
+        ensures input { self.new.input ≡ self.old.input }
     {
         let copies = self.workers.copies(worker);
         let verdict = decide(self.input.policies.get(copies.policy.bytes()), copies);

@@ -2,7 +2,9 @@ ghost use Rattle.std.specs.Prelude.{◌≡◌, ℕ};
 ghost use Rattle.st_law.specs.declared.input.Input.{Input};
 ghost use Rattle.st_law.specs.Machine.{next_instruction_entry};
 ghost use Rattle.st_law.specs.State.{State};
+ghost use Rattle.st_machine.specs.NextSteps.{CanBeDone};
 ghost use Rattle.st_machine.specs.Step.{step_entry};
+ghost use Rattle.st_system.specs.System.{Parts};
 
 use st_base::{Errno, Ids, Seq, Sequence};
 use st_calls::{ArgText, SysCall};
@@ -55,7 +57,8 @@ pub struct Use {
 impl Step {
     /// The step of a thread without a pending call, by the instructions that it has left.
     pub fn of_instructions(left: &[Instr]) -> Self
-        ensures { (i : Input) (st : State) (t : ℕ) → next_instruction_entry i st t left.now ≡ step_entry i st t result }
+        ensures entry { (i : Input) (st : State) (t : ℕ) → next_instruction_entry i st t left.now ≡ step_entry i st t result }
+        ensures fit { (parts : Parts) → CanBeDone parts result }
     {
         match left {
             [] => Step::End,

@@ -1,6 +1,8 @@
 ghost use Rattle.std.specs.Prelude.{◌≡◌, IfOk};
 ghost use Rattle.st_law.specs.Inputs.{IsStartable};
 ghost use Rattle.st_law.specs.declared.input.Mode.TheVariants.{Enforce};
+ghost use Rattle.st_reached.specs.Grants.{SetIdsUngranted};
+ghost use Rattle.st_reached.specs.Scripts.{IsBounded};
 ghost use Rattle.st_system.specs.Start.{CanStart};
 
 use crate::{Machine, Step};
@@ -24,6 +26,8 @@ const OPTIONS: Options = Options {
 fn one_store(alloc: Global) -> Result<Input, AllocError>
     ensures startable { IfOk result IsStartable }
     ensures can { IfOk result CanStart }
+    ensures bounded { IfOk result (λ input. IsBounded input.start) }
+    ensures ungranted { IfOk result (λ input. SetIdsUngranted input.policies) }
     ensures enforces { IfOk result (λ input. input.options.mode ≡ Enforce) }
 {
     let mut processes = Sequence::new(alloc);

@@ -1,6 +1,7 @@
 ghost use Rattle.std.specs.Prelude.{◌≡◌, drop, true, None};
+ghost use Rattle.st_law.specs.State.{child_of_pending};
 ghost use Rattle.st_law.specs.Threads.{child_of_next};
-ghost use Rattle.st_machine.specs.Thread.{first_row, row_entered};
+ghost use Rattle.st_machine.specs.Thread.{first_row, number_held, row_entered};
 
 use st_base::{Seq, Tid};
 use st_calls::SysCall;
@@ -100,6 +101,29 @@ impl<'a> Thread<'a> {
         self.number
     }
 
+    /// The number of the call that it holds; one that is dying holds none.
+    pub fn number_held(&self) -> Option<Seq>
+        ensures { result ≡ number_held self.now }
+    {
+        if self.dying {
+            return None;
+        }
+        match self.pending?.way {
+            Way::Held(_) => Some(self.number),
+            Way::Fast | Way::Barred(_) | Way::Untraced => None,
+        }
+    }
+
+    /// The thread that its pending call starts; 0 where it is no fork of the body.
+    pub fn child(&self) -> Tid
+        ensures { result ≡ child_of_pending self.now.pending }
+    {
+        match self.pending {
+            Some(entered) => entered.child,
+            None => 0,
+        }
+    }
+
     /// Whether it has nothing left but to end.
     pub fn is_dying(&self) -> bool
         ensures { result ≡ self.now.dying }
@@ -142,6 +166,13 @@ impl<'a> Thread<'a> {
         ensures { self.new ≡ record self.old { pending = None } }
     {
         self.pending = None;
+    }
+
+    /// The call that it holds has a new number.
+    pub fn renew(&mut self, seq: Seq)
+        ensures { self.new ≡ record self.old { number = seq } }
+    {
+        self.number = seq;
     }
 
     /// It has nothing left but to end.

@@ -7,7 +7,7 @@ mod Executing
 mod Failures
 mod Families
 mod First
-mod Fit
+pub mod Fit
 mod Kept
 mod Links
 mod Living

@@ -35,5 +35,5 @@ step c = answered (old c) c.args.worker c.answer-snapshot.new.self c.answer-snap
 pub invariant_of-self : goal.invariant_of-self
 invariant_of-self c = running_step (old c) (with_workers (old c) c.answer-snapshot.new.self) (choice.Worker c.args.worker) (entry.Answered c.args.worker c.answer-snapshot.result.0 c.decide-verdict.result c.is_applied.result) c.self.invariant (step c)
 
-pub returns : goal.returns
-returns c = subst (λ (m : Running). IsStep m (choice.Worker c.args.worker) (Some (entry.Answered c.args.worker c.answer-snapshot.result.0 c.decide-verdict.result c.is_applied.result)) (with_workers (old c) c.answer-snapshot.new.self)) c.self.view_is (step c)
+pub returns-clause-step : goal.returns-clause-step
+returns-clause-step c = subst (λ (m : Running). IsStep m (choice.Worker c.args.worker) (Some (entry.Answered c.args.worker c.answer-snapshot.result.0 c.decide-verdict.result c.is_applied.result)) (with_workers (old c) c.answer-snapshot.new.self)) c.self.view_is (step c)

@@ -18,5 +18,5 @@ step c = faulted (old c) c.args.worker c.fault.new.self c.args.seq c.args.errno 
 pub invariant_of-self : goal.invariant_of-self
 invariant_of-self c = running_step (old c) (with_workers (old c) c.fault.new.self) (choice.Worker c.args.worker) (entry.Faulted c.args.seq c.args.errno) c.self.invariant (step c)
 
-pub returns : goal.returns
-returns c = subst (λ (m : Running). IsStep m (choice.Worker c.args.worker) (Some (entry.Faulted c.args.seq c.args.errno)) (with_workers (old c) c.fault.new.self)) c.self.view_is (step c)
+pub returns-clause-step : goal.returns-clause-step
+returns-clause-step c = subst (λ (m : Running). IsStep m (choice.Worker c.args.worker) (Some (entry.Faulted c.args.seq c.args.errno)) (with_workers (old c) c.fault.new.self)) c.self.view_is (step c)

@@ -1,16 +1,20 @@
-use Rattle.std.proofs.Common.{◌∙◌, Option, Some, ap, refl, sym, subst}
+use Rattle.std.proofs.Common.{◌∙◌, List, Option, Some, ap, refl, sym, subst}
+use Rattle.st_calls.specs.declared.argument.ArgText.{ArgText}
+use Rattle.st_exec_fs.specs.Open.{IsNoLink}
 use Rattle.st_names.specs.Name.{Components}
 use Rattle.st_law.specs.Machine.{permitted_entry}
+use Rattle.st_system.specs.Fit.{first_name}
 use Rattle.st_machine.specs.Machine.{Running}
-use Rattle.st_machine.specs.NextSteps.{IsPermittedStep}
+use Rattle.st_machine.specs.NextSteps.{CanBeDone, IsFit, IsPermittedStep}
 use Rattle.st_machine.specs.Step.{step_entry}
 use Rattle.st_machine.specs.declared.step.Step.{Step}
 use Rattle.st_machine.specs.declared.step.Step.TheVariants as steps
+use Rattle.st_machine.proofs.Fits.{copies_fit}
 use Rattle.st_machine.proofs.NextSteps.{permitted_is}
 use Rattle.st_machine.proofs.machine.Machine.permitted_step.Goals as goal
 
-pub returns-in-Some : goal.returns-in-Some
-returns-in-Some c =
+pub returns-in-Some-clause-step : goal.returns-in-Some-clause-step
+returns-in-Some-clause-step c =
     let m : Running = record { input = c.self.inside.input.now; system = c.self.inside.system; workers = c.self.inside.workers; threads = c.self.inside.threads.items; answers = c.self.inside.answers } in
     let copies = c.in_ok-copies.copies in
     let next : IsPermittedStep m c.args.tid c.args.seq c.args.ids c.deny.result = λ st is s s_is.
@@ -19,8 +23,8 @@ returns-in-Some c =
     ∙ ap (step_entry m.input st c.args.tid) (sym c.deny.ensures) in
     subst (λ (k : Running). IsPermittedStep k c.args.tid c.args.seq c.args.ids c.deny.result) c.self.view_is next
 
-pub returns : goal.returns
-returns c =
+pub returns-clause-step : goal.returns-clause-step
+returns-clause-step c =
     let m : Running = record { input = c.self.inside.input.now; system = c.self.inside.system; workers = c.self.inside.workers; threads = c.self.inside.threads.items; answers = c.self.inside.answers } in
     let copies = c.in_ok-copies.copies in
     let step : Step = steps.Make (record { seq = Some c.args.seq; call = copies.call; regs = copies.regs; args = copies.parts; ids = c.args.ids }) in
@@ -28,3 +32,16 @@ returns c =
     permitted_is m st is c.args.tid c.args.seq c.args.ids copies s c.as_slice.result.now c.in_ok-link.link m.input.options.aliasing c.in_ok-copies.ensures c.in_ok-link.ensures.link refl c.as_slice.ensures s_is
     ∙ ap (λ (o : Option Components). Some (permitted_entry m.input st c.args.tid c.args.seq copies c.args.ids o)) c.in-None.is in
     subst (λ (k : Running). IsPermittedStep k c.args.tid c.args.seq c.args.ids step) c.self.view_is next
+
+pub returns-in-Some-clause-fit : goal.returns-in-Some-clause-fit
+returns-in-Some-clause-fit c = subst (CanBeDone c.args.self.now.system) (sym c.deny.ensures) tt
+
+pub returns-clause-fit : goal.returns-clause-fit
+returns-clause-fit c =
+    let m : Running = record { input = c.self.inside.input.now; system = c.self.inside.system; workers = c.self.inside.workers; threads = c.self.inside.threads.items; answers = c.self.inside.answers } in
+    let copies = c.in_ok-copies.copies in
+    let fit : IsFit m.system (record { seq = Some c.args.seq; call = copies.call; regs = copies.regs; args = copies.parts; ids = c.args.ids }) = record {
+      fit = copies_fit m c.self.invariant.state c.self.invariant.is c.args.seq copies (c.in_ok-copies.ensures m.input c.self.invariant.state c.self.invariant.is.workers);
+      unlinked = λ follow. subst (λ (args : List ArgText). IsNoLink m.system.tree (first_name args)) c.as_slice.ensures (c.in_ok-link.ensures.unlinked c.in-None.is follow);
+    } in
+    subst (λ (k : Running). IsFit k.system (record { seq = Some c.args.seq; call = copies.call; regs = copies.regs; args = copies.parts; ids = c.args.ids })) c.self.view_is fit

@@ -1,0 +1,99 @@
+-- What a call needs to be made is there.
+use native.Mathlib.Omega.{arith}
+use Rattle.std.proofs.Common.{◌≡◌, ◌≤◌, ◌∙◌, ◌==◌, suc, ℕ, ◌+◌, not, Bool, true, Option, Some, None, refl, ap, sym, subst}
+use Rattle.std.specs.Prelude.{is_some}
+use Rattle.st_base.specs.Numbered.{item_at_number}
+use Rattle.st_calls.specs.declared.call.SysCall.{SysCall}
+use Rattle.st_calls.specs.declared.call.SysCall.TheVariants.{Fork, Execve, SetUid, SetEuid, SetGid, SetEgid}
+use Rattle.st_effects.specs.System as effects
+use Rattle.st_law.specs.Lawful.{IsUsed}
+use Rattle.st_law.specs.Machine.{state_of_run}
+use Rattle.st_law.specs.Processes.{process_count}
+use Rattle.st_law.specs.Schedules as schedules
+use Rattle.st_law.specs.Schedules.{instruction_count}
+use Rattle.st_law.specs.State.{State, child_of_pending}
+use Rattle.st_model.specs.Processes.{pid_of, process_at}
+use Rattle.st_reached.specs.Reached.{ForksStartNew, SetsOwnIds}
+use Rattle.st_reached.proofs.Made.{few_processes, few_spaces}
+use Rattle.st_reached.proofs.OwnIds.{sets_own_ids}
+use Rattle.st_reached.proofs.Starting.{forks_start_new}
+use Rattle.st_model.specs.Process.{Process}
+use Rattle.st_system.specs.Fit.{AreFit}
+use Rattle.st_system.specs.Steps.{CanMake}
+use Rattle.st_trace.specs.declared.entry.Way.{Way}
+use Rattle.st_trace.specs.declared.entry.Way.TheVariants.{Held}
+use Rattle.st_machine.specs.Machine.{IsMachine, IsNext, Running}
+use Rattle.st_machine.specs.Making.{child_of_row, request_with}
+use Rattle.st_machine.specs.NextSteps.{IsFit}
+use Rattle.st_machine.specs.Thread.{ThreadRow}
+use Rattle.st_machine.specs.declared.step.Step.TheVariants as steps
+use Rattle.st_machine.specs.declared.step.Use.{Use}
+use Rattle.st_machine.proofs.MadeSteps.{now, used}
+use Rattle.st_machine.proofs.NextSteps.{owner_is, row_of}
+
+-- whether a thread hasn't started is said alike
+pub unstarted : (o : Option ℕ) (owner : ℕ) (started : Bool) → started ≡ is_some o → started ≡ not (owner == 0) → owner ≡ 0 → o ≡ None
+unstarted None owner started here law none = refl
+unstarted (Some pid) owner started here law none = let clash : not (owner == 0) ≡ true = sym law ∙ here in let zero = ap (λ (n : ℕ). not (n == 0)) none in cc
+
+module _ (m : Running) (st : State) (is : IsMachine m st) (t pid : ℕ) (made : Use) (next : IsNext m t (steps.Make made)) (process : pid_of m.system.processes t ≡ Some pid) (row : ThreadRow) (row_is : item_at_number m.threads t ≡ Some row) where
+  in_run : (P : State → Type 0) → P (state_of_run m.input is.reached.choices) → P st
+  in_run P x = subst P (sym is.reached.state_is) x
+
+  -- the call that its thread has pending
+  pending_is : (seq : Option ℕ) (outcome : effects.Outcome) → IsUsed m.input st t seq made.call made.regs made.args made.ids outcome.result outcome.changes
+      → (way : Way) × (child : ℕ) × ((st.threads t).pending ≡ Some (record { call = made.call; regs = made.regs; way = way; child = child }))
+  pending_is None outcome x = (x.way, x.entered.0, x.entered.1)
+  pending_is (Some q) outcome x = (Held x.held.first, x.held.entered.0, x.held.entered.1)
+
+  few_pids : st.next_process ≤ 4161
+  few_pids =
+      let most = in_run (λ (s : State). s.next_process ≤ suc (process_count m.input) + instruction_count m.input) (few_processes m.input is.reached.startable is.reached.choices) in
+      let instructions : instruction_count m.input ≤ 4096 = is.bounded.few_instructions in
+      let processes : process_count m.input ≤ 64 = is.bounded.few_processes in
+      omega (arith, most, instructions, processes)
+
+  few_memories : st.next_space ≤ 4161
+  few_memories =
+      let most = in_run (λ (s : State). s.next_space ≤ suc (process_count m.input) + instruction_count m.input) (few_spaces m.input is.reached.startable is.reached.choices) in
+      let instructions : instruction_count m.input ≤ 4096 = is.bounded.few_instructions in
+      let processes : process_count m.input ≤ 64 = is.bounded.few_processes in
+      omega (arith, most, instructions, processes)
+
+  -- a fork starts a thread that hasn't started
+  child_new : made.call ≡ Fork → (st.threads (child_of_row (item_at_number m.threads t))).owner ≡ 0
+  child_new forks =
+      let entered = pending_is made.seq (now m st is t pid made next process row row_is) (used m st is t pid made next process row row_is) in
+      let starting : ForksStartNew st = in_run ForksStartNew (forks_start_new m.input is.reached.startable is.bounded.starts is.reached.choices) in
+      let none = starting.child t (record { call = made.call; regs = made.regs; way = entered.0; child = entered.1 }) entered.2 forks in
+      let child : child_of_row (item_at_number m.threads t) ≡ entered.1 = ap child_of_row row_is ∙ ap child_of_pending (sym (row_of m st is t row row_is).pending ∙ entered.2) in
+      ap (λ (n : ℕ). (st.threads n).owner) child ∙ none
+
+  -- a call that sets ids is made under its process's own
+  own_ids : schedules.sets_ids made.call ≡ true → made.ids ≡ (process_at m.system.processes pid).ids
+  own_ids sets =
+      let setting : SetsOwnIds m.input st = in_run (SetsOwnIds m.input) (sets_own_ids m.input is.reached.startable is.ungranted is.enforces is.reached.choices) in
+      let outcome = now m st is t pid made next process row row_is in
+      setting.own t made.seq made.call made.regs made.args made.ids outcome.result outcome.changes (used m st is t pid made next process row row_is) sets
+      ∙ ap (λ (p : ℕ). (st.processes p).ids) (owner_is m st is t pid process) ∙ ap (λ (p : Process). p.ids) (is.system.processes pid)
+
+  -- what each call needs
+  pub can_make : IsFit m.system made → ((st.threads (child_of_row (item_at_number m.threads t))).owner ≡ 0 → pid_of m.system.processes (child_of_row (item_at_number m.threads t)) ≡ None)
+      → CanMake made.call m.system (request_with m t pid made)
+  can_make fit new = by made.call refl fit.fit where
+    by : (call : SysCall) → made.call ≡ call → AreFit call made.args → CanMake call m.system (request_with m t pid made)
+    by Fork e x =
+        let pids = few_pids in
+        let spaces = few_memories in
+        let pids_are = is.system.next_process in
+        let spaces_are = is.system.next_space in
+        record { thread = new (child_new e); pids = omega (arith, pids, pids_are); spaces = omega (arith, spaces, spaces_are) }
+    by Execve e x =
+        let spaces = few_memories in
+        let spaces_are = is.system.next_space in
+        omega (arith, spaces, spaces_are)
+    by SetUid e x = own_ids (ap schedules.sets_ids e)
+    by SetEuid e x = own_ids (ap schedules.sets_ids e)
+    by SetGid e x = own_ids (ap schedules.sets_ids e)
+    by SetEgid e x = own_ids (ap schedules.sets_ids e)
+    by _ e x = x

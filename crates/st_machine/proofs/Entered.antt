@@ -1,0 +1,131 @@
+-- Calls that are entered, put together from what each part makes of their entries.
+use Rattle.std.proofs.Common.{◌≡◌, ◌≢◌, ◌-◌, ◌∙◌, ℕ, suc, ◌==◌, Bool, true, false, cond, drop, set, List, Some, refl, ap, sym, subst, true≢false}
+use Rattle.std.proofs.lemmas.Bool.{eq-eqb, ne_eqb}
+use Rattle.std.proofs.lemmas.List.{length-set}
+use Rattle.std.proofs.lemmas.Option.{none-some}
+use Rattle.st_base.specs.Numbered.{item_at_number}
+use Rattle.st_calls.specs.declared.call.SysCall.{SysCall}
+use Rattle.st_lookaside.specs.declared.head.Head as kept
+use Rattle.st_messages.specs.Messages.{HasNoNumber}
+use Rattle.st_trace.specs.declared.entry.Choice.TheVariants as choice
+use Rattle.st_trace.specs.declared.entry.Entry.TheVariants.{Entered}
+use Rattle.st_trace.specs.declared.entry.Way.{Way}
+use Rattle.st_trace.specs.declared.entry.Way.TheVariants.{Fast, Barred, Held, Untraced}
+use Rattle.st_trace.specs.declared.start.Instr.{Instr}
+use Rattle.st_law.specs.declared.input.Input.{Input}
+use Rattle.st_law.specs.Lawful.{IsEntered}
+use Rattle.st_law.specs.Machine.{entry_of, state_after, thread_after}
+use Rattle.st_law.specs.Messages.{new_head}
+use Rattle.st_law.specs.State.{State, is_live}
+use Rattle.st_law.specs.Threads.{child_of_next}
+use Rattle.st_reached.proofs.LifeByEntry.{held_life}
+use Rattle.st_reached.proofs.Owning.{none_pending}
+use Rattle.st_reached.proofs.Reached.{lawful_entry}
+use Rattle.st_workers.specs.Kept.{head_of, ChangesLife, IsKept, IsKeptAfter}
+use Rattle.st_workers.specs.UnderWay.{UnderWay}
+use Rattle.st_workers.proofs.Threads.{others_have_no_number}
+use Rattle.st_machine.specs.Entering.{IsUnposted, IsWayOf}
+use Rattle.st_machine.specs.Machine.{IsMachine, IsNext, IsStep, Running}
+use Rattle.st_machine.specs.Thread.{ThreadRow, IsRow, number_held, row_entered}
+use Rattle.st_machine.specs.declared.step.Step.TheVariants as steps
+use Rattle.st_machine.proofs.After.{AreRows, HasComeAsFar, behind, rows_changed, with_parts}
+use Rattle.st_machine.proofs.NextSteps.{row_of}
+use Rattle.st_machine.proofs.Reached.{reached_of}
+use Rattle.st_machine.proofs.Rows.{either_none, holds}
+use Rattle.st_machine.proofs.Served.{same_system}
+
+module _ (m : Running) (t : ℕ) (call : SysCall) (regs : List ℕ) (next : IsNext m t (steps.Enter call regs)) (way : Way) (goes : IsWayOf m t call regs way) (st : State) (is : IsMachine m st) where
+  -- the entry is the machine's
+  pub entered_entry_is : entry_of m.input st (choice.Thread t) ≡ Some (Entered t call regs way)
+  entered_entry_is = next st is ∙ ap (λ (w : Way). Some (Entered t call regs w)) (goes st is)
+
+  entered_law : IsEntered m.input st t call regs way
+  entered_law = lawful_entry m.input st (reached_of m.input st is.reached) (choice.Thread t) (Entered t call regs way) entered_entry_is
+
+  others : (number : ℕ → ℕ) → ((u : ℕ) → u ≢ t → (thread_after st (Entered t call regs way) u).number ≡ (st.threads u).number) → (u : ℕ) → u ≢ t → HasComeAsFar (st.threads u) (thread_after st (Entered t call regs way) u)
+  others number same u ne =
+      let apart : (t == u) ≡ false = ne_eqb t u (λ e. ne (sym e)) in
+      record {
+        left = ap (λ (b : Bool). cond b (drop 1 (st.threads u).left) (st.threads u).left) apart;
+        pending = ap (λ (b : Bool). cond b (Some (record { call = call; regs = regs; way = way; child = child_of_next (st.threads u).left })) (st.threads u).pending) apart;
+        number = same u ne;
+        dying = refl;
+        ended = refl;
+      }
+
+  own : (row : ThreadRow) → IsRow row (st.threads t) → ((q : ℕ) → number_held (row_entered row call regs way) ≡ Some q → (thread_after st (Entered t call regs way) t).number ≡ q) → IsRow (row_entered row call regs way) (thread_after st (Entered t call regs way) t)
+  own row its number =
+      let here : (t == t) ≡ true = eq-eqb t t refl in
+      record {
+        left = ap (λ (b : Bool). cond b (drop 1 (st.threads t).left) (st.threads t).left) here ∙ ap (drop 1) its.left;
+        pending = ap (λ (b : Bool). cond b (Some (record { call = call; regs = regs; way = way; child = child_of_next (st.threads t).left })) (st.threads t).pending) here
+            ∙ ap (λ (left : List Instr). Some (record { call = call; regs = regs; way = way; child = child_of_next left })) its.left;
+        number = number;
+        dying = its.dying;
+        ended = its.ended;
+      }
+
+  rows : (row : ThreadRow) → item_at_number m.threads t ≡ Some row → ((u : ℕ) → u ≢ t → (thread_after st (Entered t call regs way) u).number ≡ (st.threads u).number) → ((q : ℕ) → number_held (row_entered row call regs way) ≡ Some q → (thread_after st (Entered t call regs way) t).number ≡ q)
+      → AreRows (set m.threads (t - 1) (row_entered row call regs way)) (thread_after st (Entered t call regs way))
+  rows row row_is same number =
+      rows_changed m.threads st.threads (thread_after st (Entered t call regs way)) t row (row_entered row call regs way) row_is (others (λ u. u) same) (own row (row_of m st is t row row_is) number) is.threads
+
+-- a call that isn't held
+module _ (m : Running) (t : ℕ) (call : SysCall) (regs : List ℕ) (next : IsNext m t (steps.Enter call regs)) (row : ThreadRow) (row_is : item_at_number m.threads t ≡ Some row) where
+  pub unheld_step : (way : Way) → IsWayOf m t call regs way → IsUnposted way → IsStep m (choice.Thread t) (Some (Entered t call regs way)) (with_parts m m.system m.workers (set m.threads (t - 1) (row_entered row call regs way)))
+  unheld_step Fast goes unposted st is =
+      let e = Entered t call regs Fast in
+      let entry = entered_entry_is m t call regs next Fast goes st is in (
+        entry,
+        behind m st is (choice.Thread t) e entry refl m.system m.workers (set m.threads (t - 1) (row_entered row call regs Fast))
+            (same_system m.input st (state_after m.input st e) m.system refl refl refl refl refl refl (λ u. refl) (λ u. refl) is.system) is.workers
+            (rows m t call regs next Fast goes st is row row_is (λ u ne. refl) (λ q e. absurd (none-some q (sym (either_none row.dying) ∙ e)))) (length-set m.threads (t - 1) _),
+      )
+  unheld_step (Barred n) goes unposted st is =
+      let e = Entered t call regs (Barred n) in
+      let entry = entered_entry_is m t call regs next (Barred n) goes st is in (
+        entry,
+        behind m st is (choice.Thread t) e entry refl m.system m.workers (set m.threads (t - 1) (row_entered row call regs (Barred n)))
+            (same_system m.input st (state_after m.input st e) m.system refl refl refl refl refl refl (λ u. refl) (λ u. refl) is.system) is.workers
+            (rows m t call regs next (Barred n) goes st is row row_is (λ u ne. refl) (λ q e. absurd (none-some q (sym (either_none row.dying) ∙ e)))) (length-set m.threads (t - 1) _),
+      )
+  unheld_step Untraced goes unposted st is =
+      let e = Entered t call regs Untraced in
+      let entry = entered_entry_is m t call regs next Untraced goes st is in (
+        entry,
+        behind m st is (choice.Thread t) e entry refl m.system m.workers (set m.threads (t - 1) (row_entered row call regs Untraced))
+            (same_system m.input st (state_after m.input st e) m.system refl refl refl refl refl refl (λ u. refl) (λ u. refl) is.system) is.workers
+            (rows m t call regs next Untraced goes st is row row_is (λ u ne. refl) (λ q e. absurd (none-some q (sym (either_none row.dying) ∙ e)))) (length-set m.threads (t - 1) _),
+      )
+  unheld_step (Held q) goes unposted st is = absurd unposted
+
+  -- a thread that enters a call has no number
+  pub no_number : (way : Way) → IsWayOf m t call regs way → (st : State) → IsMachine m st → HasNoNumber m.workers.calls t
+  no_number way goes st is =
+      let law = entered_law m t call regs next way goes st is in
+      let owned = (reached_of m.input st is.reached).owned in
+      others_have_no_number m.input st.messages st.turns (is_live st) st.posted m.workers t is.workers (λ q head alive posted same. true≢false (sym alive ∙ none_pending st owned t law.idle q head posted same))
+
+  -- a call that is held under the next number
+  pub held_step : (q : ℕ) → IsWayOf m t call regs (Held q) → (workers : UnderWay) (head : kept.Head) → ((st : State) → IsMachine m st → head_of t head ≡ new_head m.input t (st.threads t).owner (st.processes (st.threads t).owner) call regs)
+      → ((i : Input) (st : State) (alive later : ℕ → Bool) (made : SysCall) (registers : List ℕ) → IsKept i st alive m.workers → head_of t head ≡ new_head i t (st.threads t).owner (st.processes (st.threads t).owner) made registers
+      → ChangesLife alive (suc st.posted) true later → IsKeptAfter i st (Entered t made registers (Held (suc st.posted))) later workers)
+      → IsStep m (choice.Thread t) (Some (Entered t call regs (Held q))) (with_parts m m.system workers (set m.threads (t - 1) (row_entered row call regs (Held q))))
+  held_step q goes workers head is_head posts st is =
+      let e = Entered t call regs (Held q) in
+      let entry = entered_entry_is m t call regs next (Held q) goes st is in
+      let law = entered_law m t call regs next (Held q) goes st is in
+      let drawn : q ≡ suc st.posted = law.way_is.1 in
+      let later = is_live (state_after m.input st e) in
+      let life : ChangesLife (is_live st) (suc st.posted) true later = subst (λ (n : ℕ). ChangesLife (is_live st) n true later) drawn (λ other. held_life m.input st (reached_of m.input st is.reached) t q call regs law other) in
+      let after = posts m.input st (is_live st) later call regs is.workers (is_head st is) life in (
+        entry,
+        behind m st is (choice.Thread t) e entry refl m.system workers (set m.threads (t - 1) (row_entered row call regs (Held q)))
+            (same_system m.input st (state_after m.input st e) m.system refl refl refl refl refl refl (λ u. refl) (λ u. refl) is.system)
+            (subst (λ (n : ℕ). IsKeptAfter m.input st (Entered t call regs (Held n)) later workers) (sym drawn) after)
+            (rows m t call regs next (Held q) goes st is row row_is (λ u ne. ap (λ (b : Bool). cond b q (st.threads u).number) (ne_eqb t u (λ e. ne (sym e)))) (λ p e. ap (λ (b : Bool). cond b q (st.threads t).number) (eq-eqb t t refl) ∙ (holds (row_entered row call regs (Held q)) p e).number)) (length-set m.threads (t - 1) _),
+      )
+
+-- the number that a call is held under is the next one
+pub next_number : (m : Running) (t : ℕ) (call : SysCall) (regs : List ℕ) → IsNext m t (steps.Enter call regs) → (q : ℕ) → IsWayOf m t call regs (Held q) → (st : State) → IsMachine m st → q ≡ m.workers.calls.next
+next_number m t call regs next q goes st is = (entered_law m t call regs next (Held q) goes st is).way_is.1 ∙ sym is.workers.agrees.next

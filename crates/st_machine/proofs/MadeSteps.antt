@@ -1,0 +1,320 @@
+-- The step by which a call is made that sets no ids.
+use Rattle.std.proofs.Common.{◌≡◌, ◌≢◌, ◌-◌, ◌∙◌, ℕ, arith, ◌||◌, ◌==◌, Bool, true, false, cond, set, List, [], ◌∷◌, ◌++◌, Option, Some, None, inl, inr, refl, ap, sym, subst, true≢false}
+use Rattle.std.proofs.lemmas.Bool.{cases_eq, eq-eqb, ne_eqb}
+use Rattle.std.proofs.lemmas.List.{length-set}
+use Rattle.std.proofs.lemmas.Option.{none-some, same_Some}
+use Rattle.std.specs.Option.{option_map}
+use Rattle.std.specs.Prelude.{IfSome}
+use Rattle.st_base.specs.Numbered.{item_at_number}
+use Rattle.st_calls.specs.declared.call.SysCall.{SysCall}
+use Rattle.st_calls.specs.declared.call.SysCall.TheVariants.{Fork, SetUid, SetEuid, SetGid, SetEgid}
+use Rattle.st_effects.specs.Changes.{dying_after, process_after}
+use Rattle.st_effects.specs.Effect.{effect}
+use Rattle.st_effects.specs.System as effects
+use Rattle.st_law.specs.declared.input.Input.{Input}
+use Rattle.st_law.specs.Inputs as inputs
+use Rattle.st_law.specs.Lawful.{IsUnheld, IsPending, IsUsed}
+use Rattle.st_law.specs.Machine.{entry_of, state_after, thread_after}
+use Rattle.st_law.specs.Messages.{Head}
+use Rattle.st_law.specs.Schedules as schedules
+use Rattle.st_law.specs.State.{State, child_of_pending, is_live, is_live_by, request_of, system_of}
+use Rattle.st_law.specs.Threads.{PendingCall}
+use Rattle.st_law.proofs.Invariant as invariant
+use Rattle.st_law.proofs.Invariant.{IfPending}
+use Rattle.st_law.proofs.QuietChanges.{AreMute, mute_of, head_mute, posted_mute, seq_mute}
+use Rattle.st_law.proofs.Shapes.{Each, Shape, quiet, forked, execed, renewed}
+use Rattle.st_law.proofs.UsedShapes.{used_shape}
+use Rattle.st_messages.specs.Messages as calls
+use Rattle.st_model.specs.Processes.{pid_of}
+use Rattle.st_model.specs.Tree.{is_number}
+use Rattle.st_reached.specs.Reached.{life_after_changes}
+use Rattle.st_reached.proofs.LifeByEntry.{life_is}
+use Rattle.st_reached.proofs.Reached.{Reached, lawful_entry}
+use Rattle.st_request.specs.declared.outcome.Outcome.{Outcome}
+use Rattle.st_system.specs.Steps.{HasChild, IsDone, IsMade, renewals_of, sets_ids, with_renewals}
+use Rattle.st_system.specs.System.{IsSystem, Parts}
+use Rattle.st_trace.specs.declared.entry.Change.{Change}
+use Rattle.st_trace.specs.declared.entry.Change.TheVariants.{Forked}
+use Rattle.st_trace.specs.declared.entry.Choice.TheVariants as choice
+use Rattle.st_trace.specs.declared.entry.Entry.{Entry}
+use Rattle.st_trace.specs.declared.entry.Entry.TheVariants.{Used}
+use Rattle.st_trace.specs.declared.entry.Way.{Way}
+use Rattle.st_trace.specs.declared.entry.Way.TheVariants.{Fast, Barred, Held, Untraced}
+use Rattle.st_workers.specs.Kept.{AreKept, IsKept}
+use Rattle.st_workers.specs.UnderWay.{UnderWay}
+use Rattle.st_workers.proofs.Closing.{closing_is_not_kept}
+use Rattle.st_workers.proofs.Ended.{lives_as}
+use Rattle.st_workers.proofs.Turns.{item_put, number_within}
+use Rattle.st_machine.specs.Ending.{AreHeld, EndsCall, HasNumber, HaveCalls, HaveEnded, is_ended_by, is_head_among, life_but, life_without_number, owner_of, row_doomed}
+use Rattle.st_machine.specs.Machine.{IsMachine, IsNext, IsStep, Running}
+use Rattle.st_machine.specs.Making.{child_of_row, request_with}
+use Rattle.st_machine.specs.Thread.{ThreadRow, IsRow, IsRowOf, number_by_way, number_held, number_pending}
+use Rattle.st_machine.specs.declared.step.Step.TheVariants as steps
+use Rattle.st_machine.specs.declared.step.Use.{Use}
+use Rattle.st_machine.proofs.After.{behind, with_parts}
+use Rattle.st_machine.proofs.HeldEnds.{are_held, closed_held, not_dead}
+use Rattle.st_machine.proofs.Made.{IsCalm, calm_when_execed, calm_when_quiet, dying_when_calm, life_when_calm, mute_when_calm, owner_by, owner_when_calm}
+use Rattle.st_machine.proofs.NextSteps.{owner_is, row_of}
+use Rattle.st_machine.proofs.Reached.{reached_of}
+use Rattle.st_machine.proofs.Rows.{held_number, none_closed, none_dying}
+
+-- whether a call sets ids is said alike
+same_sets : (call : SysCall) → sets_ids call ≡ schedules.sets_ids call
+same_sets SetUid = refl
+same_sets SetEuid = refl
+same_sets SetGid = refl
+same_sets SetEgid = refl
+same_sets _ = refl
+
+none_unheld : (n : ℕ) (way : Way) → IsUnheld way → None ≡ number_by_way n way
+none_unheld n Fast x = refl
+none_unheld n Untraced x = refl
+none_unheld n (Barred k) x = absurd x
+none_unheld n (Held first) x = absurd x
+
+child_by : (i : Input) (call : SysCall) (request : effects.Request) → (call ≡ Fork → inputs.IsThread i request.child) → HasChild i call request
+child_by i Fork request x = x refl
+child_by i _ request x = tt
+
+-- ---- the call that is made
+
+module _ (m : Running) (st : State) (is : IsMachine m st) (t pid : ℕ) (made : Use) (process : pid_of m.system.processes t ≡ Some pid) (row : ThreadRow) (row_is : item_at_number m.threads t ≡ Some row) where
+  abbrev i : Input
+  i = m.input
+
+  reached : Reached i st
+  reached = reached_of i st is.reached
+
+  its : IsRow row (st.threads t)
+  its = row_of m st is t row row_is
+
+  child_is : child_of_row (item_at_number m.threads t) ≡ child_of_pending (st.threads t).pending
+  child_is = ap child_of_row row_is ∙ ap child_of_pending (sym its.pending)
+
+  -- its request is that of the law's machine
+  pub request_is : request_with m t pid made ≡ request_of i st t made.regs made.args made.ids
+  request_is = λ k. record { tid = t; pid = sym (owner_is m st is t pid process) k; ids = made.ids; regs = made.regs; args = made.args; child = child_is k; inherit = i.options.inherit }
+
+  -- the number that it is made under is the one that its thread holds
+  pub seq_of : (seq : Option ℕ) (call : SysCall) (regs : List ℕ) (outcome : effects.Outcome) → IsUsed i st t seq call regs made.args made.ids outcome.result outcome.changes → seq ≡ number_held row
+  seq_of None call regs outcome x = none_unheld row.number x.way x.unheld
+      ∙ sym (λ k. cond ((sym its.dying ∙ x.running.undying) k) None (number_pending row.number ((sym its.pending ∙ x.entered.1) k)))
+  seq_of (Some q) call regs outcome x =
+      let mine : number_held row ≡ Some row.number = held_number row (sym its.dying ∙ x.running.undying) (record { call = call; regs = regs; way = Held x.held.first; child = x.held.entered.0 }) (sym its.pending ∙ x.held.entered.1) x.held.first refl in
+      ap Some (sym x.held.number ∙ its.number row.number mine) ∙ sym mine
+
+  -- a fork starts a thread of the script
+  child_there : (call : SysCall) (regs : List ℕ) (way : Way) → IsPending st t call regs way → call ≡ Fork → inputs.IsThread i (child_of_row (item_at_number m.threads t))
+  child_there call regs way x forks =
+      let entered : PendingCall = record { call = call; regs = regs; way = way; child = x.0 } in
+      let has : invariant.HasChild i entered = subst (IfPending (invariant.HasChild i)) x.1 (reached.whole.calls.children t) in
+      subst (inputs.IsThread i) (sym (child_is ∙ ap child_of_pending x.1)) (has.child forks)
+
+  pub has_child : (seq : Option ℕ) (call : SysCall) (regs : List ℕ) (outcome : effects.Outcome) → IsUsed i st t seq call regs made.args made.ids outcome.result outcome.changes → HasChild i call (request_with m t pid made)
+  has_child None call regs outcome x = child_by i call (request_with m t pid made) (child_there call regs x.way x.entered)
+  has_child (Some q) call regs outcome x = child_by i call (request_with m t pid made) (child_there call regs (Held x.held.first) x.held.entered)
+
+module _ (m : Running) (st : State) (is : IsMachine m st) (t pid : ℕ) (made : Use) (next : IsNext m t (steps.Make made)) (process : pid_of m.system.processes t ≡ Some pid) (row : ThreadRow) (row_is : item_at_number m.threads t ≡ Some row) where
+  abbrev pub now : effects.Outcome
+  now = effect (system_of m.input st) made.call (request_of m.input st t made.regs made.args made.ids)
+
+  pub used : IsUsed m.input st t made.seq made.call made.regs made.args made.ids now.result now.changes
+  used = lawful_entry m.input st (reached_of m.input st is.reached) (choice.Thread t) (Used t made.seq made.call made.regs made.args made.ids now.result now.changes) (next st is)
+
+  pub seq_is : made.seq ≡ number_held row
+  seq_is = seq_of m st is t pid made process row row_is made.seq made.call made.regs now used
+
+  -- the messages once its own call has ended
+  abbrev closed : List ThreadRow
+  closed = set m.threads (t - 1) (record row { pending = None })
+
+  pub are_closed : AreHeld st (life_without_number (is_live st) made.seq) closed
+  are_closed = subst (λ (seq : Option ℕ). AreHeld st (life_without_number (is_live st) seq) closed) (sym seq_is) (closed_held st (is_live st) m.threads (are_held m st is) t row row_is)
+
+  pub seq_lives : IfSome made.seq (λ q. is_live st q ≡ true)
+  seq_lives = by made.seq seq_is where
+    by : (seq : Option ℕ) → seq ≡ number_held row → IfSome seq (λ q. is_live st q ≡ true)
+    by None e = tt
+    by (Some q) e = ((are_held m st is).lives t row q row_is (sym e)).lives
+
+  -- it lives here, too
+  pub seq_there : IfSome made.seq (λ q. calls.is_live m.workers.calls q ≡ true)
+  seq_there = by made.seq seq_lives where
+    by : (seq : Option ℕ) → IfSome seq (λ q. is_live st q ≡ true) → IfSome seq (λ q. calls.is_live m.workers.calls q ≡ true)
+    by None x = tt
+    by (Some q) x = lives_as m.input st (is_live st) m.workers q is.workers ∙ x
+
+  pub calls_closed : (between : UnderWay) → EndsCall made.seq m.workers between → HaveCalls closed between
+  calls_closed between ends = record { input = m.input; state = st; alive = life_without_number (is_live st) made.seq; kept = ends m.input st (is_live st) is.workers; held = are_closed }
+
+  module _ (sets_none : schedules.sets_ids made.call ≡ false) (outcome : Outcome) (parts : Parts) (done : IsDone made.call (request_with m t pid made) outcome m.system parts) where
+    abbrev input : Input
+    input = m.input
+
+    abbrev changes : List Change
+    changes = outcome.changes
+
+    abbrev entry : Entry
+    entry = Used t made.seq made.call made.regs made.args made.ids outcome.result outcome.changes
+
+    is_made : IsMade input st made.seq made.call (request_with m t pid made) outcome parts
+    is_made = done input st is.system (request_is m st is t pid made process row row_is) (has_child m st is t pid made process row row_is made.seq made.call made.regs now used) made.seq
+
+    unrenewed : with_renewals input st made.call (request_with m t pid made) outcome.result outcome.changes ≡ outcome.changes
+    unrenewed = ap (λ (b : Bool). cond b (outcome.changes ++ renewals_of input st (request_with m t pid made) outcome.result) outcome.changes) (same_sets made.call ∙ sets_none)
+
+    entry_is : entry_of input st (choice.Thread t) ≡ Some entry
+    entry_is =
+        let request = request_is m st is t pid made process row row_is in
+        let result = ap (λ (r : effects.Request). (effect (system_of input st) made.call r).result) (sym request) ∙ sym is_made.result in
+        let changed = ap (λ (r : effects.Request). (effect (system_of input st) made.call r).changes) (sym request) ∙ sym is_made.changes ∙ unrenewed in
+        next st is ∙ (λ k. Some (Used t made.seq made.call made.regs made.args made.ids (result k) (changed k)))
+
+    law : IsUsed input st t made.seq made.call made.regs made.args made.ids outcome.result changes
+    law = lawful_entry input st (reached_of input st is.reached) (choice.Thread t) entry entry_is
+
+    is_system : IsSystem input (state_after input st entry) parts
+    is_system = subst (λ (cs : List Change). IsSystem input (state_after input st (Used t made.seq made.call made.regs made.args made.ids outcome.result cs)) parts) unrenewed is_made.system
+
+    -- ---- what the changes end
+
+    abbrev ended : ℕ → Bool
+    ended = is_ended_by parts.processes t pid changes
+
+    abbrev alive : ℕ → Bool
+    alive = life_without_number (is_live st) made.seq
+
+    record Ends : Type 0 where
+      pub mute : AreMute changes
+      pub dying : (u : ℕ) → u ≢ 0 → (before : Bool) → dying_after u (st.threads u).owner t (st.threads t).owner before changes ≡ (before || ended u)
+      pub life : (other : ℕ) → life_after_changes st (st.threads t).owner alive changes other ≡ life_but ended st alive other
+
+    headless : (other : ℕ) (o : Option Head) → (st.messages other).head ≡ o → is_live_by o (st.messages other).closed (λ u. (st.threads u).dying) ≡ true → (head : Head) × ((st.messages other).head ≡ Some head)
+    headless other None posted live = cc
+    headless other (Some head) posted live = (head, posted)
+
+    -- a thread that holds no number of a row holds none that lives
+    not_mine : (other : ℕ) (head : Head) → HasNumber (item_at_number closed head.tid) other → head.tid ≢ t
+    not_mine other head has same =
+        let within = number_within m.threads t row row_is in
+        let here : item_at_number closed head.tid ≡ Some (record row { pending = None }) = ap (item_at_number closed) same ∙ item_put m.threads t (record row { pending = None }) within.0 within.1 t
+        ∙ ap (λ (b : Bool). cond b (Some (record row { pending = None })) (item_at_number m.threads t)) (eq-eqb t t refl) in
+        none-some other (sym (none_closed row) ∙ subst (λ (o : Option ThreadRow). HasNumber o other) here has)
+
+    -- a number that still lives is another thread's
+    mine : (other : ℕ) → alive other ≡ true → (head : Head) × ((st.messages other).head ≡ Some head) × (head.tid ≢ 0) × (head.tid ≢ t)
+    mine other e =
+        let found = headless other (st.messages other).head refl (not_dead (is_number other made.seq) (is_live st other) e).1 in
+        let has : HasNumber (item_at_number closed found.0.tid) other = are_closed.own other found.0 e found.1 in
+        (found.0, found.1, (λ none. subst (λ (n : ℕ). HasNumber (item_at_number closed n) other) none has), not_mine other found.0 has)
+
+    own_pid : pid ≡ (st.threads t).owner
+    own_pid = sym (owner_is m st is t pid process)
+
+    when_calm : Each IsCalm changes → Ends
+    when_calm calm =
+        let owners : (u : ℕ) → owner_of parts.processes u ≡ (st.threads u).owner = λ u. owner_by parts.processes u ((state_after input st entry).threads u) (is_system.threads u) ∙ owner_when_calm u (st.threads u).owner changes calm in
+        record {
+          mute = mute_when_calm changes calm;
+          dying = λ u there before. ap (λ (p : ℕ). dying_after u (st.threads u).owner t p before changes) (sym own_pid) ∙ dying_when_calm parts.processes t pid u (st.threads u).owner (owners u) there changes calm before;
+          life = λ other. ap (λ (p : ℕ). life_after_changes st p alive changes other) (sym own_pid) ∙ life_when_calm parts.processes t pid st changes calm alive other (mine other) (λ head posted. owners head.tid);
+        }
+
+    none_forked : (o : Option Head) (b : Bool) → b ≡ cond (is_head_among (λ u. false || false) o) false b
+    none_forked None b = refl
+    none_forked (Some head) b = refl
+
+    same_or : (b : Bool) → b ≡ (b || (false || false))
+    same_or true = refl
+    same_or false = refl
+
+    when_forked : (new space child : ℕ) → changes ≡ Forked new space child ∷ [] → Ends
+    when_forked new space child e = record {
+      mute = subst AreMute (sym e) (mute_of (Forked new space child) tt, tt);
+      dying = λ u there before. ap (λ (cs : List Change). dying_after u (st.threads u).owner t (st.threads t).owner before cs) e ∙ same_or before ∙ ap (λ (cs : List Change). before || is_ended_by parts.processes t pid cs u) (sym e);
+      life = λ other. ap (λ (cs : List Change). life_after_changes st (st.threads t).owner alive cs other) e ∙ none_forked (st.messages other).head (alive other) ∙ ap (λ (cs : List Change). life_but (is_ended_by parts.processes t pid cs) st alive other) (sym e);
+    }
+
+    by_shape : Shape (system_of input st) (request_of input st t made.regs made.args made.ids) made.call changes → Ends
+    by_shape (quiet x) = when_calm (calm_when_quiet changes x)
+    by_shape (forked call e) = when_forked _ _ _ e
+    by_shape (execed binary e) = when_calm (subst (Each IsCalm) (sym e) (calm_when_execed binary (system_of input st).next_space (request_of input st t made.regs made.args made.ids).inherit))
+    by_shape (renewed ids sets e) = absurd (true≢false (sym sets ∙ sets_none))
+
+    ends : Ends
+    ends = by_shape (used_shape input st t made.call made.regs made.args made.ids outcome.result changes made.seq law)
+
+    -- ---- the rows
+
+    module _ (u : ℕ) (there : u ≢ 0) (r : ThreadRow) (left : (st.threads u).left ≡ r.left) (pending : cond (t == u) None (st.threads u).pending ≡ r.pending) (number : (q : ℕ) → number_held r ≡ Some q → (st.threads u).number ≡ q)
+        (dying : (st.threads u).dying ≡ r.dying) (over : (st.threads u).ended ≡ r.ended) where
+      always : (b : Bool) → (b || true) ≡ true
+      always true = refl
+      always false = refl
+
+      never : (b : Bool) → (b || false) ≡ b
+      never true = refl
+      never false = refl
+
+      row_behind : (d : Bool) → ended u ≡ d → IsRow (row_doomed d r) (thread_after st entry u)
+      row_behind true e = record {
+        left = left;
+        pending = pending;
+        number = λ q has. absurd (none-some q (sym (none_dying (record r { dying = true }) refl) ∙ has));
+        dying = ends.dying u there (st.threads u).dying ∙ ap (λ (b : Bool). (st.threads u).dying || b) e ∙ always (st.threads u).dying;
+        ended = over;
+      }
+      row_behind false e = record {
+        left = left;
+        pending = pending;
+        number = λ q has. seq_mute (st.threads u).number changes ends.mute ∙ number q has;
+        dying = ends.dying u there (st.threads u).dying ∙ ap (λ (b : Bool). (st.threads u).dying || b) e ∙ never (st.threads u).dying ∙ dying;
+        ended = over;
+      }
+
+    not_none : (rows : List ThreadRow) (u : ℕ) (r : ThreadRow) → item_at_number rows u ≡ Some r → u ≢ 0
+    not_none rows u r e none = let from = (number_within rows u r e).0 in omega (arith, from, none)
+
+    row_then : (u : ℕ) (o : Option ThreadRow) → item_at_number closed u ≡ o → IsRowOf (option_map (λ (r : ThreadRow). row_doomed (ended u) r) o) (thread_after st entry u)
+    row_then u None e = tt
+    row_then u (Some r) e =
+        let within = number_within m.threads t row row_is in
+        let at = item_put m.threads t (record row { pending = None }) within.0 within.1 u in
+        let its : IsRow row (st.threads t) = row_of m st is t row row_is in
+        elim (cases_eq u t) [
+          | inl same ↦
+              let r_is : record row { pending = None } ≡ r = same_Some (record row { pending = None }) r (sym (at ∙ ap (λ (b : Bool). cond b (Some (record row { pending = None })) (item_at_number m.threads u)) (eq-eqb u t same)) ∙ e) in
+              subst (λ (r : ThreadRow). IsRow (row_doomed (ended u) r) (thread_after st entry u)) r_is
+              (row_behind u (not_none closed u r e) (record row { pending = None }) (ap (λ (n : ℕ). (st.threads n).left) same ∙ its.left) (ap (λ (b : Bool). cond b None (st.threads u).pending) (eq-eqb t u (sym same)))
+              (λ q has. absurd (none-some q (sym (none_closed row) ∙ has))) (ap (λ (n : ℕ). (st.threads n).dying) same ∙ its.dying) (ap (λ (n : ℕ). (st.threads n).ended) same ∙ its.ended) (ended u) refl)
+          | inr ne ↦
+              let was : item_at_number m.threads u ≡ Some r = sym (at ∙ ap (λ (b : Bool). cond b (Some (record row { pending = None })) (item_at_number m.threads u)) (ne_eqb u t ne)) ∙ e in
+              let r_its : IsRow r (st.threads u) = row_of m st is u r was in
+              row_behind u (not_none closed u r e) r r_its.left (ap (λ (b : Bool). cond b None (st.threads u).pending) (ne_eqb t u (λ x. ne (sym x))) ∙ r_its.pending) r_its.number r_its.dying r_its.ended (ended u) refl
+        ]
+
+    -- ---- what runs
+
+    pub made_step : (between left : UnderWay) (new : List ThreadRow) → EndsCall made.seq m.workers between → HaveEnded ended closed between new left → IsMachine (with_parts m parts left new) (state_after input st entry)
+    made_step between left new closes over =
+        let later : ℕ → Bool = is_live (state_after input st entry) in
+        let lives : later ≡ life_but ended st alive = λ k other. (life_is input st (reached_of input st is.reached) t made.seq made.call made.regs made.args made.ids outcome.result changes law other ∙ ends.life other) k in
+        let kept : IsKept input st later left = subst (λ (life : ℕ → Bool). IsKept input st life left) (sym lives) (over.kept input st alive (closes input st (is_live st) is.workers) are_closed) in
+        let messages : (q : ℕ) → (state_after input st entry).messages q ≡ record (st.messages q) { closed = ((state_after input st entry).messages q).closed } =
+        λ q k. record ((state_after input st entry).messages q) { head = head_mute (λ p. (st.messages p).head) (process_after st.processes (st.threads t).owner (st.threads t).owner changes) q changes ends.mute k } in
+        let posted : (state_after input st entry).posted ≡ st.posted = posted_mute st.posted changes ends.mute in
+        behind m st is (choice.Thread t) entry entry_is refl parts left new is_system
+        (subst (λ (n : ℕ). AreKept input (state_after input st entry).messages st.turns later n left) (sym posted) (closing_is_not_kept input st.messages (state_after input st entry).messages st.turns later st.posted left kept messages))
+        (λ u. subst (λ (o : Option ThreadRow). IsRowOf o (thread_after st entry u)) (sym (over.rows u)) (row_then u (item_at_number closed u) refl))
+        (over.count ∙ length-set m.threads (t - 1) _)
+
+    pub made_entry : entry_of input st (choice.Thread t) ≡ Some entry
+    made_entry = entry_is
+
+-- a call is made, whatever the state is that the machine is in
+pub making : (m : Running) (t pid : ℕ) (made : Use) → IsNext m t (steps.Make made) → pid_of m.system.processes t ≡ Some pid → (row : ThreadRow) → item_at_number m.threads t ≡ Some row → schedules.sets_ids made.call ≡ false
+    → (outcome : Outcome) (parts : Parts) → IsDone made.call (request_with m t pid made) outcome m.system parts → (between left : UnderWay) (new : List ThreadRow) → EndsCall made.seq m.workers between
+    → HaveEnded (is_ended_by parts.processes t pid outcome.changes) (set m.threads (t - 1) (record row { pending = None })) between new left
+    → IsStep m (choice.Thread t) (Some (Used t made.seq made.call made.regs made.args made.ids outcome.result outcome.changes)) (with_parts m parts left new)
+making m t pid made next process row row_is sets_none outcome parts done between left new closes over = λ st is.
+    (made_entry m st is t pid made next process row row_is sets_none outcome parts done, made_step m st is t pid made next process row row_is sets_none outcome parts done between left new closes over)

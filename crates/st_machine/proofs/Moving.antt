@@ -1,0 +1,220 @@
+-- The steps of threads, put together from what each part makes of an entry.
+use Rattle.std.proofs.Common.{◌≡◌, ◌≢◌, ◌≤◌, ◌<◌, ◌-◌, ◌∙◌, ◌++◌, zero, suc, ℕ, arith, reverse, ◌==◌, ◌||◌, not, Bool, true, false, cond, drop, get_or, set, List, [], ◌∷◌, length, Option, Some, None, refl, ap, sym, subst}
+use Rattle.std.proofs.lemmas.Bool.{eq-eqb, ne_eqb}
+use Rattle.std.proofs.lemmas.List.{length-set}
+use Rattle.std.proofs.lemmas.Option.{none-some}
+use Rattle.std.specs.List.{All}
+use Rattle.std.specs.Option.{option_map}
+use Rattle.std.specs.Prelude.{IsSome, slice_get}
+use Rattle.st_base.specs.Numbered.{item_at_number}
+use Rattle.st_base.specs.declared.errno.Errno.{Errno}
+use Rattle.st_base.specs.declared.ids.Ids.{Ids}
+use Rattle.st_calls.specs.declared.call.SysCall.{SysCall}
+use Rattle.st_model.specs.Processes.{StartedThread, has_not_ended, is_running, pid_of, thread_at}
+use Rattle.st_trace.specs.declared.entry.CallResult.TheVariants.{Failed}
+use Rattle.st_trace.specs.declared.entry.Cause.{Cause}
+use Rattle.st_trace.specs.declared.entry.Choice.TheVariants as choice
+use Rattle.st_trace.specs.declared.entry.Entry.{Entry}
+use Rattle.st_trace.specs.declared.entry.Entry.TheVariants.{Denied, Ended, Stored, Used}
+use Rattle.st_model.specs.declared.limits.TheConstants.{SPACE_WORDS}
+use Rattle.st_trace.specs.declared.start.Instr.{Instr}
+use Rattle.st_trace.specs.declared.start.Instr.TheVariants.{Store}
+use Rattle.st_trace.specs.declared.start.ThreadRow as start
+use Rattle.st_law.specs.declared.input.Input.{Input}
+use Rattle.st_law.specs.History.{looking_back}
+use Rattle.st_law.specs.Lawful.{IsStored}
+use Rattle.st_law.specs.Machine.{history, running_entry, state_after, thread_after, thread_entry}
+use Rattle.st_law.specs.State.{Message, State, is_live, thread_count}
+use Rattle.st_law.specs.Threads.{body_of, body_of_row, left_at}
+use Rattle.st_law.proofs.Begun.{goes_through}
+use Rattle.st_law.proofs.Laws.{all_at, lawful_history}
+use Rattle.st_law.proofs.Ties.{state-is}
+use Rattle.st_reached.proofs.LifeByEntry.{denied_life}
+use Rattle.st_reached.proofs.Reached.{lawful_entry}
+use Rattle.st_reached.specs.Scripts.{IsInMemory, StoresInMemory}
+use Rattle.st_system.specs.System.{IsAmong, IsSystem, IsThread, Parts}
+use Rattle.st_workers.specs.Kept.{AreKept, ChangesLife}
+use Rattle.st_workers.specs.UnderWay.{UnderWay}
+use Rattle.st_workers.proofs.Closing.{closing_is_not_kept}
+use Rattle.st_workers.proofs.Turns.{item_here}
+use Rattle.st_machine.specs.Machine.{IsMachine, IsNext, IsRunning, IsStep, Running}
+use Rattle.st_machine.specs.Step.{step_entry}
+use Rattle.st_machine.specs.Thread.{ThreadRow, IsRow, first_row}
+use Rattle.st_machine.specs.declared.step.Step.{Step}
+use Rattle.st_machine.specs.declared.step.Step.TheVariants as steps
+use Rattle.st_machine.specs.declared.step.Use.{Use}
+use Rattle.st_machine.proofs.After.{AreRows, HasComeAsFar, behind, rows_changed, with_parts}
+use Rattle.st_machine.proofs.NextSteps.{row_of}
+use Rattle.st_machine.proofs.Reached.{reached_of}
+use Rattle.st_machine.proofs.Rows.{none_closed}
+use Rattle.st_machine.proofs.Served.{same_system}
+
+-- ---- the thread that moves
+
+not_ended : (b : Bool) → b ≡ false → not b ≡ true
+not_ended true e = cc
+not_ended false e = refl
+
+module _ (m : Running) (st : State) (is : IsMachine m st) (t : ℕ) (started : (st.threads t).owner ≢ 0) where
+  -- a thread that has started is one of the script's
+  pub row_there : (row : ThreadRow) × (item_at_number m.threads t ≡ Some row)
+  row_there = by (thread_at m.system.processes t) (is.system.threads t) (is.system.among t) where
+    by : (o : Option StartedThread) → IsThread o (st.threads t) → IsAmong (thread_count m.input) t o → (row : ThreadRow) × (item_at_number m.threads t ≡ Some row)
+    by None x among = absurd (started x.0)
+    by (Some thread) x among = (get_or m.threads (t - 1) (first_row []), item_here m.threads t (first_row []) among.0 (subst (λ (n : ℕ). t ≤ n) (sym is.count) among.1))
+
+  -- and has a process
+  pub pid_there : IsSome (pid_of m.system.processes t)
+  pid_there = by (thread_at m.system.processes t) (is.system.threads t) where
+    by : (o : Option StartedThread) → IsThread o (st.threads t) → IsSome (option_map (λ (thread : StartedThread). thread.pid) o)
+    by None x = absurd (started x.0)
+    by (Some thread) x = refl
+
+  -- it runs while it hasn't ended
+  pub runs : (st.threads t).ended ≡ false → is_running m.system.processes t ≡ true
+  runs unended = by (thread_at m.system.processes t) (is.system.threads t) where
+    by : (o : Option StartedThread) → IsThread o (st.threads t) → has_not_ended o ≡ true
+    by None x = absurd (started x.0)
+    by (Some thread) x = not_ended thread.ended (sym x.1 ∙ unended)
+
+-- ---- a thread ends
+
+module _ (m : Running) (t : ℕ) (next : IsNext m t steps.End) where
+  pub ends : (st : State) → IsMachine m st → ((st.threads t).owner ≢ 0) × ((st.threads t).ended ≡ false)
+  ends st is = let law = lawful_entry m.input st (reached_of m.input st is.reached) (choice.Thread t) (Ended t) (next st is) in (law.started, law.unended)
+
+  pub ended_step : (system : Parts) (row : ThreadRow) → item_at_number m.threads t ≡ Some row → ((i : Input) (st : State) → IsSystem i st m.system → IsSystem i (state_after i st (Ended t)) system)
+      → IsStep m (choice.Thread t) (Some (Ended t)) (with_parts m system m.workers (set m.threads (t - 1) (record row { ended = true })))
+  ended_step system row row_is moves st is =
+      let its : IsRow row (st.threads t) = row_of m st is t row row_is in
+      let rows = rows_changed m.threads st.threads (thread_after st (Ended t)) t row (record row { ended = true }) row_is
+      (λ u ne. record { left = refl; pending = refl; number = refl; dying = refl; ended = ap (λ (b : Bool). b || (st.threads u).ended) (ne_eqb t u (λ e. ne (sym e))) })
+      (record { left = its.left; pending = its.pending; number = its.number; dying = its.dying; ended = ap (λ (b : Bool). b || (st.threads t).ended) (eq-eqb t t refl) }) is.threads in
+      (next st is, behind m st is (choice.Thread t) (Ended t) (next st is) refl system m.workers (set m.threads (t - 1) (record row { ended = true })) (moves m.input st is.system) is.workers rows (length-set m.threads (t - 1) _))
+
+-- ---- a thread stores a word
+
+at_length : {X : Type 0} (xs : List X) (x : X) (ys : List X) → slice_get (xs ++ x ∷ ys) (length xs) ≡ Some x
+at_length [] x ys = refl
+at_length (y ∷ xs) x ys = at_length xs x ys
+
+-- the stores of a body lie in memory
+body_inside : (i : Input) → StoresInMemory i.start → (t : ℕ) → All IsInMemory (body_of i t)
+body_inside i stores t = by t where
+  none : All IsInMemory []
+  none k d below = absurd (omega (arith, below))
+
+  by_row : (k : ℕ) (o : Option start.ThreadRow) → slice_get i.start.threads k ≡ o → All IsInMemory (body_of_row o)
+  by_row k None e = none
+  by_row k (Some row) e = all_at (λ (each : start.ThreadRow). All IsInMemory each.body) i.start.threads k row stores e
+
+  by : (n : ℕ) → All IsInMemory (body_of i n)
+  by zero = none
+  by (suc k) = by_row k (slice_get i.start.threads k) refl
+
+module _ (m : Running) (t place word : ℕ) (next : IsNext m t (steps.Store place word)) where
+  stores_law : (st : State) → IsMachine m st → IsStored st t place word
+  stores_law st is = lawful_entry m.input st (reached_of m.input st is.reached) (choice.Thread t) (Stored t place word) (next st is)
+
+  -- the place lies in memory
+  pub stored_inside : (st : State) → IsMachine m st → place < SPACE_WORDS
+  stored_inside st is =
+      let h = history m.input (reverse is.reached.choices) in
+      let same : st ≡ looking_back m.input h = is.reached.state_is ∙ state-is m.input h in
+      let goes = goes_through m.input h t (lawful_history m.input is.reached.startable (reverse is.reached.choices)) in
+      let law = stores_law st is in
+      let left : left_at m.input h t ≡ Store place word ∷ law.later = sym (ap (λ (s : State). (s.threads t).left) same) ∙ law.next in
+      let whole : goes.0 ++ Store place word ∷ law.later ≡ body_of m.input t = ap (λ (l : List Instr). goes.0 ++ l) (sym left) ∙ goes.2 in
+      all_at IsInMemory (goes.0 ++ Store place word ∷ law.later) (length goes.0) (Store place word) (subst (All IsInMemory) (sym whole) (body_inside m.input is.bounded.stores t)) (at_length goes.0 (Store place word) law.later)
+
+  pub stored_started : (st : State) (is : IsMachine m st) → IsSome (pid_of m.system.processes t)
+  stored_started st is = pid_there m st is t (stores_law st is).running.started
+
+  pub stored_step : (system : Parts) (row : ThreadRow) → item_at_number m.threads t ≡ Some row → ((i : Input) (st : State) → IsSystem i st m.system → IsSystem i (state_after i st (Stored t place word)) system)
+      → IsStep m (choice.Thread t) (Some (Stored t place word)) (with_parts m system m.workers (set m.threads (t - 1) (record row { left = drop 1 row.left })))
+  stored_step system row row_is moves st is =
+      let its : IsRow row (st.threads t) = row_of m st is t row row_is in
+      let rows = rows_changed m.threads st.threads (thread_after st (Stored t place word)) t row (record row { left = drop 1 row.left }) row_is
+      (λ u ne. record { left = ap (λ (b : Bool). cond b (drop 1 (st.threads u).left) (st.threads u).left) (ne_eqb t u (λ e. ne (sym e))); pending = refl; number = refl; dying = refl; ended = refl })
+      (record { left = ap (λ (b : Bool). cond b (drop 1 (st.threads t).left) (st.threads t).left) (eq-eqb t t refl) ∙ ap (drop 1) its.left; pending = its.pending; number = its.number; dying = its.dying; ended = its.ended }) is.threads in
+      (next st is, behind m st is (choice.Thread t) (Stored t place word) (next st is) refl system m.workers (set m.threads (t - 1) (record row { left = drop 1 row.left })) (moves m.input st is.system) is.workers rows (length-set m.threads (t - 1) _))
+
+-- ---- a call is over
+
+-- the rows once a thread's call was made or denied
+closed_rows : (m : Running) (st : State) → IsMachine m st → (t : ℕ) (row : ThreadRow) → item_at_number m.threads t ≡ Some row → (e : Entry) → ((u : ℕ) → u ≢ t → HasComeAsFar (st.threads u) (thread_after st e u))
+    → IsRow (record row { pending = None }) (thread_after st e t) → AreRows (set m.threads (t - 1) (record row { pending = None })) (thread_after st e)
+closed_rows m st is t row row_is e others own = rows_changed m.threads st.threads (thread_after st e) t row (record row { pending = None }) row_is others own is.threads
+
+module _ (m : Running) (t : ℕ) (call : SysCall) (regs : List ℕ) (ids : Ids) (errno : Errno) (next : IsNext m t (steps.Fail call regs ids errno)) where
+  -- a call fails before it is made
+  abbrev failed : Entry
+  failed = Used t None call regs [] ids (Failed errno) []
+
+  pub failed_step : (row : ThreadRow) → item_at_number m.threads t ≡ Some row → IsStep m (choice.Thread t) (Some failed) (with_parts m m.system m.workers (set m.threads (t - 1) (record row { pending = None })))
+  failed_step row row_is st is =
+      let its : IsRow row (st.threads t) = row_of m st is t row row_is in
+      let rows = closed_rows m st is t row row_is failed
+      (λ u ne. record { left = refl; pending = ap (λ (b : Bool). cond b None (st.threads u).pending) (ne_eqb t u (λ e. ne (sym e))); number = refl; dying = refl; ended = refl })
+      (record { left = its.left; pending = ap (λ (b : Bool). cond b None (st.threads t).pending) (eq-eqb t t refl); number = λ q e. absurd (none-some q (sym (none_closed row) ∙ e)); dying = its.dying; ended = its.ended }) in (
+        next st is,
+        behind m st is (choice.Thread t) failed (next st is) refl m.system m.workers (set m.threads (t - 1) (record row { pending = None }))
+            (same_system m.input st (state_after m.input st failed) m.system refl refl refl refl refl refl (λ u. refl) (λ u. refl) is.system) is.workers rows (length-set m.threads (t - 1) _),
+      )
+
+-- ---- a call is denied
+
+module _ (m : Running) (t : ℕ) (seq : Option ℕ) (errno : Errno) (why : Cause) (next : IsNext m t (steps.Deny seq errno why)) where
+  denied_rows : (st : State) → IsMachine m st → (row : ThreadRow) → item_at_number m.threads t ≡ Some row → AreRows (set m.threads (t - 1) (record row { pending = None })) (thread_after st (Denied t seq errno why))
+  denied_rows st is row row_is =
+      let its : IsRow row (st.threads t) = row_of m st is t row row_is in
+      closed_rows m st is t row row_is (Denied t seq errno why)
+      (λ u ne. record { left = refl; pending = ap (λ (b : Bool). cond b None (st.threads u).pending) (ne_eqb t u (λ e. ne (sym e))); number = refl; dying = refl; ended = refl })
+      (record { left = its.left; pending = ap (λ (b : Bool). cond b None (st.threads t).pending) (eq-eqb t t refl); number = λ q e. absurd (none-some q (sym (none_closed row) ∙ e)); dying = its.dying; ended = its.ended })
+
+-- a barred call has no message
+pub barred_step : (m : Running) (t : ℕ) (errno : Errno) (why : Cause) → IsNext m t (steps.Deny None errno why) → (row : ThreadRow) → item_at_number m.threads t ≡ Some row
+    → IsStep m (choice.Thread t) (Some (Denied t None errno why)) (with_parts m m.system m.workers (set m.threads (t - 1) (record row { pending = None })))
+barred_step m t errno why next row row_is st is = (
+  next st is,
+  behind m st is (choice.Thread t) (Denied t None errno why) (next st is) refl m.system m.workers (set m.threads (t - 1) (record row { pending = None }))
+      (same_system m.input st (state_after m.input st (Denied t None errno why)) m.system refl refl refl refl refl refl (λ u. refl) (λ u. refl) is.system) is.workers (denied_rows m t None errno why next st is row row_is) (length-set m.threads (t - 1) _),
+)
+
+module _ (m : Running) (t q : ℕ) (errno : Errno) (why : Cause) (next : IsNext m t (steps.Deny (Some q) errno why)) where
+  -- the number of a held call that is denied lives
+  pub denied_lives : (st : State) → IsMachine m st → is_live st q ≡ true
+  denied_lives st is = (lawful_entry m.input st (reached_of m.input st is.reached) (choice.Thread t) (Denied t (Some q) errno why) (next st is)).held.live
+
+  -- and ends
+  pub denied_step : (workers : UnderWay) (row : ThreadRow) → item_at_number m.threads t ≡ Some row
+      → ((i : Input) (messages : ℕ → Message) (turns : ℕ → Option ℕ) (alive later : ℕ → Bool) (posted : ℕ) → AreKept i messages turns alive posted m.workers → ChangesLife alive q false later → AreKept i messages turns later posted workers)
+      → IsStep m (choice.Thread t) (Some (Denied t (Some q) errno why)) (with_parts m m.system workers (set m.threads (t - 1) (record row { pending = None })))
+  denied_step workers row row_is cancels st is =
+      let e = Denied t (Some q) errno why in
+      let later = is_live (state_after m.input st e) in
+      let kept = cancels m.input st.messages st.turns (is_live st) later st.posted is.workers (λ other. denied_life m.input st t q errno why other) in (
+        next st is,
+        behind m st is (choice.Thread t) e (next st is) refl m.system workers (set m.threads (t - 1) (record row { pending = None }))
+            (same_system m.input st (state_after m.input st e) m.system refl refl refl refl refl refl (λ u. refl) (λ u. refl) is.system)
+            (closing_is_not_kept m.input st.messages (state_after m.input st e).messages st.turns later st.posted workers kept (λ p. refl)) (denied_rows m t (Some q) errno why next st is row row_is) (length-set m.threads (t - 1) _),
+      )
+
+-- ---- where the row of a thread is
+
+started_of : (i : Input) (st : State) (u : ℕ) (e : Entry) → thread_entry i st u ≡ Some e → (st.threads u).owner ≢ 0
+started_of i st u e entry none = none-some e (sym (stopped (eq-eqb (st.threads u).owner 0 none)) ∙ entry) where
+  stopped : ((st.threads u).owner == 0) ≡ true → thread_entry i st u ≡ None
+  stopped nobody = ap (λ (b : Bool). cond (b || (st.threads u).ended) None (cond (st.threads u).dying (Some (Ended u)) (running_entry i st u (st.threads u).pending))) nobody
+
+-- a thread whose step adds an entry has a row
+pub row_here : (m : Running) → IsRunning m → (t : ℕ) (step : Step) (e : Entry) → IsNext m t step → ((i : Input) (st : State) → step_entry i st t step ≡ Some e) → (row : ThreadRow) × (item_at_number m.threads t ≡ Some row)
+row_here m run t step e next is = row_there m run.state run.is t (started_of m.input run.state t e (next run.state run.is ∙ is m.input run.state))
+
+-- and so has one that enters a call
+pub row_entering : (m : Running) → IsRunning m → (t : ℕ) (call : SysCall) (regs : List ℕ) → IsNext m t (steps.Enter call regs) → (row : ThreadRow) × (item_at_number m.threads t ≡ Some row)
+row_entering m run t call regs next = row_there m run.state run.is t (started_of m.input run.state t _ (next run.state run.is))
+
+-- and one that makes a call
+pub row_making : (m : Running) → IsRunning m → (t : ℕ) (made : Use) → IsNext m t (steps.Make made) → (row : ThreadRow) × (item_at_number m.threads t ≡ Some row)
+row_making m run t made next = row_there m run.state run.is t (started_of m.input run.state t _ (next run.state run.is))

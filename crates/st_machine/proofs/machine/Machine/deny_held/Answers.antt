@@ -1,0 +1,60 @@
+use Rattle.std.proofs.Common.{◌≡◌, ◌-◌, ◌∙◌, None, Some, ap, arith, refl, set, sym, subst}
+use Rattle.st_base.specs.Numbered.{item_at_number}
+use Rattle.st_trace.specs.declared.entry.Choice.TheVariants as choice
+use Rattle.st_trace.specs.declared.entry.Entry.TheVariants as entry
+use Rattle.st_law.specs.State.{is_live}
+use Rattle.st_workers.proofs.Ended.{lives_as}
+use Rattle.st_workers.proofs.Turns.{number_within, read_is}
+use Rattle.st_machine.specs.Machine.{IsNext, IsStep, Running}
+use Rattle.st_machine.specs.Thread.{ThreadRow}
+use Rattle.st_machine.specs.declared.step.Step.TheVariants as steps
+use Rattle.st_machine.proofs.After.{with_parts}
+use Rattle.st_machine.proofs.Moving.{denied_lives, denied_step, row_here}
+use Rattle.st_machine.proofs.Served.{running_step}
+use Rattle.st_machine.proofs.machine.Machine.deny_held.Goals as goal
+
+pub overflow_sub-tid : goal.overflow_sub-tid
+overflow_sub-tid c =
+    let m : Running = record { input = c.self.inside.input.now; system = c.self.inside.system; workers = c.self.inside.workers; threads = c.self.inside.threads.items; answers = c.self.inside.answers } in
+    let row = row_here m c.self.invariant c.args.tid (steps.Deny (Some c.args.seq) c.args.errno c.args.cause) (entry.Denied c.args.tid (Some c.args.seq) c.args.errno c.args.cause) (subst (λ (k : Running). IsNext k c.args.tid (steps.Deny (Some c.args.seq) c.args.errno c.args.cause)) (sym c.self.view_is) c.requires) (λ i st. refl) in
+    (number_within m.threads c.args.tid row.0 row.1).0
+
+pub index_mut-requires : goal.index_mut-requires
+index_mut-requires c =
+    let m : Running = record { input = c.self.inside.input.now; system = c.self.inside.system; workers = c.self.inside.workers; threads = c.self.inside.threads.items; answers = c.self.inside.answers } in
+    let row = row_here m c.self.invariant c.args.tid (steps.Deny (Some c.args.seq) c.args.errno c.args.cause) (entry.Denied c.args.tid (Some c.args.seq) c.args.errno c.args.cause) (subst (λ (k : Running). IsNext k c.args.tid (steps.Deny (Some c.args.seq) c.args.errno c.args.cause)) (sym c.self.view_is) c.requires) (λ i st. refl) in
+    let within = number_within m.threads c.args.tid row.0 row.1 in
+    let from = within.0 in
+    let to = within.1 in
+    omega (arith, from, to)
+
+abbrev old : goal.After-cancel → Running
+old c = record { input = c.self.inside.input.now; system = c.self.inside.system; workers = c.self.inside.workers; threads = c.self.inside.threads.items; answers = c.self.inside.answers }
+
+next : (c : goal.After-cancel) → IsNext (old c) c.args.tid (steps.Deny (Some c.args.seq) c.args.errno c.args.cause)
+next c = subst (λ (k : Running). IsNext k c.args.tid (steps.Deny (Some c.args.seq) c.args.errno c.args.cause)) (sym c.self.view_is) c.requires
+
+row : (c : goal.After-cancel) → (row : ThreadRow) × (item_at_number (old c).threads c.args.tid ≡ Some row)
+row c = row_here (old c) c.self.invariant c.args.tid (steps.Deny (Some c.args.seq) c.args.errno c.args.cause) (entry.Denied c.args.tid (Some c.args.seq) c.args.errno c.args.cause) (next c) (λ i st. refl)
+
+abbrev new : (c : goal.After-cancel) → ThreadRow → Running
+new c row = with_parts (old c) (old c).system c.cancel.new.self (set (old c).threads (c.args.tid - 1) row)
+
+put : (c : goal.After-cancel) → c.close.new.self ≡ record (row c).0 { pending = None }
+put c = c.close.ensures ∙ ap (λ (r : ThreadRow). record r { pending = None }) (read_is (old c).threads c.args.tid (row c).0 c.index_mut.result.now (row c).1 c.index_mut.ensures.value)
+
+step : (c : goal.After-cancel) → IsStep (old c) (choice.Thread c.args.tid) (Some (entry.Denied c.args.tid (Some c.args.seq) c.args.errno c.args.cause)) (new c c.close.new.self)
+step c = subst (λ (r : ThreadRow). IsStep (old c) (choice.Thread c.args.tid) (Some (entry.Denied c.args.tid (Some c.args.seq) c.args.errno c.args.cause)) (new c r)) (sym (put c)) (denied_step (old c) c.args.tid c.args.seq c.args.errno c.args.cause (next c) c.cancel.new.self (row c).0 (row c).1 c.cancel.ensures.kept)
+
+pub invariant_of-self : goal.invariant_of-self
+invariant_of-self c = running_step (old c) (new c c.close.new.self) (choice.Thread c.args.tid) (entry.Denied c.args.tid (Some c.args.seq) c.args.errno c.args.cause) c.self.invariant (step c)
+
+pub returns-clause-step : goal.returns-clause-step
+returns-clause-step c = subst (λ (k : Running). IsStep k (choice.Thread c.args.tid) (Some (entry.Denied c.args.tid (Some c.args.seq) c.args.errno c.args.cause)) (new c c.close.new.self)) c.self.view_is (step c)
+
+pub cancel-requires : goal.cancel-requires
+cancel-requires c =
+    let m : Running = record { input = c.self.inside.input.now; system = c.self.inside.system; workers = c.self.inside.workers; threads = c.self.inside.threads.items; answers = c.self.inside.answers } in
+    let run = c.self.invariant in
+    let denied : IsNext m c.args.tid (steps.Deny (Some c.args.seq) c.args.errno c.args.cause) = subst (λ (k : Running). IsNext k c.args.tid (steps.Deny (Some c.args.seq) c.args.errno c.args.cause)) (sym c.self.view_is) c.requires in
+    lives_as m.input run.state (is_live run.state) m.workers c.args.seq run.is.workers ∙ denied_lives m c.args.tid c.args.seq c.args.errno c.args.cause denied run.state run.is

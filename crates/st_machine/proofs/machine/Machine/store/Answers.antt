@@ -1,0 +1,61 @@
+use Rattle.std.proofs.Common.{◌≡◌, ◌-◌, ◌∙◌, Some, ap, arith, drop, refl, set, sym, subst}
+use Rattle.st_base.specs.Numbered.{item_at_number}
+use Rattle.st_trace.specs.declared.entry.Choice.TheVariants as choice
+use Rattle.st_trace.specs.declared.entry.Entry.TheVariants as entry
+use Rattle.st_workers.proofs.Turns.{number_within, read_is}
+use Rattle.st_machine.specs.Machine.{IsNext, IsStep, Running}
+use Rattle.st_machine.specs.Thread.{ThreadRow}
+use Rattle.st_machine.specs.declared.step.Step.TheVariants as steps
+use Rattle.st_machine.proofs.After.{with_parts}
+use Rattle.st_machine.proofs.Moving.{stored_inside, stored_started, stored_step, row_here}
+use Rattle.st_machine.proofs.Served.{running_step}
+use Rattle.st_machine.proofs.machine.Machine.store.Goals as goal
+
+pub overflow_sub-tid : goal.overflow_sub-tid
+overflow_sub-tid c =
+    let m : Running = record { input = c.self.inside.input.now; system = c.self.inside.system; workers = c.self.inside.workers; threads = c.self.inside.threads.items; answers = c.self.inside.answers } in
+    let row = row_here m c.self.invariant c.args.tid (steps.Store c.args.place c.args.word) (entry.Stored c.args.tid c.args.place c.args.word) (subst (λ (k : Running). IsNext k c.args.tid (steps.Store c.args.place c.args.word)) (sym c.self.view_is) c.requires) (λ i st. refl) in
+    (number_within m.threads c.args.tid row.0 row.1).0
+
+pub index_mut-requires : goal.index_mut-requires
+index_mut-requires c =
+    let m : Running = record { input = c.self.inside.input.now; system = c.self.inside.system; workers = c.self.inside.workers; threads = c.self.inside.threads.items; answers = c.self.inside.answers } in
+    let row = row_here m c.self.invariant c.args.tid (steps.Store c.args.place c.args.word) (entry.Stored c.args.tid c.args.place c.args.word) (subst (λ (k : Running). IsNext k c.args.tid (steps.Store c.args.place c.args.word)) (sym c.self.view_is) c.requires) (λ i st. refl) in
+    let within = number_within m.threads c.args.tid row.0 row.1 in
+    let from = within.0 in
+    let to = within.1 in
+    omega (arith, from, to)
+
+abbrev old : goal.After-self-1 → Running
+old c = record { input = c.self.inside.input.now; system = c.self.inside.system; workers = c.self.inside.workers; threads = c.self.inside.threads.items; answers = c.self.inside.answers }
+
+next : (c : goal.After-self-1) → IsNext (old c) c.args.tid (steps.Store c.args.place c.args.word)
+next c = subst (λ (k : Running). IsNext k c.args.tid (steps.Store c.args.place c.args.word)) (sym c.self.view_is) c.requires
+
+row : (c : goal.After-self-1) → (row : ThreadRow) × (item_at_number (old c).threads c.args.tid ≡ Some row)
+row c = row_here (old c) c.self.invariant c.args.tid (steps.Store c.args.place c.args.word) (entry.Stored c.args.tid c.args.place c.args.word) (next c) (λ i st. refl)
+
+abbrev new : (c : goal.After-self-1) → ThreadRow → Running
+new c row = with_parts (old c) c.store.new.self (old c).workers (set (old c).threads (c.args.tid - 1) row)
+
+put : (c : goal.After-self-1) → c.go_on.new.self ≡ record (row c).0 { left = drop 1 (row c).0.left }
+put c = c.go_on.ensures ∙ ap (λ (r : ThreadRow). record r { left = drop 1 r.left }) (read_is (old c).threads c.args.tid (row c).0 c.index_mut.result.now (row c).1 c.index_mut.ensures.value)
+
+step : (c : goal.After-self-1) → IsStep (old c) (choice.Thread c.args.tid) (Some (entry.Stored c.args.tid c.args.place c.args.word)) (new c c.go_on.new.self)
+step c = subst (λ (r : ThreadRow). IsStep (old c) (choice.Thread c.args.tid) (Some (entry.Stored c.args.tid c.args.place c.args.word)) (new c r)) (sym (put c)) (stored_step (old c) c.args.tid c.args.place c.args.word (next c) c.store.new.self (row c).0 (row c).1 c.store.ensures.system)
+
+pub invariant_of-self : goal.invariant_of-self
+invariant_of-self c = running_step (old c) (new c c.go_on.new.self) (choice.Thread c.args.tid) (entry.Stored c.args.tid c.args.place c.args.word) c.self.invariant (step c)
+
+pub returns-clause-step : goal.returns-clause-step
+returns-clause-step c = subst (λ (k : Running). IsStep k (choice.Thread c.args.tid) (Some (entry.Stored c.args.tid c.args.place c.args.word)) (new c c.go_on.new.self)) c.self.view_is (step c)
+
+pub store-requires-clause-place : goal.store-requires-clause-place
+store-requires-clause-place c =
+    let m : Running = record { input = c.self.inside.input.now; system = c.self.inside.system; workers = c.self.inside.workers; threads = c.self.inside.threads.items; answers = c.self.inside.answers } in
+    stored_inside m c.args.tid c.args.place c.args.word (subst (λ (k : Running). IsNext k c.args.tid (steps.Store c.args.place c.args.word)) (sym c.self.view_is) c.requires) c.self.invariant.state c.self.invariant.is
+
+pub store-requires-clause-started : goal.store-requires-clause-started
+store-requires-clause-started c =
+    let m : Running = record { input = c.self.inside.input.now; system = c.self.inside.system; workers = c.self.inside.workers; threads = c.self.inside.threads.items; answers = c.self.inside.answers } in
+    stored_started m c.args.tid c.args.place c.args.word (subst (λ (k : Running). IsNext k c.args.tid (steps.Store c.args.place c.args.word)) (sym c.self.view_is) c.requires) c.self.invariant.state c.self.invariant.is

@@ -1,0 +1,23 @@
+-- What has to be there for a thread or a worker to go on.
+use Rattle.std.specs.Prelude.{Bool, true, false, Option, Some, None}
+use Rattle.st_messages.specs.declared.message.MsgState.{MsgState}
+use Rattle.st_messages.specs.declared.message.MsgState.TheVariants.{Waiting, Claimed, Answered, Faulted}
+use Rattle.st_workers.specs.declared.task.Task.{Task}
+use Rattle.st_workers.specs.declared.task.Task.TheVariants.{Rest, Claim, Copy, Look as LookAt, Fault, Answer}
+
+-- whether a message met a fault or was answered
+abbrev pub has_come : Option MsgState → Bool
+has_come None = false
+has_come (Some Waiting) = false
+has_come (Some (Claimed worker)) = false
+has_come (Some (Answered verdict)) = true
+has_come (Some (Faulted errno)) = true
+
+-- whether a worker has something to do
+abbrev pub is_work : Task → Bool
+is_work Rest = false
+is_work Claim = true
+is_work (Copy seq part place) = true
+is_work (LookAt seq part) = true
+is_work (Fault seq errno) = true
+is_work Answer = true

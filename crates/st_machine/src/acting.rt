@@ -1,0 +1,151 @@
+// The steps of threads: each makes of the machine what its entry says, and gives the entry.
+ghost use Rattle.std.specs.Prelude.{◌≡◌, ◌≢◌, IfOk, OnErr, Some};
+ghost use Rattle.st_machine.specs.Machine.{IsNext, IsStep, Stands};
+ghost use Rattle.st_machine.specs.NextSteps.{CanBeDone};
+ghost use Rattle.st_model.specs.Processes.{pid_of, IsPid};
+ghost use Rattle.st_machine.specs.declared.step.Step.TheVariants as steps;
+ghost use Rattle.st_trace.specs.declared.entry.Choice.TheVariants.{Thread};
+
+use crate::machine::Machine;
+use crate::step::Step;
+use st_base::{Errno, Ids, Pid, Seq, Sequence, Tid};
+use st_calls::SysCall;
+use st_trace::{CallResult, Cause, Entry};
+use std::alloc::{AllocError, Global};
+
+impl<'a> Machine<'a> {
+    // A thread ends, and its process with the last of them.
+    fn end(&mut self, tid: Tid) -> Entry
+        requires { IsNext self.old tid steps.End }
+        ensures step { IsStep self.old (Thread tid) (Some result) self.new }
+        ensures input { self.new.input ≡ self.old.input }
+    {
+        self.system.end_thread(tid);
+        self.threads[tid as usize - 1].end();
+        Entry::Ended { tid }
+    }
+
+    // A thread stores a word.
+    fn store(&mut self, tid: Tid, place: u32, word: u64) -> Entry
+        requires { IsNext self.old tid (steps.Store place word) }
+        ensures step { IsStep self.old (Thread tid) (Some result) self.new }
+        ensures input { self.new.input ≡ self.old.input }
+    {
+        self.system.store(tid, place, word);
+        self.threads[tid as usize - 1].go_on();
+        Entry::Stored { tid, place, word }
+    }
+
+    // A thread's call, which isn't held, fails before it is made.
+    fn fail(
+        &mut self,
+        alloc: Global,
+        tid: Tid,
+        call: SysCall,
+        regs: [u64; 6],
+        ids: Ids,
+        errno: Errno,
+    ) -> Entry
+        requires { IsNext self.old tid (steps.Fail call regs ids errno) }
+        ensures step { IsStep self.old (Thread tid) (Some result) self.new }
+        ensures input { self.new.input ≡ self.old.input }
+    {
+        self.threads[tid as usize - 1].close();
+        Entry::Used {
+            tid,
+            seq: None,
+            call,
+            regs,
+            args: Sequence::new(alloc),
+            ids,
+            result: CallResult::Failed(errno),
+            changes: Sequence::new(alloc),
+        }
+    }
+
+    // A thread's barred call is denied.
+    fn deny_barred(&mut self, tid: Tid, errno: Errno, cause: Cause) -> Entry
+        requires { IsNext self.old tid (steps.Deny None errno cause) }
+        ensures step { IsStep self.old (Thread tid) (Some result) self.new }
+        ensures input { self.new.input ≡ self.old.input }
+    {
+        self.threads[tid as usize - 1].close();
+        Entry::Denied {
+            tid,
+            seq: None,
+            errno,
+            cause,
+        }
+    }
+
+    // A thread's held call is denied, and its number ends.
+    fn deny_held(&mut self, tid: Tid, seq: Seq, errno: Errno, cause: Cause) -> Entry
+        requires { IsNext self.old tid (steps.Deny (Some seq) errno cause) }
+        ensures step { IsStep self.old (Thread tid) (Some result) self.new }
+        ensures input { self.new.input ≡ self.old.input }
+    {
+        self.threads[tid as usize - 1].close();
+        self.workers.cancel(seq);
+        Entry::Denied {
+            tid,
+            seq: Some(seq),
+            errno,
+            cause,
+        }
+    }
+
+    // A thread's call is denied.
+    fn deny(&mut self, tid: Tid, seq: Option<Seq>, errno: Errno, cause: Cause) -> Entry
+        requires { IsNext self.old tid (steps.Deny seq errno cause) }
+        ensures step { IsStep self.old (Thread tid) (Some result) self.new }
+        ensures input { self.new.input ≡ self.old.input }
+    {
+        match seq {
+            Some(seq) => self.deny_held(tid, seq, errno, cause),
+            None => self.deny_barred(tid, errno, cause),
+        }
+    }
+
+    // A thread does what comes next, which is more than to wait. Without memory all is as good as before.
+    fn act(&mut self, alloc: Global, tid: Tid, pid: Pid, step: Step) -> Result<Entry, AllocError>
+        requires next { IsNext self.old tid step }
+        requires can { CanBeDone self.old.system step }
+        requires goes_on { step ≢ steps.Wait }
+        requires process { pid_of self.old.system.processes tid ≡ Some pid }
+        requires there { IsPid self.old.system.processes pid }
+        ensures step { IfOk result (λ entry. IsStep self.old (Thread tid) (Some entry) self.new) }
+        ensures err { OnErr result (Stands self.old self.new) }
+        ensures input { self.new.input ≡ self.old.input }
+    {
+        match step {
+            Step::Wait => unreachable!(),
+            Step::End => Ok(self.end(tid)),
+            Step::Store { place, word } => Ok(self.store(tid, place, word)),
+            Step::Enter { call, regs } => self.enter(alloc, tid, pid, call, regs),
+            Step::Make(made) => self.use_call(alloc, tid, pid, made),
+            Step::Fail {
+                call,
+                regs,
+                ids,
+                errno,
+            } => Ok(self.fail(alloc, tid, call, regs, ids, errno)),
+            Step::Deny { seq, errno, cause } => Ok(self.deny(tid, seq, errno, cause)),
+        }
+    }
+
+    /// A thread moves, and gives the entry that this adds; none where it has nothing to do. Without memory all is as good as before.
+    pub fn move_thread(&mut self, alloc: Global, tid: Tid) -> Result<Option<Entry>, AllocError>
+        ensures step { IfOk result (λ entry. IsStep self.old (Thread tid) entry self.new) }
+        ensures err { OnErr result (Stands self.old self.new) }
+        ensures input { self.new.input ≡ self.old.input }
+    {
+        let step = self.next_step(alloc, tid)?;
+        if let Step::Wait = step {
+            return Ok(None);
+        }
+        let Some(pid) = self.system.pid_of(tid) else {
+            return Ok(None);
+        };
+        Ok(Some(self.act(alloc, tid, pid, step)?))
+    }
+}

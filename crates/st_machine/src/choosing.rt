@@ -1,0 +1,37 @@
+// Choices: each is made by its thread or its worker.
+ghost use Rattle.std.specs.Prelude.{◌≡◌, IfOk, OnErr};
+ghost use Rattle.st_machine.specs.Machine.{IsStep, Stands};
+ghost use Rattle.st_trace.specs.declared.entry.Choice.TheVariants as choices;
+
+use crate::machine::Machine;
+use st_base::Worker;
+use st_trace::{Choice, Entry};
+use std::alloc::{AllocError, Global};
+
+impl<'a> Machine<'a> {
+    // A worker moves, if there is one of this number.
+    fn serve_if(&mut self, alloc: Global, worker: Worker) -> Result<Option<Entry>, AllocError>
+        ensures step { IfOk result (λ entry. IsStep self.old (choices.Worker worker) entry self.new) }
+        ensures err { OnErr result (Stands self.old self.new) }
+        ensures input { self.new.input ≡ self.old.input }
+    {
+        if worker < 1 || worker > self.workers.workers() {
+            return Ok(None);
+        }
+        self.serve(alloc, worker)
+    }
+
+    /// Makes a choice, and gives the entry that this adds; none where it isn't enabled. Without memory all is as good as before.
+    pub fn choose(&mut self, alloc: Global, choice: Choice) -> Result<Option<Entry>, AllocError>
+        ensures step { IfOk result (λ entry. IsStep self.old choice entry self.new) }
+        ensures err { OnErr result (Stands self.old self.new) }
+        ensures input { self.new.input ≡ self.old.input }
+    {
+        match choice {
+            Choice::Thread(tid) => self.move_thread(alloc, tid),
+            Choice::Worker(worker) => self.serve_if(alloc, worker),
+            // In the mode that is run nobody is asked.
+            Choice::Operator => Ok(None),
+        }
+    }
+}

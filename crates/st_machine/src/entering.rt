@@ -1,0 +1,129 @@
+// Calls are entered: fast, barred, untraced, or held under the next number.
+ghost use Rattle.std.specs.Prelude.{◌≡◌, ◌<◌, ◌-◌, ◌^◌, Some, IfOk, OnErr};
+ghost use Rattle.st_machine.specs.Entering.{IsHeadOf, IsUnposted, IsWayOf};
+ghost use Rattle.st_machine.specs.Machine.{IsNext, IsStep, Stands};
+ghost use Rattle.st_machine.specs.declared.step.Step.TheVariants as steps;
+ghost use Rattle.st_model.specs.Processes.{pid_of, IsPid};
+ghost use Rattle.st_trace.specs.declared.entry.Choice.TheVariants.{Thread};
+ghost use Rattle.st_trace.specs.declared.entry.Way.TheVariants.{Held};
+
+use crate::machine::Machine;
+use st_base::{Pid, Seq, Tid};
+use st_calls::{FastAnswer, Rule, SysCall};
+use st_lookaside::Head;
+use st_trace::{Entry, Way};
+use std::alloc::{AllocError, Global};
+
+impl<'a> Machine<'a> {
+    // How a thread's call goes on. One that has to be judged is held under the next number.
+    fn way_of(&self, tid: Tid, pid: Pid, call: SysCall, regs: &[u64; 6]) -> Way
+        requires process { pid_of self.now.system.processes tid ≡ Some pid }
+        requires there { IsPid self.now.system.processes pid }
+        ensures { IsWayOf self.now tid call regs.now result }
+    {
+        if !self.system.traced(pid) {
+            return Way::Untraced;
+        }
+        match self.answer(pid, call, regs) {
+            FastAnswer::Permit => Way::Fast,
+            FastAnswer::Refuse(_) => Way::Barred(1),
+            FastAnswer::Ask => Way::Held(self.workers.next_seq()),
+        }
+    }
+
+    // The head of the message of a process's call, under this number.
+    fn head_of(
+        &self,
+        alloc: Global,
+        seq: Seq,
+        pid: Pid,
+        call: SysCall,
+        regs: &[u64; 6],
+    ) -> Result<Head, AllocError>
+        requires { IsPid self.now.system.processes pid }
+        ensures { IfOk result (IsHeadOf self.now seq pid call regs.now) }
+    {
+        Ok(Head {
+            seq,
+            pid,
+            ids: self.system.ids(pid),
+            cwd: self.system.cwd(pid).copy(alloc)?,
+            policy: self.system.policy(pid).copy(alloc)?,
+            rule: Rule::of(call, regs, self.input.options.aliasing),
+            call,
+            regs: *regs,
+        })
+    }
+
+    // A thread enters a call that isn't held.
+    fn enter_unheld(&mut self, tid: Tid, call: SysCall, regs: [u64; 6], way: Way) -> Entry
+        requires next { IsNext self.old tid (steps.Enter call regs) }
+        requires way { IsWayOf self.old tid call regs way }
+        requires unposted { IsUnposted way }
+        ensures step { IsStep self.old (Thread tid) (Some result) self.new }
+        ensures input { self.new.input ≡ self.old.input }
+    {
+        self.threads[tid as usize - 1].enter(call, regs, way);
+        Entry::Entered {
+            tid,
+            call,
+            regs,
+            way,
+        }
+    }
+
+    // A thread enters a call that is held under the next number, and its message is posted. Without memory all is as good as before.
+    fn enter_held(
+        &mut self,
+        alloc: Global,
+        tid: Tid,
+        pid: Pid,
+        call: SysCall,
+        regs: [u64; 6],
+        seq: Seq,
+    ) -> Result<Entry, AllocError>
+        requires next { IsNext self.old tid (steps.Enter call regs) }
+        requires way { IsWayOf self.old tid call regs (Held seq) }
+        requires process { pid_of self.old.system.processes tid ≡ Some pid }
+        requires there { IsPid self.old.system.processes pid }
+        ensures step { IfOk result (λ entry. IsStep self.old (Thread tid) (Some entry) self.new) }
+        ensures err { OnErr result (Stands self.old self.new) }
+        ensures input { self.new.input ≡ self.old.input }
+    {
+        let head = self.head_of(alloc, seq, pid, call, &regs)?;
+        self.workers.post(alloc, tid, head)?;
+        let way = Way::Held(seq);
+        self.threads[tid as usize - 1].enter(call, regs, way);
+        Ok(Entry::Entered {
+            tid,
+            call,
+            regs,
+            way,
+        })
+    }
+
+    // A thread enters its next instruction's call. Without memory all is as good as before.
+    pub(crate) fn enter(
+        &mut self,
+        alloc: Global,
+        tid: Tid,
+        pid: Pid,
+        call: SysCall,
+        regs: [u64; 6],
+    ) -> Result<Entry, AllocError>
+        requires next { IsNext self.old tid (steps.Enter call regs) }
+        requires process { pid_of self.old.system.processes tid ≡ Some pid }
+        requires there { IsPid self.old.system.processes pid }
+        ensures step { IfOk result (λ entry. IsStep self.old (Thread tid) (Some entry) self.new) }
+        ensures err { OnErr result (Stands self.old self.new) }
+        ensures input { self.new.input ≡ self.old.input }
+    {
+        let way = self.way_of(tid, pid, call, &regs);
+        match way {
+            Way::Held(seq) => self.enter_held(alloc, tid, pid, call, regs, seq),
+            Way::Fast | Way::Barred(_) | Way::Untraced => {
+                Ok(self.enter_unheld(tid, call, regs, way))
+            }
+        }
+    }
+}
