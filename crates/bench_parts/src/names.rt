@@ -1,5 +1,5 @@
 use st_base::Errno;
-use st_exec_names::resolve;
+use st_exec_objects::resolve;
 use st_model::{NewKind, NewNode};
 use st_names::{AbsName, Seen};
 use st_resolve::WalkFault;

@@ -10,7 +10,7 @@ use Rattle.st_effects.specs.Names.{is_link}
 use Rattle.st_names.specs.Name.{Components}
 use Rattle.st_law.specs.Arguments.{is_link_at, is_link_node, link_along, link_on_way}
 use Rattle.st_tree.specs.Refusals.{IsMade}
-use Rattle.st_exec_names.proofs.Objects.{numbered}
+use Rattle.st_exec_objects.proofs.Objects.{numbered}
 
 -- whether a kind is that of a link, for an object that was made
 pub link_of_made : (tree : Tree) (obj : ℕ) → IsMade tree obj → is_link_node (node_of_number tree obj) ≡ is_link (node_with_number tree obj).kind

@@ -13,7 +13,7 @@ use crate::asked::Asked;
 use crate::fault::ArgFault;
 use st_base::{Space, Text};
 use st_calls::{ArgSpec, ArgText, PartKind, follows};
-use st_exec_names::resolve;
+use st_exec_objects::resolve;
 use st_memory::Spaces;
 use st_translate::{Copying, plain_text};
 use st_tree::Tree;

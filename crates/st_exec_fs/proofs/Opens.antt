@@ -23,8 +23,8 @@ use Rattle.st_request.specs.Ready.{IsOpenable, IsReal, KeepsObjects}
 use Rattle.st_request.specs.Outcome.{outcome_of, with_descriptors, with_tree}
 use Rattle.st_request.specs.declared.outcome.Outcome.{Outcome}
 use Rattle.st_trace.specs.declared.entry.CallResult.TheVariants.{Value}
-use Rattle.st_exec_names.specs.Walking.{object_made}
-use Rattle.st_exec_names.proofs.Objects.{numbered}
+use Rattle.st_exec_objects.specs.Walking.{object_made}
+use Rattle.st_exec_objects.proofs.Objects.{numbered}
 use Rattle.st_request.proofs.Real.{kept_objects, more}
 
 -- what a name has, by what a walk to it found

@@ -16,9 +16,8 @@ ghost use Rattle.st_request.specs.Outcome.{outcome_of, with_descriptors, with_pr
 use crate::opening::{open, truncate};
 use st_calls::SysCall;
 use st_exec_fds::{close, dup, lseek, read, write};
-use st_exec_names::{
-    access, chdir, chmod, chown, link, mkdir, readlink, rename, rmdir, stat, symlink, unlink,
-};
+use st_exec_names::{link, mkdir, rename, rmdir, symlink, unlink};
+use st_exec_objects::{access, chdir, chmod, chown, readlink, stat};
 use st_fds::Fds;
 use st_memory::Spaces;
 use st_procs::Procs;

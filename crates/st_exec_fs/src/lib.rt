@@ -8,10 +8,8 @@ mod opening;
 pub use execution::execute_fs;
 pub use opening::{open, truncate};
 pub use st_exec_fds::{close, dup, lseek, read, write};
-pub use st_exec_names::{
-    access, chdir, chmod, chown, link, mkdir, readlink, rename, resolve, rmdir, stat, symlink,
-    unlink,
-};
+pub use st_exec_names::{link, mkdir, rename, rmdir, symlink, unlink};
+pub use st_exec_objects::{access, chdir, chmod, chown, readlink, resolve, stat};
 pub use st_request::{Outcome, Request, open_files_stay_real};
 
 #[cfg(test)]

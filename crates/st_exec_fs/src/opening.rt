@@ -22,12 +22,12 @@ ghost use Rattle.st_tree.specs.Refusals.{add_refused, IsFile, IsMade};
 ghost use Rattle.st_exec_fs.specs.Open.{is_changing, open_changes, opened_object, opened_outcome, CanOpen, IsNoLink};
 ghost use Rattle.st_request.specs.Ready.{IsOpenable, IsReal, KeepsObjects};
 ghost use Rattle.st_request.specs.Outcome.{outcome_of, unless_err, with_descriptors, with_tree};
-ghost use Rattle.st_exec_names.specs.Walking.{IsPlace};
+ghost use Rattle.st_exec_objects.specs.Walking.{IsPlace};
 
 use st_base::{Errno, Ids, Obj, Text};
 use st_calls::{O_APPEND, O_CREAT, O_EXCL, O_TRUNC, has_flag};
 use st_exec_names::make_object;
-use st_exec_names::walking::{self, Place};
+use st_exec_objects::walking::{self, Place};
 use st_fds::Fds;
 use st_model::{FileKind, LONGEST_FILE, MOST_OBJECTS, OpenFile};
 use st_names::AbsName;

@@ -14,7 +14,7 @@ use Rattle.st_model.specs.Tree.{Tree, entry_count, is_directory, node_at, node_w
 use Rattle.st_tree.specs.Refusals.{add_refused, has_entries, is_missing, is_no_directory, is_not_dir, link_refused, no_directory, no_object, place_refused, remove_refused, IsMade}
 use Rattle.st_effects.specs.NameTests.{walk_error}
 use Rattle.st_exec_names.proofs.Looked.{holder_looked, looked}
-use Rattle.st_exec_names.proofs.Objects.{numbered}
+use Rattle.st_exec_objects.proofs.Objects.{numbered}
 
 -- ---- tests as the code makes them
 

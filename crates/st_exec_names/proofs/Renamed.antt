@@ -18,8 +18,8 @@ use Rattle.st_exec_names.specs.Renaming.{changes_of_move, AreFound}
 use Rattle.st_exec_names.specs.declared.renaming.Both.{Both}
 use Rattle.st_exec_names.specs.declared.renaming.Move.TheVariants.{Stays, Free, Replaces}
 use Rattle.st_request.specs.Outcome.{with_tree}
-use Rattle.st_exec_names.specs.Walking.{object_made}
-use Rattle.st_exec_names.proofs.Objects.{found_made, numbered}
+use Rattle.st_exec_objects.specs.Walking.{object_made}
+use Rattle.st_exec_objects.proofs.Objects.{found_made, numbered}
 use Rattle.st_exec_names.proofs.Allowed.{directory_there, object_there}
 
 -- three tests of which none is met

@@ -1,3 +1,1 @@
-pub mod Execution
 pub mod Renaming
-pub mod Walking

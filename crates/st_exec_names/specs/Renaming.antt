@@ -7,7 +7,7 @@ use Rattle.st_tree.specs.Refusals.{IsMade}
 use Rattle.st_effects.specs.NameTests.{walk_error}
 use Rattle.st_trace.specs.declared.entry.Change.{Change}
 use Rattle.st_trace.specs.declared.entry.Change.TheVariants.{Removed, Renamed}
-use Rattle.st_exec_names.specs.Walking.{IsPlace}
+use Rattle.st_exec_objects.specs.Walking.{IsPlace}
 use Rattle.st_exec_names.specs.declared.renaming.Both.{Both}
 use Rattle.st_exec_names.specs.declared.renaming.Move.{Move}
 use Rattle.st_exec_names.specs.declared.renaming.Move.TheVariants.{Stays, Free, Replaces}

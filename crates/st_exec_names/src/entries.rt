@@ -1,15 +1,17 @@
 // Calls that take entries out of directories.
 ghost use Rattle.std.specs.Prelude.{◌≡◌, [], ◌∷◌, None, IfOk, OnOk, OnErr};
+ghost use Rattle.std.specs.Result.{result_err};
 ghost use Rattle.st_effects.specs.Changes.{tree_after};
-ghost use Rattle.st_effects.specs.Names.{rmdir_outcome, unlink_outcome};
+ghost use Rattle.st_effects.specs.Names.{directory_not_empty, rmdir_outcome, unlink_outcome};
 ghost use Rattle.st_effects.specs.System.{arg_name_at, success, System};
-ghost use Rattle.st_model.specs.Tree.{remove_name};
+ghost use Rattle.st_model.specs.Tree.{entry_count, remove_name};
 ghost use Rattle.st_trace.specs.declared.entry.CallResult.TheVariants.{Value};
-ghost use Rattle.st_tree.specs.Refusals.{remove_refused};
+ghost use Rattle.st_tree.specs.Refusals.{remove_refused, IsMade};
 ghost use Rattle.st_request.specs.Outcome.{outcome_of, unless_err, with_tree};
+ghost use Rattle.st_exec_objects.specs.Walking.{object_made};
 
-use crate::walking;
-use st_base::Errno;
+use st_base::{Errno, Obj};
+use st_exec_objects::walking;
 use st_names::AbsName;
 use st_request::{Outcome, Request, unrefused};
 use st_trace::Change;
@@ -60,6 +62,18 @@ pub fn unlink(tree: &mut Tree, alloc: Global, request: &Request<'_>) -> Result<O
     }
 }
 
+// Lets a call take an object away, or says that it is a directory with entries.
+pub(crate) fn may_take_away(tree: &Tree, obj: Obj) -> Result<(), Errno>
+    requires { IsMade tree.now obj }
+    ensures refused { result_err result ≡ directory_not_empty tree.now (object_made tree.now obj) }
+    ensures bare { OnOk result (entry_count tree.now obj ≡ 0) }
+{
+    if walking::is_directory(tree, obj) && tree.node(obj).size != 0 {
+        return Err(Errno::ENOTEMPTY);
+    }
+    Ok(())
+}
+
 // Lets rmdir(2) take a name away, or says why it fails.
 fn may_remove_directory(tree: &Tree, request: &Request<'_>, name: &AbsName) -> Result<(), Errno>
     requires { name.now ≡ arg_name_at request.now 0 }
@@ -77,7 +91,7 @@ fn may_remove_directory(tree: &Tree, request: &Request<'_>, name: &AbsName) -> R
         return Err(Errno::ENOTDIR);
     }
     walking::may_write_holder(tree, request.ids, place)?;
-    walking::may_take_away(tree, obj)?;
+    may_take_away(tree, obj)?;
     Ok(())
 }
 

@@ -11,8 +11,8 @@ ghost use Rattle.st_model.specs.declared.object.NewKind.{NewKind};
 ghost use Rattle.st_tree.specs.Refusals.{add_refused, link_refused, place_refused, IsMade};
 ghost use Rattle.st_request.specs.Outcome.{outcome_of, unless_err, with_tree};
 
-use crate::walking;
 use st_base::{Errno, Ids, Obj, Text};
+use st_exec_objects::walking;
 use st_model::MOST_OBJECTS;
 use st_names::AbsName;
 use st_request::{Outcome, Request, unrefused};

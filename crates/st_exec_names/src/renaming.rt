@@ -12,10 +12,11 @@ ghost use Rattle.st_names.specs.Name.{is_root, Components};
 ghost use Rattle.st_tree.specs.Refusals.{rename_refused, replace_refused, tree_after_rename, IsMade};
 ghost use Rattle.st_request.specs.Outcome.{outcome_of, unless_err, with_tree};
 ghost use Rattle.st_exec_names.specs.Renaming.{changes_of_move, AreFound};
-ghost use Rattle.st_exec_names.specs.Walking.{object_made, IsPlace};
+ghost use Rattle.st_exec_objects.specs.Walking.{object_made, IsPlace};
 
-use crate::walking::{self, Place};
+use crate::entries::may_take_away;
 use st_base::{Errno, Ids, Obj, Sequence};
+use st_exec_objects::walking::{self, Place};
 use st_names::AbsName;
 use st_request::{Outcome, Request, unrefused};
 use st_trace::{CallResult, Change};
@@ -77,7 +78,7 @@ fn may_replace(tree: &Tree, obj: Obj, other: Obj) -> Result<(), Errno>
     if replaced && !moved {
         return Err(Errno::EISDIR);
     }
-    walking::may_take_away(tree, other)?;
+    may_take_away(tree, other)?;
     Ok(())
 }
 

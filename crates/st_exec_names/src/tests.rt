@@ -1,66 +1,52 @@
-ghost use Rattle.std.specs.Prelude.{◌≡◌, true, IfOk};
-ghost use Rattle.st_memory.specs.Memory.{is_live, next_space};
-ghost use Rattle.st_model.specs.Processes.{process_at, IsPid};
-
-use crate::{
-    access, chdir, chmod, chown, execve, link, mkdir, readlink, rename, resolve, rmdir, stat,
-    symlink, unlink,
-};
-use st_base::{Errno, Ids, Text};
+use crate::{link, mkdir, rename, rmdir, symlink, unlink};
+use st_base::{Ids, Text};
 use st_calls::{ArgText, Label, SysCall};
-use st_memory::Spaces;
 use st_names::AbsName;
-use st_procs::{ProcRow, Procs};
 use st_request::Request;
-use st_trace::CallResult::{self, Failed, Value};
+use st_trace::CallResult::{self, Value};
 use st_tree::{Kind, NewKind, NewNode, Node, Tree, TreeFault};
 use std::alloc::{AllocError, Global};
 use std::test::Fail;
 
-// Gives a name an object.
+// Gives a name an object of user 7.
 fn add(
     tree: &mut Tree,
     alloc: Global,
     name: &[u8],
     kind: NewKind,
-    uid: u32,
     mode: u32,
 ) -> Result<(), TreeFault> {
     let new = NewNode {
         kind,
-        uid,
-        gid: uid,
+        uid: 7,
+        gid: 7,
         mode,
     };
     tree.add(alloc, &AbsName::of(alloc, name)?, new)?;
     Ok(())
 }
 
-// Of user 7 the directory `/d`, in it the file `f`, the link `l` and the directories `e` and `q`, of which `q` has a file `r`. Of user
-// 0 the file `/d/s` and the directory `/p`, which no other may read.
+// The directory `/d`, in it the file `f`, the link `l` and the directories `e` and `q`, of which `q` has a file `r`.
 fn files(alloc: Global) -> Result<Tree, TreeFault> {
     let mut tree = Tree::new(alloc)?;
-    add(&mut tree, alloc, b"/d", NewKind::Dir, 7, 0o755)?;
+    add(&mut tree, alloc, b"/d", NewKind::Dir, 0o755)?;
     let hello = NewKind::File(Text::of(alloc, b"hello")?);
-    add(&mut tree, alloc, b"/d/f", hello, 7, 0o644)?;
+    add(&mut tree, alloc, b"/d/f", hello, 0o644)?;
     let target = NewKind::Link(Text::of(alloc, b"/d/f")?);
-    add(&mut tree, alloc, b"/d/l", target, 7, 0o777)?;
-    add(&mut tree, alloc, b"/d/e", NewKind::Dir, 7, 0o755)?;
-    add(&mut tree, alloc, b"/d/q", NewKind::Dir, 7, 0o755)?;
+    add(&mut tree, alloc, b"/d/l", target, 0o777)?;
+    add(&mut tree, alloc, b"/d/e", NewKind::Dir, 0o755)?;
+    add(&mut tree, alloc, b"/d/q", NewKind::Dir, 0o755)?;
     let empty = NewKind::File(Text::new(alloc));
-    add(&mut tree, alloc, b"/d/q/r", empty, 7, 0o644)?;
-    let secret = NewKind::File(Text::new(alloc));
-    add(&mut tree, alloc, b"/d/s", secret, 0, 0o600)?;
-    add(&mut tree, alloc, b"/p", NewKind::Dir, 0, 0o700)?;
+    add(&mut tree, alloc, b"/d/q/r", empty, 0o644)?;
     Ok(tree)
 }
 
-// What an object is, apart from its content.
-fn node_of(kind: Kind, uid: u32, gid: u32, mode: u32, size: u64) -> Node {
+// What an object of user 7 is, apart from its content.
+fn node_of(kind: Kind, mode: u32, size: u64) -> Node {
     Node {
         kind,
-        uid,
-        gid,
+        uid: 7,
+        gid: 7,
         mode,
         size,
     }
@@ -75,36 +61,25 @@ fn argument(alloc: Global, index: u32, text: &[u8]) -> Result<ArgText, AllocErro
     })
 }
 
-// A call of process 1 under this user's ids.
-fn request_of<'a>(uid: u32, args: &'a [ArgText], regs: [u64; 2]) -> Request<'a>
-    ensures { result.pid ≡ 1 }
-{
-    Request {
-        tid: 1,
-        pid: 1,
-        ids: Ids::of(uid, uid),
-        regs: [0, regs[0], regs[1], 0, 0, 0],
-        args,
-        child: 0,
-        inherit: false,
-    }
-}
-
-// What a call on the tree gives to a user: its two texts, and the registers behind the first.
+// What a call with these texts gives to user 7, and with this mode behind the first.
 fn called(
     tree: &mut Tree,
     alloc: Global,
-    uid: u32,
     call: SysCall,
     texts: [&[u8]; 2],
-    regs: [u64; 2],
+    mode: u64,
 ) -> Result<CallResult, AllocError> {
     let args = [argument(alloc, 0, texts[0])?, argument(alloc, 1, texts[1])?];
-    let request = request_of(uid, &args, regs);
+    let request = Request {
+        tid: 1,
+        pid: 1,
+        ids: Ids::of(7, 7),
+        regs: [0, mode, 0, 0, 0, 0],
+        args: &args,
+        child: 0,
+        inherit: false,
+    };
     let outcome = match call {
-        SysCall::Access => access(tree, alloc, &request)?,
-        SysCall::Chmod => chmod(tree, alloc, &request)?,
-        SysCall::Chown => chown(tree, alloc, &request)?,
         SysCall::Link => link(tree, alloc, &request)?,
         SysCall::Mkdir => mkdir(tree, alloc, &request)?,
         SysCall::Rename => rename(tree, alloc, &request)?,
@@ -115,183 +90,33 @@ fn called(
     Ok(outcome.result)
 }
 
-// A text that means a name from `/d` on, whether a link at its end is followed, and the name.
+// A call with its texts and its mode: each succeeds, one after the other.
 #[test]
-fn texts_mean_names(rt: HostRuntime) -> Result<(), Fail> {
-    let cases: [(&[u8], bool, &[u8]); 5] = [
-        (b"f", true, b"/d/f"),
-        (b"l", true, b"/d/f"),
-        (b"l", false, b"/d/l"),
-        (b"../p//", true, b"/p"),
-        (b"/d/q/../x", true, b"/d/x"),
-    ];
-    let tree = files(rt.alloc())?;
-    let cwd = AbsName::of(rt.alloc(), b"/d")?;
-    for (text, follow, wanted) in cases {
-        let name = resolve(rt.alloc(), &tree, &cwd, text, follow)?;
-        assert_eq!(rt; name.print(rt.alloc())?.bytes(), wanted);
-    }
-    Ok(())
-}
-
-// A user, a name and a mode, and what access gives.
-#[test]
-fn accesses_are_refused_in_order(rt: HostRuntime) -> Result<(), Fail> {
-    let cases: [(u32, &[u8], u64, CallResult); 10] = [
-        (7, b"/x/y", 8, Failed(Errno::EINVAL)),
-        (7, b"/x/y", 4, Failed(Errno::ENOENT)),
-        (7, b"/d/f/y", 4, Failed(Errno::ENOTDIR)),
-        (7, b"/p/y", 4, Failed(Errno::EACCES)),
-        (7, b"/d/y", 4, Failed(Errno::ENOENT)),
-        (7, b"/d/s", 4, Failed(Errno::EACCES)),
-        (7, b"/d/f", 1, Failed(Errno::EACCES)),
-        (8, b"/d/f", 2, Failed(Errno::EACCES)),
-        (8, b"/d/q", 5, Value(0)),
-        (0, b"/d/s", 6, Value(0)),
-    ];
-    let mut tree = files(rt.alloc())?;
-    for (uid, name, mode, wanted) in cases {
-        let given = called(
-            &mut tree,
-            rt.alloc(),
-            uid,
-            SysCall::Access,
-            [name, b""],
-            [mode, 0],
-        )?;
-        assert_eq!(rt; given, wanted, "{mode}");
-    }
-    Ok(())
-}
-
-// A user, a call, its texts and its registers: each succeeds, one after the other.
-#[test]
-fn names_and_objects_are_changed(rt: HostRuntime) -> Result<(), Fail> {
-    let cases: [(u32, SysCall, [&[u8]; 2], [u64; 2]); 9] = [
-        (7, SysCall::Unlink, [b"/d/l", b""], [0, 0]),
-        (7, SysCall::Rmdir, [b"/d/e", b""], [0, 0]),
-        (7, SysCall::Link, [b"/d/f", b"/d/n"], [0, 0]),
-        (7, SysCall::Symlink, [b"t", b"/d/l"], [0, 0]),
-        (7, SysCall::Mkdir, [b"/d/m", b""], [0o7755, 0]),
-        (7, SysCall::Chmod, [b"/d/f", b""], [0o7400, 0]),
-        (0, SysCall::Chown, [b"/d/f", b""], [9, 10]),
-        (7, SysCall::Rename, [b"/d/q", b"/d/m"], [0, 0]),
-        (7, SysCall::Rename, [b"/d/l", b"/d/f"], [0, 0]),
+fn names_are_given_moved_and_taken_away(rt: HostRuntime) -> Result<(), Fail> {
+    let cases: [(SysCall, [&[u8]; 2], u64); 7] = [
+        (SysCall::Unlink, [b"/d/l", b""], 0),
+        (SysCall::Rmdir, [b"/d/e", b""], 0),
+        (SysCall::Link, [b"/d/f", b"/d/n"], 0),
+        (SysCall::Symlink, [b"t", b"/d/l"], 0),
+        (SysCall::Mkdir, [b"/d/m", b""], 0o7755),
+        (SysCall::Rename, [b"/d/q", b"/d/m"], 0),
+        (SysCall::Rename, [b"/d/l", b"/d/f"], 0),
     ];
     let alloc = rt.alloc();
     let mut tree = files(alloc)?;
     let below = tree.object(&AbsName::of(alloc, b"/d/q/r")?);
-    for (uid, call, texts, regs) in cases {
-        let given = called(&mut tree, alloc, uid, call, texts, regs)?;
+    for (call, texts, mode) in cases {
+        let given = called(&mut tree, alloc, call, texts, mode)?;
         assert_eq!(rt; given, Value(0));
     }
     assert_eq!(rt; tree.object(&AbsName::of(alloc, b"/d/m/r")?), below);
     let named: [(&[u8], Node); 2] = [
-        (b"/d/n", node_of(Kind::File, 9, 10, 0o400, 5)),
-        (b"/d/f", node_of(Kind::Link, 7, 7, 0o777, 1)),
+        (b"/d/n", node_of(Kind::File, 0o644, 5)),
+        (b"/d/f", node_of(Kind::Link, 0o777, 1)),
     ];
     for (name, wanted) in named {
         let obj = tree.object(&AbsName::of(alloc, name)?).ok_or("no object")?;
         assert_eq!(rt; tree.node(obj), wanted);
-    }
-    Ok(())
-}
-
-// The memory of process 1, and its row.
-#[derive(Drop)]
-struct Caller {
-    procs: Procs,
-    spaces: Spaces,
-}
-
-fn start_caller(alloc: Global) -> Result<Caller, AllocError>
-    ensures pid { IfOk result (λ caller. IsPid caller.procs 1) }
-    ensures space { IfOk result (λ caller. is_live caller.spaces (process_at caller.procs 1).space ≡ true) }
-    ensures room { IfOk result (λ caller. next_space caller.spaces ≡ 2) }
-{
-    let mut spaces = Spaces::new(alloc);
-    let space = spaces.make(alloc)?;
-    let mut procs = Procs::new(alloc);
-    procs.start(ProcRow {
-        traced: false,
-        binary: Text::new(alloc),
-        ids: Ids::of(7, 7),
-        cwd: AbsName::root(alloc),
-        space,
-    })?;
-    Ok(Caller { procs, spaces })
-}
-
-// A call, a name, a place in memory and a count, and what the call gives and puts at the place's first bytes.
-#[test]
-fn looks_are_put_into_memory(rt: HostRuntime) -> Result<(), Fail> {
-    let cases: [(SysCall, &[u8], [u64; 2], CallResult, &[u8]); 4] = [
-        (SysCall::Stat, b"/d/f", [4, 0], Failed(Errno::EFAULT), b""),
-        (SysCall::Stat, b"/d/f", [65_496, 0], Value(0), b"\x02"),
-        (SysCall::Readlink, b"/d/l", [3, 2], Value(2), b"/d"),
-        (SysCall::Readlink, b"/d/l", [65_532, 4], Value(4), b"/d/f"),
-    ];
-    let alloc = rt.alloc();
-    let tree = files(alloc)?;
-    for (call, name, regs, wanted, bytes) in cases {
-        let Caller { procs, mut spaces } = start_caller(alloc)?;
-        let args = [argument(alloc, 0, name)?];
-        let request = request_of(7, &args, regs);
-        let outcome = match call {
-            SysCall::Readlink => readlink(&tree, &procs, &mut spaces, alloc, &request)?,
-            _ => stat(&tree, &procs, &mut spaces, alloc, &request)?,
-        };
-        assert_eq!(rt; outcome.result, wanted);
-        let space = procs.space(1);
-        let put = spaces.bytes(alloc, space, regs[0], bytes.len() as u64)?;
-        assert_eq!(rt; put.bytes(), bytes);
-    }
-    Ok(())
-}
-
-#[test]
-fn a_directory_is_entered(rt: HostRuntime) -> Result<(), Fail> {
-    let alloc = rt.alloc();
-    let tree = files(alloc)?;
-    let mut caller = start_caller(alloc)?;
-    let args = [argument(alloc, 0, b"/d/q")?];
-    let request = request_of(7, &args, [0, 0]);
-    let outcome = chdir(&tree, &mut caller.procs, alloc, &request)?;
-    assert_eq!(rt; outcome.result, Value(0));
-    assert_eq!(rt;
-        caller.procs.cwd(1).print(alloc)?.bytes(),
-        b"/d/q".as_slice()
-    );
-    Ok(())
-}
-
-// A name, and what user 7 gets who executes it. The policy is then the binary's, where there is one.
-#[test]
-fn binaries_are_executed(rt: HostRuntime) -> Result<(), Fail> {
-    let cases: [(&[u8], CallResult); 5] = [
-        (b"/x", Failed(Errno::ENOENT)),
-        (b"/d/q", Failed(Errno::EACCES)),
-        (b"/d/f", Failed(Errno::EACCES)),
-        (b"/n", Failed(Errno::ENOEXEC)),
-        (b"/b", Value(0)),
-    ];
-    let alloc = rt.alloc();
-    let mut tree = files(alloc)?;
-    let binary = NewKind::File(Text::of(alloc, b"#!")?);
-    add(&mut tree, alloc, b"/b", binary, 0, 0o755)?;
-    let empty = NewKind::File(Text::new(alloc));
-    add(&mut tree, alloc, b"/n", empty, 0, 0o755)?;
-    for (name, wanted) in cases {
-        let Caller {
-            mut procs,
-            mut spaces,
-        } = start_caller(alloc)?;
-        let args = [argument(alloc, 0, name)?];
-        let request = request_of(7, &args, [0, 0]);
-        let outcome = execve(&tree, &mut procs, &mut spaces, alloc, &request)?;
-        assert_eq!(rt; outcome.result, wanted);
-        let policy: &[u8] = if wanted == Value(0) { name } else { b"" };
-        assert_eq!(rt; procs.policy(1).bytes(), policy);
     }
     Ok(())
 }

@@ -19,7 +19,7 @@ use Rattle.st_effects.specs.Processes.{execve_outcome, policy_changes}
 use Rattle.st_effects.specs.System.{Outcome, Request, System, success, unless_error}
 use Rattle.st_trace.specs.declared.entry.Change.{Change}
 use Rattle.st_trace.specs.declared.entry.Change.TheVariants.{Execed}
-use Rattle.st_exec_names.specs.Execution.{spaces_after}
+use Rattle.st_exec_objects.specs.Execution.{spaces_after}
 use Rattle.st_request.specs.Outcome.{outcome_of, with_descriptors, with_memories, with_processes, with_tree}
 use Rattle.st_request.specs.Processes.{AreProcessesAfter}
 use Rattle.st_request.specs.declared.outcome.Outcome as outcomes

@@ -13,7 +13,7 @@ use Rattle.st_procs.specs.Laws.{AreOrdered}
 use Rattle.st_effects.specs.Changes.{memory_after}
 use Rattle.st_effects.specs.Processes.{execve_outcome}
 use Rattle.st_effects.specs.System.{Request, System, arg_name_at}
-use Rattle.st_exec_names.specs.Execution.{spaces_after}
+use Rattle.st_exec_objects.specs.Execution.{spaces_after}
 use Rattle.st_exec_sys.specs.Execution.{Allows, CanCall, IsExecuted}
 use Rattle.st_request.specs.Outcome.{outcome_of, with_memories, with_tree}
 use Rattle.st_request.specs.Processes.{AreProcessesAfter}

@@ -19,7 +19,7 @@ use Rattle.st_model.specs.declared.object.Kind.{Kind}
 use Rattle.st_model.specs.declared.object.Kind.TheVariants as object_kind
 use Rattle.st_tree.specs.Refusals.{IsMade}
 use Rattle.st_effects.specs.Names.{is_link}
-use Rattle.st_exec_names.proofs.Objects.{numbered}
+use Rattle.st_exec_objects.proofs.Objects.{numbered}
 use Rattle.st_exec_fs.specs.Open.{IsNoLink}
 use Rattle.st_law.specs.Arguments.{first_of_two, is_link_at, is_link_node, link_along, link_among, link_met, link_on_way}
 use Rattle.st_system.specs.Fit.{first_name}

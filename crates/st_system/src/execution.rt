@@ -12,7 +12,7 @@ ghost use Rattle.st_system.specs.Steps.{CanMake, IsDone, IsOnProcesses};
 use crate::System;
 use st_calls::SysCall;
 use st_exec_fs::execute_fs;
-use st_exec_names::execve;
+use st_exec_objects::execve;
 use st_exec_sys::execute_sys;
 use st_request::{Outcome, Request};
 use std::alloc::{AllocError, Global};

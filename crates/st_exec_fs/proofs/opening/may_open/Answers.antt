@@ -7,11 +7,11 @@ use Rattle.st_effects.specs.System as effects
 use Rattle.st_tree.specs.Refusals.{IsMade}
 use Rattle.st_exec_fs.specs.Open.{CanOpen}
 use Rattle.st_request.specs.Outcome.{with_descriptors, with_tree}
-use Rattle.st_exec_names.specs.Walking.{object_made}
+use Rattle.st_exec_objects.specs.Walking.{object_made}
 use Rattle.st_exec_fs.proofs.Opens.{found_at, no_link_at, not_opened, opened, passed}
 use Rattle.st_model.specs.declared.limits.TheConstants.{MOST_OBJECTS}
 use Rattle.st_exec_names.proofs.Allowed.{addable, place_free}
-use Rattle.st_exec_names.proofs.Objects.{found_made}
+use Rattle.st_exec_objects.proofs.Objects.{found_made}
 use Rattle.st_exec_fs.proofs.opening.may_open.Goals as goal
 
 pub returns-in_err-may_open_object-in-Some-clause-outcome : goal.returns-in_err-may_open_object-in-Some-clause-outcome

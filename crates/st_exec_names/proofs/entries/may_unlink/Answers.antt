@@ -1,6 +1,6 @@
 use Rattle.std.proofs.Common.{◌∙◌, sym}
 use Rattle.st_exec_names.proofs.Allowed.{plain_named, removable}
-use Rattle.st_exec_names.proofs.Objects.{found_made}
+use Rattle.st_exec_objects.proofs.Objects.{found_made}
 use Rattle.st_exec_names.proofs.entries.may_unlink.Goals as goal
 
 pub returns-clause-may : goal.returns-clause-may

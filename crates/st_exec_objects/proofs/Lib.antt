@@ -1,0 +1,4 @@
+pub mod Executing
+pub mod Objects
+pub mod Resolutions
+pub mod Walks
