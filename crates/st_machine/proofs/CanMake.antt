@@ -6,6 +6,7 @@ use Rattle.st_base.specs.Numbered.{item_at_number}
 use Rattle.st_calls.specs.declared.call.SysCall.{SysCall}
 use Rattle.st_calls.specs.declared.call.SysCall.TheVariants.{Fork, Execve, SetUid, SetEuid, SetGid, SetEgid}
 use Rattle.st_effects.specs.System as effects
+use Rattle.st_law.specs.declared.input.Input.{Input}
 use Rattle.st_law.specs.Lawful.{IsUsed}
 use Rattle.st_law.specs.Machine.{state_of_run}
 use Rattle.st_law.specs.Processes.{process_count}
@@ -20,19 +21,21 @@ use Rattle.st_reached.proofs.Starting.{forks_start_new}
 use Rattle.st_model.specs.Process.{Process}
 use Rattle.st_system.specs.Fit.{AreFit}
 use Rattle.st_system.specs.Steps.{CanMake}
+use Rattle.st_system.specs.System.{IsSystem}
 use Rattle.st_trace.specs.declared.entry.Way.{Way}
 use Rattle.st_trace.specs.declared.entry.Way.TheVariants.{Held}
-use Rattle.st_machine.specs.Machine.{IsMachine, IsNext, Running}
+use Rattle.st_machine.specs.Machine.{IsMachine, IsNext, IsRunning, Running}
 use Rattle.st_machine.specs.Making.{child_of_row, request_with}
 use Rattle.st_machine.specs.NextSteps.{IsFit}
 use Rattle.st_machine.specs.Thread.{ThreadRow}
 use Rattle.st_machine.specs.declared.step.Step.TheVariants as steps
 use Rattle.st_machine.specs.declared.step.Use.{Use}
 use Rattle.st_machine.proofs.MadeSteps.{now, used}
+use Rattle.st_machine.proofs.Moving.{row_making}
 use Rattle.st_machine.proofs.NextSteps.{owner_is, row_of}
 
 -- whether a thread hasn't started is said alike
-pub unstarted : (o : Option ℕ) (owner : ℕ) (started : Bool) → started ≡ is_some o → started ≡ not (owner == 0) → owner ≡ 0 → o ≡ None
+unstarted : (o : Option ℕ) (owner : ℕ) (started : Bool) → started ≡ is_some o → started ≡ not (owner == 0) → owner ≡ 0 → o ≡ None
 unstarted None owner started here law none = refl
 unstarted (Some pid) owner started here law none = let clash : not (owner == 0) ≡ true = sym law ∙ here in let zero = ap (λ (n : ℕ). not (n == 0)) none in cc
 
@@ -78,7 +81,7 @@ module _ (m : Running) (st : State) (is : IsMachine m st) (t pid : ℕ) (made : 
       ∙ ap (λ (p : ℕ). (st.processes p).ids) (owner_is m st is t pid process) ∙ ap (λ (p : Process). p.ids) (is.system.processes pid)
 
   -- what each call needs
-  pub can_make : IsFit m.system made → ((st.threads (child_of_row (item_at_number m.threads t))).owner ≡ 0 → pid_of m.system.processes (child_of_row (item_at_number m.threads t)) ≡ None)
+  can_make : IsFit m.system made → ((st.threads (child_of_row (item_at_number m.threads t))).owner ≡ 0 → pid_of m.system.processes (child_of_row (item_at_number m.threads t)) ≡ None)
       → CanMake made.call m.system (request_with m t pid made)
   can_make fit new = by made.call refl fit.fit where
     by : (call : SysCall) → made.call ≡ call → AreFit call made.args → CanMake call m.system (request_with m t pid made)
@@ -97,3 +100,18 @@ module _ (m : Running) (st : State) (is : IsMachine m st) (t pid : ℕ) (made : 
     by SetGid e x = own_ids (ap schedules.sets_ids e)
     by SetEgid e x = own_ids (ap schedules.sets_ids e)
     by _ e x = x
+
+-- the same by what is seen of the machine, where it is known whether the thread that it starts has started
+pub can_use : (m seen : Running) → m ≡ seen → IsRunning m → (t pid : ℕ) (made : Use) → IsNext seen t (steps.Make made) → IsFit seen.system made → pid_of seen.system.processes t ≡ Some pid
+    → (child : ℕ) → child ≡ child_of_row (item_at_number seen.threads t) → (started : Bool) → started ≡ is_some (pid_of m.system.processes child)
+    → ((i : Input) (st : State) → IsSystem i st m.system → started ≡ not ((st.threads child).owner == 0)) → CanMake made.call seen.system (request_with seen t pid made)
+can_use m seen same running t pid made next fit process child child_seen started here law =
+    let st = running.state in
+    let next_here = subst (λ (k : Running). IsNext k t (steps.Make made)) (sym same) next in
+    let child_is : child ≡ child_of_row (item_at_number m.threads t) = child_seen ∙ ap (λ (k : Running). child_of_row (item_at_number k.threads t)) (sym same) in
+    let row = row_making m running t made next_here in
+    let new = λ (none : (st.threads (child_of_row (item_at_number m.threads t))).owner ≡ 0).
+    subst (λ (n : ℕ). pid_of m.system.processes n ≡ None) child_is
+    (unstarted (pid_of m.system.processes child) (st.threads child).owner started here (law m.input st running.is.system) (ap (λ (n : ℕ). (st.threads n).owner) child_is ∙ none)) in
+    subst (λ (k : Running). CanMake made.call k.system (request_with k t pid made)) same
+    (can_make m st running.is t pid made next_here (ap (λ (k : Running). pid_of k.system.processes t) same ∙ process) row.0 row.1 (subst (λ (k : Running). IsFit k.system made) (sym same) fit) new)

@@ -23,7 +23,7 @@ use Rattle.st_workers.specs.Kept.{IsKept}
 use Rattle.st_workers.specs.UnderWay.{UnderWay}
 use Rattle.st_workers.proofs.Ended.{lives_as}
 use Rattle.st_workers.proofs.Turns.{item_put, number_within}
-use Rattle.st_machine.specs.Ending.{AreHeld, EndsCall, HasNumber, HaveCalls, HaveEnded, IsNumberOf, is_end_of, is_ended_by, is_head_among, life_but, life_without_number, row_doomed}
+use Rattle.st_machine.specs.Ending.{AreHeld, EndsCall, HasNumber, HaveCalls, HaveEnded, IsNumberOf, is_end_of, is_ended_by, is_head_among, life_but, life_without_number, row_dying_if}
 use Rattle.st_machine.specs.Machine.{IsMachine, Running}
 use Rattle.st_machine.specs.Thread.{ThreadRow, IsRow, number_held}
 use Rattle.st_machine.proofs.Moving.{row_there}
@@ -112,35 +112,35 @@ module _ (st : State) (alive : ℕ → Bool) (rows : List ThreadRow) (are : AreH
 
 -- ---- threads that have nothing left but to end
 
-spared : (o : Option ThreadRow) (q : ℕ) → HasNumber o q → HasNumber (option_map (λ (row : ThreadRow). row_doomed false row) o) q
+spared : (o : Option ThreadRow) (q : ℕ) → HasNumber o q → HasNumber (option_map (λ (row : ThreadRow). row_dying_if false row) o) q
 spared None q x = x
 spared (Some row) q x = x
 
-module _ (doomed : ℕ → Bool) (rows new : List ThreadRow) (each : (t : ℕ) → item_at_number new t ≡ option_map (λ (row : ThreadRow). row_doomed (doomed t) row) (item_at_number rows t)) (st : State) (alive : ℕ → Bool) (are : AreHeld st alive rows) where
-  doomed_own : (q : ℕ) (head : Head) → life_but doomed st alive q ≡ true → (st.messages q).head ≡ Some head → HasNumber (item_at_number new head.tid) q
-  doomed_own q head life posted =
-      let parts = not_dead (is_head_among doomed (st.messages q).head) (alive q) life in
-      let goes : doomed head.tid ≡ false = ap (is_head_among doomed) (sym posted) ∙ parts.0 in
-      subst (λ (o : Option ThreadRow). HasNumber o q) (sym (each head.tid ∙ ap (λ (b : Bool). option_map (λ (row : ThreadRow). row_doomed b row) (item_at_number rows head.tid)) goes))
+module _ (dies : ℕ → Bool) (rows new : List ThreadRow) (each : (t : ℕ) → item_at_number new t ≡ option_map (λ (row : ThreadRow). row_dying_if (dies t) row) (item_at_number rows t)) (st : State) (alive : ℕ → Bool) (are : AreHeld st alive rows) where
+  left_own : (q : ℕ) (head : Head) → life_but dies st alive q ≡ true → (st.messages q).head ≡ Some head → HasNumber (item_at_number new head.tid) q
+  left_own q head life posted =
+      let parts = not_dead (is_head_among dies (st.messages q).head) (alive q) life in
+      let goes : dies head.tid ≡ false = ap (is_head_among dies) (sym posted) ∙ parts.0 in
+      subst (λ (o : Option ThreadRow). HasNumber o q) (sym (each head.tid ∙ ap (λ (b : Bool). option_map (λ (row : ThreadRow). row_dying_if b row) (item_at_number rows head.tid)) goes))
       (spared (item_at_number rows head.tid) q (are.own q head parts.1 posted))
 
-  doomed_lives : (t : ℕ) (other : ThreadRow) (q : ℕ) → item_at_number new t ≡ Some other → number_held other ≡ Some q → IsNumberOf st (life_but doomed st alive) t q
-  doomed_lives t other q there e = by (item_at_number rows t) refl (doomed t) refl (sym (each t) ∙ there) where
-    by : (o : Option ThreadRow) → item_at_number rows t ≡ o → (b : Bool) → doomed t ≡ b → option_map (λ (row : ThreadRow). row_doomed b row) o ≡ Some other → IsNumberOf st (life_but doomed st alive) t q
+  left_lives : (t : ℕ) (other : ThreadRow) (q : ℕ) → item_at_number new t ≡ Some other → number_held other ≡ Some q → IsNumberOf st (life_but dies st alive) t q
+  left_lives t other q there e = by (item_at_number rows t) refl (dies t) refl (sym (each t) ∙ there) where
+    by : (o : Option ThreadRow) → item_at_number rows t ≡ o → (b : Bool) → dies t ≡ b → option_map (λ (row : ThreadRow). row_dying_if b row) o ≡ Some other → IsNumberOf st (life_but dies st alive) t q
     by None row_is b goes x = absurd (none-some other x)
     by (Some row) row_is true goes x = absurd (none-some q (ap number_held (same_Some (record row { dying = true }) other x) ∙ e))
     by (Some row) row_is false goes x =
         let was : IsNumberOf st alive t q = are.lives t row q row_is (ap number_held (same_Some row other x) ∙ e) in
         record {
-          lives = (λ k. cond ((ap (is_head_among doomed) was.posted ∙ ap doomed was.tid_is ∙ goes) k) false (was.lives k));
+          lives = (λ k. cond ((ap (is_head_among dies) was.posted ∙ ap dies was.tid_is ∙ goes) k) false (was.lives k));
           head = was.head;
           posted = was.posted;
           tid_is = was.tid_is;
         }
 
   -- each live number is still held where threads have ended with theirs
-  pub doomed_held : AreHeld st (life_but doomed st alive) new
-  doomed_held = record { own = doomed_own; lives = doomed_lives }
+  pub left_held : AreHeld st (life_but dies st alive) new
+  left_held = record { own = left_own; lives = left_lives }
 
 -- ---- one after the other
 
@@ -148,7 +148,7 @@ none_among : (o : Option Head) → is_head_among (λ t. false) o ≡ false
 none_among None = refl
 none_among (Some head) = refl
 
-all_spared : (o : Option ThreadRow) → o ≡ option_map (λ (row : ThreadRow). row_doomed false row) o
+all_spared : (o : Option ThreadRow) → o ≡ option_map (λ (row : ThreadRow). row_dying_if false row) o
 all_spared None = refl
 all_spared (Some row) = refl
 
@@ -160,11 +160,11 @@ none_ended rows workers = record {
   kept = λ i st alive kept are. subst (λ (live : ℕ → Bool). IsKept i st live workers) (λ k other. cond (sym (none_among (st.messages other).head) k) false (alive other)) kept;
 }
 
-both_doomed : (a b : Bool) (o : Option ThreadRow) → option_map (λ (row : ThreadRow). row_doomed b row) (option_map (λ (row : ThreadRow). row_doomed a row) o) ≡ option_map (λ (row : ThreadRow). row_doomed (a || b) row) o
-both_doomed a b None = refl
-both_doomed true true (Some row) = refl
-both_doomed true false (Some row) = refl
-both_doomed false b (Some row) = refl
+both_die : (a b : Bool) (o : Option ThreadRow) → option_map (λ (row : ThreadRow). row_dying_if b row) (option_map (λ (row : ThreadRow). row_dying_if a row) o) ≡ option_map (λ (row : ThreadRow). row_dying_if (a || b) row) o
+both_die a b None = refl
+both_die true true (Some row) = refl
+both_die true false (Some row) = refl
+both_die false b (Some row) = refl
 
 both_among : (a b : ℕ → Bool) (o : Option Head) (alive : Bool) → cond (is_head_among b o) false (cond (is_head_among a o) false alive) ≡ cond (is_head_among (λ t. a t || b t) o) false alive
 both_among a b None alive = refl
@@ -179,27 +179,27 @@ pub both_ended : (a b : ℕ → Bool) (rows : List ThreadRow) (workers : UnderWa
     → HaveEnded a rows workers mid between → HaveEnded b mid between new left → HaveEnded (λ t. a t || b t) rows workers new left
 both_ended a b rows workers mid between new left first second = record {
   count = second.count ∙ first.count;
-  rows = λ t. second.rows t ∙ ap (option_map (λ (row : ThreadRow). row_doomed (b t) row)) (first.rows t) ∙ both_doomed (a t) (b t) (item_at_number rows t);
+  rows = λ t. second.rows t ∙ ap (option_map (λ (row : ThreadRow). row_dying_if (b t) row)) (first.rows t) ∙ both_die (a t) (b t) (item_at_number rows t);
   kept = λ i st alive kept are. subst (λ (live : ℕ → Bool). IsKept i st live left) (λ k other. both_among a b (st.messages other).head (alive other) k)
-      (second.kept i st (life_but a st alive) (first.kept i st alive kept are) (doomed_held a rows mid first.rows st alive are));
+      (second.kept i st (life_but a st alive) (first.kept i st alive kept are) (left_held a rows mid first.rows st alive are));
 }
 
 -- the same threads end, by another test
 pub ended_as : (a b : ℕ → Bool) → ((t : ℕ) → a t ≡ b t) → (rows : List ThreadRow) (workers : UnderWay) (new : List ThreadRow) (left : UnderWay) → HaveEnded a rows workers new left → HaveEnded b rows workers new left
-ended_as a b same rows workers new left x = subst (λ (doomed : ℕ → Bool). HaveEnded doomed rows workers new left) (λ k t. same t k) x
+ended_as a b same rows workers new left x = subst (λ (dies : ℕ → Bool). HaveEnded dies rows workers new left) (λ k t. same t k) x
 
 -- ---- one thread
 
 module _ (rows : List ThreadRow) (workers left : UnderWay) (u : ℕ) (row : ThreadRow) (row_is : item_at_number rows u ≡ Some row) (ends : EndsCall (number_held row) workers left) where
-  one_row : (t : ℕ) → item_at_number (set rows (u - 1) (record row { dying = true })) t ≡ option_map (λ (each : ThreadRow). row_doomed (t == u) each) (item_at_number rows t)
+  one_row : (t : ℕ) → item_at_number (set rows (u - 1) (record row { dying = true })) t ≡ option_map (λ (each : ThreadRow). row_dying_if (t == u) each) (item_at_number rows t)
   one_row t =
       let within = number_within rows u row row_is in
       let put = item_put rows u (record row { dying = true }) within.0 within.1 t in
       elim (cases_eq t u) [
         | inl e ↦ put ∙ ap (λ (b : Bool). cond b (Some (record row { dying = true })) (item_at_number rows t)) (eq-eqb t u e)
-            ∙ sym ((λ k. option_map (λ (each : ThreadRow). row_doomed (eq-eqb t u e k) each) ((ap (item_at_number rows) e ∙ row_is) k)))
+            ∙ sym ((λ k. option_map (λ (each : ThreadRow). row_dying_if (eq-eqb t u e k) each) ((ap (item_at_number rows) e ∙ row_is) k)))
         | inr ne ↦ put ∙ ap (λ (b : Bool). cond b (Some (record row { dying = true })) (item_at_number rows t)) (ne_eqb t u ne)
-            ∙ all_spared (item_at_number rows t) ∙ ap (λ (b : Bool). option_map (λ (each : ThreadRow). row_doomed b each) (item_at_number rows t)) (sym (ne_eqb t u ne))
+            ∙ all_spared (item_at_number rows t) ∙ ap (λ (b : Bool). option_map (λ (each : ThreadRow). row_dying_if b each) (item_at_number rows t)) (sym (ne_eqb t u ne))
       ]
 
   module _ (st : State) (alive : ℕ → Bool) (are : AreHeld st alive rows) (other : ℕ) where
@@ -242,9 +242,9 @@ ended_where a b rows same workers new left x = record {
   rows = λ t. x.rows t ∙ by_row t (item_at_number rows t) refl;
   kept = λ i st alive kept are. subst (λ (live : ℕ → Bool). IsKept i st live left) (λ k other. lives st alive are other (alive other) refl k) (x.kept i st alive kept are);
 } where
-  by_row : (t : ℕ) (o : Option ThreadRow) → item_at_number rows t ≡ o → option_map (λ (row : ThreadRow). row_doomed (a t) row) o ≡ option_map (λ (row : ThreadRow). row_doomed (b t) row) o
+  by_row : (t : ℕ) (o : Option ThreadRow) → item_at_number rows t ≡ o → option_map (λ (row : ThreadRow). row_dying_if (a t) row) o ≡ option_map (λ (row : ThreadRow). row_dying_if (b t) row) o
   by_row t None e = refl
-  by_row t (Some row) e = ap (λ (doomed : Bool). Some (row_doomed doomed row)) (same t row e)
+  by_row t (Some row) e = ap (λ (dies : Bool). Some (row_dying_if dies row)) (same t row e)
 
   dead : (x y : Bool) → cond x false false ≡ cond y false false
   dead true true = refl
@@ -270,8 +270,8 @@ above_zero rows zero row e d = absurd (none-some row e)
 above_zero rows (suc k) row e d = ap (λ (b : Bool). b && d) (sym (leb-suc-zero k))
 
 -- at first none of them has ended
-pub none_so_far : (doomed : ℕ → Bool) (rows : List ThreadRow) (workers : UnderWay) → HaveEnded (λ t. nat_le t 0 && doomed t) rows workers rows workers
-none_so_far doomed rows workers = ended_where (λ t. false) (λ t. nat_le t 0 && doomed t) rows (λ t row e. above_zero rows t row e (doomed t)) workers rows workers (none_ended rows workers)
+pub none_so_far : (dies : ℕ → Bool) (rows : List ThreadRow) (workers : UnderWay) → HaveEnded (λ t. nat_le t 0 && dies t) rows workers rows workers
+none_so_far dies rows workers = ended_where (λ t. false) (λ t. nat_le t 0 && dies t) rows (λ t row e. above_zero rows t row e (dies t)) workers rows workers (none_ended rows workers)
 
 le_apart : (t n : ℕ) → t ≢ suc n → nat_le t n ≡ nat_le t (n + 1)
 le_apart t n ne = elim (leb_tells t n) [
@@ -290,62 +290,62 @@ or_false : (b : Bool) → (b || false) ≡ b
 or_false true = refl
 or_false false = refl
 
-one_more : (n t : ℕ) (doomed : ℕ → Bool) → doomed (suc n) ≡ true → ((nat_le t n && doomed t) || (t == suc n)) ≡ (nat_le t (n + 1) && doomed t)
-one_more n t doomed goes = elim (cases_eq t (suc n)) [
-  | inl e ↦ ap (λ (b : Bool). (nat_le t n && doomed t) || b) (eq-eqb t (suc n) e) ∙ or_true (nat_le t n && doomed t)
-      ∙ sym (ap (λ (b : Bool). b && doomed t) (le-leb t (n + 1) (omega (arith, e))) ∙ ap doomed e ∙ goes)
-  | inr ne ↦ ap (λ (b : Bool). (nat_le t n && doomed t) || b) (ne_eqb t (suc n) ne) ∙ or_false (nat_le t n && doomed t) ∙ ap (λ (b : Bool). b && doomed t) (le_apart t n ne)
+one_more : (n t : ℕ) (dies : ℕ → Bool) → dies (suc n) ≡ true → ((nat_le t n && dies t) || (t == suc n)) ≡ (nat_le t (n + 1) && dies t)
+one_more n t dies goes = elim (cases_eq t (suc n)) [
+  | inl e ↦ ap (λ (b : Bool). (nat_le t n && dies t) || b) (eq-eqb t (suc n) e) ∙ or_true (nat_le t n && dies t)
+      ∙ sym (ap (λ (b : Bool). b && dies t) (le-leb t (n + 1) (omega (arith, e))) ∙ ap dies e ∙ goes)
+  | inr ne ↦ ap (λ (b : Bool). (nat_le t n && dies t) || b) (ne_eqb t (suc n) ne) ∙ or_false (nat_le t n && dies t) ∙ ap (λ (b : Bool). b && dies t) (le_apart t n ne)
 ]
 
 and_false : (b : Bool) → (b && false) ≡ false
 and_false true = refl
 and_false false = refl
 
-no_more : (n t : ℕ) (doomed : ℕ → Bool) → doomed (suc n) ≡ false → (nat_le t n && doomed t) ≡ (nat_le t (n + 1) && doomed t)
-no_more n t doomed stays = elim (cases_eq t (suc n)) [
-  | inl e ↦ ap (λ (b : Bool). nat_le t n && b) (ap doomed e ∙ stays) ∙ and_false (nat_le t n) ∙ sym (ap (λ (b : Bool). nat_le t (n + 1) && b) (ap doomed e ∙ stays) ∙ and_false (nat_le t (n + 1)))
-  | inr ne ↦ ap (λ (b : Bool). b && doomed t) (le_apart t n ne)
+no_more : (n t : ℕ) (dies : ℕ → Bool) → dies (suc n) ≡ false → (nat_le t n && dies t) ≡ (nat_le t (n + 1) && dies t)
+no_more n t dies stays = elim (cases_eq t (suc n)) [
+  | inl e ↦ ap (λ (b : Bool). nat_le t n && b) (ap dies e ∙ stays) ∙ and_false (nat_le t n) ∙ sym (ap (λ (b : Bool). nat_le t (n + 1) && b) (ap dies e ∙ stays) ∙ and_false (nat_le t (n + 1)))
+  | inr ne ↦ ap (λ (b : Bool). b && dies t) (le_apart t n ne)
 ]
 
-module _ (doomed : ℕ → Bool) (rows : List ThreadRow) (workers : UnderWay) (now : List ThreadRow) (between : UnderWay) (n : ℕ) (so_far : HaveEnded (λ t. nat_le t n && doomed t) rows workers now between) where
+module _ (dies : ℕ → Bool) (rows : List ThreadRow) (workers : UnderWay) (now : List ThreadRow) (between : UnderWay) (n : ℕ) (so_far : HaveEnded (λ t. nat_le t n && dies t) rows workers now between) where
   -- the next thread ends too
-  pub next_ended : doomed (suc n) ≡ true → (row : ThreadRow) → item_at_number now (suc n) ≡ Some row → (left : UnderWay) → EndsCall (number_held row) between left
-      → HaveEnded (λ t. nat_le t (n + 1) && doomed t) rows workers (set now n (record row { dying = true })) left
+  pub next_ended : dies (suc n) ≡ true → (row : ThreadRow) → item_at_number now (suc n) ≡ Some row → (left : UnderWay) → EndsCall (number_held row) between left
+      → HaveEnded (λ t. nat_le t (n + 1) && dies t) rows workers (set now n (record row { dying = true })) left
   next_ended goes row row_is left ends =
       let here : suc n - 1 ≡ n = omega arith in
-      subst (λ (k : ℕ). HaveEnded (λ t. nat_le t (n + 1) && doomed t) rows workers (set now k (record row { dying = true })) left) here
-      (ended_as (λ t. (nat_le t n && doomed t) || (t == suc n)) (λ t. nat_le t (n + 1) && doomed t) (λ t. one_more n t doomed goes) rows workers (set now (suc n - 1) (record row { dying = true })) left
-      (both_ended (λ t. nat_le t n && doomed t) (λ t. t == suc n) rows workers now between (set now (suc n - 1) (record row { dying = true })) left so_far (one_ended now between left (suc n) row row_is ends)))
+      subst (λ (k : ℕ). HaveEnded (λ t. nat_le t (n + 1) && dies t) rows workers (set now k (record row { dying = true })) left) here
+      (ended_as (λ t. (nat_le t n && dies t) || (t == suc n)) (λ t. nat_le t (n + 1) && dies t) (λ t. one_more n t dies goes) rows workers (set now (suc n - 1) (record row { dying = true })) left
+      (both_ended (λ t. nat_le t n && dies t) (λ t. t == suc n) rows workers now between (set now (suc n - 1) (record row { dying = true })) left so_far (one_ended now between left (suc n) row row_is ends)))
 
   -- or goes on
-  pub next_spared : doomed (suc n) ≡ false → HaveEnded (λ t. nat_le t (n + 1) && doomed t) rows workers now between
-  next_spared stays = ended_as (λ t. nat_le t n && doomed t) (λ t. nat_le t (n + 1) && doomed t) (λ t. no_more n t doomed stays) rows workers now between so_far
+  pub next_spared : dies (suc n) ≡ false → HaveEnded (λ t. nat_le t (n + 1) && dies t) rows workers now between
+  next_spared stays = ended_as (λ t. nat_le t n && dies t) (λ t. nat_le t (n + 1) && dies t) (λ t. no_more n t dies stays) rows workers now between so_far
 
   -- its held call lives
   pub next_lives : HaveCalls rows workers → (row : ThreadRow) → item_at_number now (suc n) ≡ Some row → IfSome (number_held row) (λ q. calls.is_live between.calls q ≡ true)
   next_lives have row row_is = by (number_held row) refl where
-    held : AreHeld have.state (life_but (λ t. nat_le t n && doomed t) have.state have.alive) now
-    held = doomed_held (λ t. nat_le t n && doomed t) rows now so_far.rows have.state have.alive have.held
+    held : AreHeld have.state (life_but (λ t. nat_le t n && dies t) have.state have.alive) now
+    held = left_held (λ t. nat_le t n && dies t) rows now so_far.rows have.state have.alive have.held
 
     by : (o : Option ℕ) → number_held row ≡ o → IfSome o (λ q. calls.is_live between.calls q ≡ true)
     by None e = tt
-    by (Some q) e = lives_as have.input have.state (life_but (λ t. nat_le t n && doomed t) have.state have.alive) between q (so_far.kept have.input have.state have.alive have.kept have.held) ∙ (held.lives (suc n) row q row_is e).lives
+    by (Some q) e = lives_as have.input have.state (life_but (λ t. nat_le t n && dies t) have.state have.alive) between q (so_far.kept have.input have.state have.alive have.kept have.held) ∙ (held.lives (suc n) row q row_is e).lives
 
 -- at last all of them have ended
-pub all_ended : (doomed : ℕ → Bool) (rows : List ThreadRow) (workers : UnderWay) (new : List ThreadRow) (left : UnderWay) (n : ℕ) → length rows ≤ n → HaveEnded (λ t. nat_le t n && doomed t) rows workers new left → HaveEnded doomed rows workers new left
-all_ended doomed rows workers new left n high x = ended_where (λ t. nat_le t n && doomed t) doomed rows
-    (λ t row e. ap (λ (b : Bool). b && doomed t) (le-leb t n (let within = (number_within rows t row e).1 in omega (arith, within, high)))) workers new left x
+pub all_ended : (dies : ℕ → Bool) (rows : List ThreadRow) (workers : UnderWay) (new : List ThreadRow) (left : UnderWay) (n : ℕ) → length rows ≤ n → HaveEnded (λ t. nat_le t n && dies t) rows workers new left → HaveEnded dies rows workers new left
+all_ended dies rows workers new left n high x = ended_where (λ t. nat_le t n && dies t) dies rows
+    (λ t row e. ap (λ (b : Bool). b && dies t) (le-leb t n (let within = (number_within rows t row e).1 in omega (arith, within, high)))) workers new left x
 
 -- ---- what changes end
 
 -- the calls that are held still, where threads have ended with theirs
-pub calls_after : (doomed : ℕ → Bool) (rows : List ThreadRow) (workers : UnderWay) (new : List ThreadRow) (left : UnderWay) → HaveEnded doomed rows workers new left → HaveCalls rows workers → HaveCalls new left
-calls_after doomed rows workers new left ended have = record {
+pub calls_after : (dies : ℕ → Bool) (rows : List ThreadRow) (workers : UnderWay) (new : List ThreadRow) (left : UnderWay) → HaveEnded dies rows workers new left → HaveCalls rows workers → HaveCalls new left
+calls_after dies rows workers new left ended have = record {
   input = have.input;
   state = have.state;
-  alive = life_but doomed have.state have.alive;
+  alive = life_but dies have.state have.alive;
   kept = ended.kept have.input have.state have.alive have.kept have.held;
-  held = doomed_held doomed rows new ended.rows have.state have.alive have.held;
+  held = left_held dies rows new ended.rows have.state have.alive have.held;
 }
 
 -- a change that neither ends a process nor runs another binary ends no thread

@@ -72,11 +72,11 @@ module _ (processes : Processes) (t m : ℕ) where
   module _ (u p : ℕ) (own : owner_of processes u ≡ p) (there : u ≢ 0) where
     -- an end of a process
     killed : (pid : ℕ) → (pid == p) ≡ ends_with processes pid 0 u
-    killed pid = and_so (pid == p) ∙ (λ k. (pid == sym own k) && not (sym (ne_eqb u 0 there) k))
+    killed pid = and_so (pid == p) ∙ (λ k. eqb-sym pid (sym own k) k && not (sym (ne_eqb u 0 there) k))
 
     -- another binary
     replaced : (m == p && not (t == u)) ≡ ends_with processes m t u
-    replaced = λ k. (m == sym own k) && not (eqb-sym t u k)
+    replaced = λ k. eqb-sym m (sym own k) k && not (eqb-sym t u k)
 
     pub dying_when_calm : (changes : List Change) → Each IsCalm changes → (before : Bool) → dying_after u p t m before changes ≡ (before || ended changes u)
     dying_when_calm [] calm before = or_none before

@@ -45,7 +45,7 @@ use Rattle.st_workers.specs.UnderWay.{UnderWay}
 use Rattle.st_workers.proofs.Closing.{closing_is_not_kept}
 use Rattle.st_workers.proofs.Ended.{lives_as}
 use Rattle.st_workers.proofs.Turns.{item_put, number_within}
-use Rattle.st_machine.specs.Ending.{AreHeld, EndsCall, HasNumber, HaveCalls, HaveEnded, is_ended_by, is_head_among, life_but, life_without_number, owner_of, row_doomed}
+use Rattle.st_machine.specs.Ending.{AreHeld, EndsCall, HasNumber, HaveCalls, HaveEnded, is_ended_by, is_head_among, life_but, life_without_number, owner_of, row_dying_if}
 use Rattle.st_machine.specs.Machine.{IsMachine, IsNext, IsStep, Running}
 use Rattle.st_machine.specs.Making.{child_of_row, request_with}
 use Rattle.st_machine.specs.Thread.{ThreadRow, IsRow, IsRowOf, number_by_way, number_held, number_pending}
@@ -256,7 +256,7 @@ module _ (m : Running) (st : State) (is : IsMachine m st) (t pid : ℕ) (made : 
       never true = refl
       never false = refl
 
-      row_behind : (d : Bool) → ended u ≡ d → IsRow (row_doomed d r) (thread_after st entry u)
+      row_behind : (d : Bool) → ended u ≡ d → IsRow (row_dying_if d r) (thread_after st entry u)
       row_behind true e = record {
         left = left;
         pending = pending;
@@ -275,7 +275,7 @@ module _ (m : Running) (st : State) (is : IsMachine m st) (t pid : ℕ) (made : 
     not_none : (rows : List ThreadRow) (u : ℕ) (r : ThreadRow) → item_at_number rows u ≡ Some r → u ≢ 0
     not_none rows u r e none = let from = (number_within rows u r e).0 in omega (arith, from, none)
 
-    row_then : (u : ℕ) (o : Option ThreadRow) → item_at_number closed u ≡ o → IsRowOf (option_map (λ (r : ThreadRow). row_doomed (ended u) r) o) (thread_after st entry u)
+    row_then : (u : ℕ) (o : Option ThreadRow) → item_at_number closed u ≡ o → IsRowOf (option_map (λ (r : ThreadRow). row_dying_if (ended u) r) o) (thread_after st entry u)
     row_then u None e = tt
     row_then u (Some r) e =
         let within = number_within m.threads t row row_is in
@@ -284,7 +284,7 @@ module _ (m : Running) (st : State) (is : IsMachine m st) (t pid : ℕ) (made : 
         elim (cases_eq u t) [
           | inl same ↦
               let r_is : record row { pending = None } ≡ r = same_Some (record row { pending = None }) r (sym (at ∙ ap (λ (b : Bool). cond b (Some (record row { pending = None })) (item_at_number m.threads u)) (eq-eqb u t same)) ∙ e) in
-              subst (λ (r : ThreadRow). IsRow (row_doomed (ended u) r) (thread_after st entry u)) r_is
+              subst (λ (r : ThreadRow). IsRow (row_dying_if (ended u) r) (thread_after st entry u)) r_is
               (row_behind u (not_none closed u r e) (record row { pending = None }) (ap (λ (n : ℕ). (st.threads n).left) same ∙ its.left) (ap (λ (b : Bool). cond b None (st.threads u).pending) (eq-eqb t u (sym same)))
               (λ q has. absurd (none-some q (sym (none_closed row) ∙ has))) (ap (λ (n : ℕ). (st.threads n).dying) same ∙ its.dying) (ap (λ (n : ℕ). (st.threads n).ended) same ∙ its.ended) (ended u) refl)
           | inr ne ↦

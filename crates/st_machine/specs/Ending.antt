@@ -1,5 +1,5 @@
 -- How the held calls of threads end: their own as it is made or denied, and those of threads that have nothing left but to end.
-use Rattle.std.specs.Prelude.{◌≡◌, ℕ, Bool, true, false, ◌&&◌, ◌||◌, ◌==◌, not, if◌then◌else◌, List, [], ◌∷◌, length, Option, Some, None, IfSome, unwrap_or, option_map}
+use Rattle.std.specs.Prelude.{◌≡◌, ℕ, Bool, true, false, ◌&&◌, ◌||◌, ◌==◌, not, if◌then◌else◌, List, [], ◌∷◌, length, Option, Some, None, unwrap_or, option_map}
 use Rattle.st_base.specs.Numbered.{item_at_number}
 use Rattle.st_model.specs.Processes.{Processes, pid_of}
 use Rattle.st_model.specs.Tree.{is_number}
@@ -52,9 +52,9 @@ EndsCall seq old new = (i : Input) (st : State) (alive : ℕ → Bool) → IsKep
 -- ---- threads have nothing left but to end
 
 -- a thread that has nothing left but to end, or that goes on
-abbrev pub row_doomed : Bool → ThreadRow → ThreadRow
-row_doomed true row = record row { dying = true }
-row_doomed false row = row
+abbrev pub row_dying_if : Bool → ThreadRow → ThreadRow
+row_dying_if true row = record row { dying = true }
+row_dying_if false row = row
 
 -- the process of a thread, 0 before it starts
 abbrev pub owner_of : Processes → ℕ → ℕ
@@ -62,22 +62,22 @@ owner_of processes t = unwrap_or (pid_of processes t) 0
 
 -- whether a thread ends with a process; one is spared
 abbrev pub ends_with : Processes → ℕ → ℕ → ℕ → Bool
-ends_with processes pid spared t = pid == owner_of processes t && not (t == spared)
+ends_with processes pid spared t = owner_of processes t == pid && not (t == spared)
 
 -- whether the thread of a head is one of these
 abbrev pub is_head_among : (ℕ → Bool) → Option Head → Bool
-is_head_among doomed None = false
-is_head_among doomed (Some head) = doomed head.tid
+is_head_among dies None = false
+is_head_among dies (Some head) = dies head.tid
 
 -- which numbers live without those of these threads
 abbrev pub life_but : (ℕ → Bool) → State → (ℕ → Bool) → ℕ → Bool
-life_but doomed st alive other = if is_head_among doomed (st.messages other).head then false else alive other
+life_but dies st alive other = if is_head_among dies (st.messages other).head then false else alive other
 
 -- these threads have nothing left but to end, and their held calls have ended
-pub record HaveEnded (doomed : ℕ → Bool) (before : List ThreadRow) (workers : UnderWay) (new : List ThreadRow) (left : UnderWay) : Type 0 where
+pub record HaveEnded (dies : ℕ → Bool) (before : List ThreadRow) (workers : UnderWay) (new : List ThreadRow) (left : UnderWay) : Type 0 where
   pub count : length new ≡ length before
-  pub rows : (t : ℕ) → item_at_number new t ≡ option_map (λ row. row_doomed (doomed t) row) (item_at_number before t)
-  pub kept : (i : Input) (st : State) (alive : ℕ → Bool) → IsKept i st alive workers → AreHeld st alive before → IsKept i st (life_but doomed st alive) left
+  pub rows : (t : ℕ) → item_at_number new t ≡ option_map (λ row. row_dying_if (dies t) row) (item_at_number before t)
+  pub kept : (i : Input) (st : State) (alive : ℕ → Bool) → IsKept i st alive workers → AreHeld st alive before → IsKept i st (life_but dies st alive) left
 
 -- ---- what changes end
 
@@ -91,7 +91,3 @@ is_end_of processes caller pid t _ = false
 abbrev pub is_ended_by : Processes → ℕ → ℕ → List Change → ℕ → Bool
 is_ended_by processes caller pid [] t = false
 is_ended_by processes caller pid (change ∷ changes) t = is_end_of processes caller pid t change || is_ended_by processes caller pid changes t
-
--- a thread holds no call, if there is such a thread
-abbrev pub HoldsNone : List ThreadRow → ℕ → Type 0
-HoldsNone rows t = IfSome (item_at_number rows t) (λ row. number_held row ≡ None)

@@ -7,7 +7,7 @@ ghost use Rattle.st_machine.specs.declared.step.Step.TheVariants as steps;
 ghost use Rattle.st_trace.specs.declared.entry.Choice.TheVariants.{Thread};
 
 use crate::machine::Machine;
-use crate::step::Step;
+use crate::step::{Step, Use};
 use st_base::{Errno, Ids, Pid, Seq, Sequence, Tid};
 use st_calls::SysCall;
 use st_trace::{CallResult, Cause, Entry};
@@ -51,16 +51,14 @@ impl<'a> Machine<'a> {
         ensures input { self.new.input ≡ self.old.input }
     {
         self.threads[tid as usize - 1].close();
-        Entry::Used {
-            tid,
+        let failed = Use {
             seq: None,
             call,
             regs,
             args: Sequence::new(alloc),
             ids,
-            result: CallResult::Failed(errno),
-            changes: Sequence::new(alloc),
-        }
+        };
+        failed.entry(tid, CallResult::Failed(errno), Sequence::new(alloc))
     }
 
     // A thread's barred call is denied.

@@ -1,6 +1,6 @@
 // Held calls end with their threads.
 ghost use Rattle.std.specs.Prelude.{◌≡◌, ◌<◌, ◌^◌, true, length, IfSome};
-ghost use Rattle.st_machine.specs.Ending.{EndsCall, HaveCalls, HaveEnded, ends_with, is_end_of, is_ended_by, owner_of, row_doomed};
+ghost use Rattle.st_machine.specs.Ending.{EndsCall, HaveCalls, HaveEnded, ends_with, is_end_of, is_ended_by, owner_of, row_dying_if};
 ghost use Rattle.st_machine.specs.Thread.{number_held};
 ghost use Rattle.st_messages.specs.Messages.{is_live};
 
@@ -21,9 +21,9 @@ pub(crate) fn end_call(workers: &mut Workers, seq: Option<Seq>)
 }
 
 // A thread has nothing left but to end, and the call that it holds ends.
-fn doom(thread: &mut Thread<'_>, workers: &mut Workers)
+fn make_dying(thread: &mut Thread<'_>, workers: &mut Workers)
     requires { IfSome (number_held thread.old) (λ q. is_live workers.old.calls q ≡ true) }
-    ensures thread { thread.new ≡ row_doomed true thread.old }
+    ensures thread { thread.new ≡ row_dying_if true thread.old }
     ensures kept { EndsCall (number_held thread.old) workers.old workers.new }
 {
     end_call(workers, thread.number_held());
@@ -35,10 +35,10 @@ fn ends_with(system: &System, pid: Pid, spared: Tid, tid: Tid) -> bool
     ensures { result ≡ ends_with system.now.processes pid spared tid }
 {
     let owner = system.pid_of(tid).unwrap_or(0);
-    pid == owner && tid != spared
+    owner == pid && tid != spared
 }
 
-// The threads of a process have nothing left but to end; one is spared, which holds no call.
+// The threads of a process have nothing left but to end; one is spared.
 fn end_threads(
     threads: &mut [Thread<'_>],
     workers: &mut Workers,
@@ -52,7 +52,7 @@ fn end_threads(
 {
     for i in 0..threads.len() {
         if ends_with(system, pid, spared, i as Tid + 1) {
-            doom(&mut threads[i], workers);
+            make_dying(&mut threads[i], workers);
         }
     }
 }

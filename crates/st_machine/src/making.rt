@@ -89,23 +89,7 @@ impl<'a> Machine<'a> {
             pid,
             changes,
         );
-        let Use {
-            seq,
-            call,
-            regs,
-            args,
-            ids,
-        } = made;
-        Ok(Entry::Used {
-            tid,
-            seq,
-            call,
-            regs,
-            args,
-            ids,
-            result: outcome.result,
-            changes: outcome.changes,
-        })
+        Ok(made.entry(tid, outcome.result, outcome.changes))
     }
 
     // A thread's call is made, whichever it is. Without memory all is as good as before.

@@ -215,23 +215,7 @@ impl<'a> Machine<'a> {
             tid,
             plan.cwds,
         );
-        let Use {
-            seq,
-            call,
-            regs,
-            args,
-            ids,
-        } = made;
-        Ok(Entry::Used {
-            tid,
-            seq,
-            call,
-            regs,
-            args,
-            ids,
-            result: outcome.result,
-            changes: plan.changes,
-        })
+        Ok(made.entry(tid, outcome.result, plan.changes))
     }
 
     // A thread's call is made that is to set ids, which is refused. Without memory all is as good as before.
@@ -257,23 +241,7 @@ impl<'a> Machine<'a> {
         let outcome = self.system.execute(alloc, made.call, &request)?;
         self.threads[tid as usize - 1].close();
         end_call(&mut self.workers, made.seq);
-        let Use {
-            seq,
-            call,
-            regs,
-            args,
-            ids,
-        } = made;
-        Ok(Entry::Used {
-            tid,
-            seq,
-            call,
-            regs,
-            args,
-            ids,
-            result: outcome.result,
-            changes: Sequence::new(alloc),
-        })
+        Ok(made.entry(tid, outcome.result, Sequence::new(alloc)))
     }
 
     // A thread's call is made that sets ids, and each other held call of its process draws a new number, in the order of threads. Without

@@ -5,10 +5,11 @@ ghost use Rattle.st_law.specs.State.{State};
 ghost use Rattle.st_machine.specs.NextSteps.{CanBeDone};
 ghost use Rattle.st_machine.specs.Step.{step_entry};
 ghost use Rattle.st_system.specs.System.{Parts};
+ghost use Rattle.st_trace.specs.declared.entry.Entry.TheVariants.{Used};
 
-use st_base::{Errno, Ids, Seq, Sequence};
+use st_base::{Errno, Ids, Seq, Sequence, Tid};
 use st_calls::{ArgText, SysCall};
-use st_trace::{Cause, Instr};
+use st_trace::{CallResult, Cause, Change, Entry, Instr};
 
 /// What a thread does next.
 #[derive(Debug, Drop)]
@@ -52,6 +53,31 @@ pub struct Use {
     pub regs: [u64; 6],
     pub args: Sequence<ArgText>,
     pub ids: Ids,
+}
+
+impl Use {
+    // The entry that this adds, made by a thread with this result and these changes.
+    pub(crate) fn entry(self, tid: Tid, outcome: CallResult, changes: Sequence<Change>) -> Entry
+        ensures { result ≡ Used tid self.seq self.call self.regs self.args self.ids outcome changes }
+    {
+        let Use {
+            seq,
+            call,
+            regs,
+            args,
+            ids,
+        } = self;
+        Entry::Used {
+            tid,
+            seq,
+            call,
+            regs,
+            args,
+            ids,
+            result: outcome,
+            changes,
+        }
+    }
 }
 
 impl Step {

@@ -12,8 +12,8 @@ use Rattle.st_machine.proofs.ending.end_threads.Goals.{then-ends_with, else-ends
 pub loop-i-init : goal.loop-i-init
 loop-i-init c = none_so_far (ends_with c.args.system.now.processes c.args.pid c.args.spared) c.args.threads.now c.args.workers.now
 
-pub doom-requires : goal.doom-requires
-doom-requires c =
+pub make_dying-requires : goal.make_dying-requires
+make_dying-requires c =
     let end = subst (λ (n : ℕ). c.loop-i.i < n) (sym c.loop-i.invariant.count) c.loop-i-test.true in
     let here : slice_get c.loop-i.threads c.loop-i.i ≡ Some (slice_index_or c.loop-i.threads c.loop-i.i c.index-threads-i.result) = slice_get-get_or c.loop-i.threads c.loop-i.i c.index-threads-i.result end in
     next_lives (ends_with c.args.system.now.processes c.args.pid c.args.spared) c.args.threads.now c.args.workers.now c.loop-i.threads c.loop-i.workers c.loop-i.i c.loop-i.invariant c.requires.calls _ here
@@ -26,10 +26,10 @@ loop-i-preserved c = elim c.if-ends_with.branch [
       let row : ThreadRow = slice_index_or c.loop-i.threads c.loop-i.i w.index-threads-i.result in
       let here : slice_get c.loop-i.threads c.loop-i.i ≡ Some row = slice_get-get_or c.loop-i.threads c.loop-i.i w.index-threads-i.result end in
       subst (λ (rows : List ThreadRow). HaveEnded (λ t. nat_le t (c.loop-i.i + 1) && ends_with c.args.system.now.processes c.args.pid c.args.spared t) c.args.threads.now c.args.workers.now rows c.if-ends_with.workers)
-      (sym (w.threads-is ∙ ap (set c.loop-i.threads c.loop-i.i) w.doom.ensures.thread))
+      (sym (w.threads-is ∙ ap (set c.loop-i.threads c.loop-i.i) w.make_dying.ensures.thread))
       (subst (λ (left : UnderWay). HaveEnded (λ t. nat_le t (c.loop-i.i + 1) && ends_with c.args.system.now.processes c.args.pid c.args.spared t) c.args.threads.now c.args.workers.now (set c.loop-i.threads c.loop-i.i (record row { dying = true })) left) (sym w.workers-is)
       (next_ended (ends_with c.args.system.now.processes c.args.pid c.args.spared) c.args.threads.now c.args.workers.now c.loop-i.threads c.loop-i.workers c.loop-i.i c.loop-i.invariant
-      (ap (ends_with c.args.system.now.processes c.args.pid c.args.spared) (sym next) ∙ sym c.ends_with.ensures ∙ w.if-ends_with.true) row here w.doom.new.workers w.doom.ensures.kept))
+      (ap (ends_with c.args.system.now.processes c.args.pid c.args.spared) (sym next) ∙ sym c.ends_with.ensures ∙ w.if-ends_with.true) row here w.make_dying.new.workers w.make_dying.ensures.kept))
   | else-ends_with w ↦
       let next : c.loop-i.i + 1 ≡ suc c.loop-i.i = omega arith in
       subst (λ (rows : List ThreadRow). HaveEnded (λ t. nat_le t (c.loop-i.i + 1) && ends_with c.args.system.now.processes c.args.pid c.args.spared t) c.args.threads.now c.args.workers.now rows c.if-ends_with.workers) (sym w.threads-is)

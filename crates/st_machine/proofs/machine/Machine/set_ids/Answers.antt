@@ -149,6 +149,7 @@ pub invariant_of-self-2 : goal.invariant_of-self-2
 invariant_of-self-2 c = subst (λ (all : List ThreadRow). IsRunning (new c all)) (sym (rows_are c)) (running_step (old c) (new c c.renew_all.new.threads) (choice.Thread c.args.tid) (used c (told c)) c.self.invariant (step c))
 
 pub returns-clause-step : goal.returns-clause-step
-returns-clause-step c = subst (λ (k : Running). IsStep k (choice.Thread c.args.tid) (Some (used c c.in_ok-plan.plan.changes)) (new c (rows c))) c.self.view_is
+returns-clause-step c = subst (λ (k : Running). IsStep k (choice.Thread c.args.tid) (Some c.entry.result) (new c (rows c))) c.self.view_is
+    (subst (λ (e : Entry). IsStep (old c) (choice.Thread c.args.tid) (Some e) (new c (rows c))) (sym c.entry.ensures)
     (subst (λ (changes : List Change). IsStep (old c) (choice.Thread c.args.tid) (Some (used c changes)) (new c (rows c))) (told_is c)
-    (subst (λ (all : List ThreadRow). IsStep (old c) (choice.Thread c.args.tid) (Some (used c (told c))) (new c all)) (sym (rows_are c)) (step c)))
+    (subst (λ (all : List ThreadRow). IsStep (old c) (choice.Thread c.args.tid) (Some (used c (told c))) (new c all)) (sym (rows_are c)) (step c))))
