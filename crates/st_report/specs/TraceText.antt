@@ -106,6 +106,24 @@ entry_text (Used t seq call regs args ids result changes) =
 entry_text (Denied t seq errno cause) = codes "denied" ++ number_fields (t ∷ []) ++ seq_field seq ++ word_field (name_of_error errno) ++ cause_fields cause
 entry_text (Ended t) = codes "ended" ++ number_fields (t ∷ [])
 
+-- an entry that a thread adds
+abbrev pub IsOfThread : Entry → Type 0
+IsOfThread (Stored t place word) = Unit {0}
+IsOfThread (Entered t call regs way) = Unit {0}
+IsOfThread (Used t seq call regs args ids result changes) = Unit {0}
+IsOfThread (Denied t seq errno cause) = Unit {0}
+IsOfThread (Ended t) = Unit {0}
+IsOfThread _ = ⊥
+
+-- an entry that a worker adds
+abbrev pub IsOfWorker : Entry → Type 0
+IsOfWorker (Claimed w q) = Unit {0}
+IsOfWorker (Copied q part place word) = Unit {0}
+IsOfWorker (Looked q part name seen) = Unit {0}
+IsOfWorker (Faulted q errno) = Unit {0}
+IsOfWorker (Answered w s verdict applied) = Unit {0}
+IsOfWorker _ = ⊥
+
 -- an entry's line
 abbrev pub entry_line : Entry → List ℕ
 entry_line e = entry_text e ++ codes "\n"

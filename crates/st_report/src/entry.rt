@@ -1,15 +1,16 @@
 ghost use Rattle.std.specs.Prelude.{◌≡◌, [], ◌∷◌, ◌++◌, codes, OnOk};
+ghost use Rattle.st_base.specs.Errno.{name_of_error};
 ghost use Rattle.st_report.specs.ChangeText.{changes_fields};
-ghost use Rattle.st_report.specs.Fields.{ids_fields, number_fields};
-ghost use Rattle.st_report.specs.TraceText.{call_fields, way_fields, seen_fields, args_fields, arg_fields, verdict_fields, applied_field, seq_field, result_text, cause_fields, judged_fields, asked_fields, entry_text};
+ghost use Rattle.st_report.specs.Fields.{ids_fields, name_field, number_fields, word_field};
+ghost use Rattle.st_report.specs.TraceText.{call_fields, way_fields, seen_fields, args_fields, arg_fields, verdict_fields, applied_field, seq_field, result_text, cause_fields, judged_fields, asked_fields, entry_text, IsOfThread, IsOfWorker};
 
 use crate::change::append_changes;
 use crate::fields::{
     append_ids, append_name, append_numbered, append_numbers, append_text, append_word,
 };
-use st_base::{Ids, Seq, Text};
+use st_base::{Errno, Ids, Seq, Text, Tid};
 use st_calls::{ArgText, Snapshot, SysCall, Verdict};
-use st_names::SeenText;
+use st_names::{AbsName, SeenText};
 use st_trace::{CallResult, Cause, Change, Entry, Way};
 use std::alloc::{AllocError, Global};
 
@@ -148,18 +149,34 @@ fn append_asked(text: &mut Text, copies: &Snapshot) -> Result<(), AllocError>
     append_args(text, copies.parts.as_slice())
 }
 
-// Appends what a worker answered.
-fn append_answer(
+// Appends the call that a thread enters, and how it goes on.
+fn append_entered(
     text: &mut Text,
-    copies: &Snapshot,
-    verdict: Verdict,
-    applied: bool,
+    tid: Tid,
+    call: SysCall,
+    regs: &[u64; 6],
+    way: Way,
 ) -> Result<(), AllocError>
-    ensures { OnOk result (text.new ≡ text.old ++ asked_fields copies.now ++ verdict_fields verdict ++ applied_field applied) }
+    ensures { OnOk result (text.new ≡ text.old ++ codes "entered" ++ number_fields (tid ∷ []) ++ call_fields call regs.now ++ way_fields way) }
 {
-    append_asked(text, copies)?;
-    append_verdict(text, verdict)?;
-    text.append(applied_word(applied))
+    append_numbered(text, b"entered", &[u64::from(tid)])?;
+    append_call(text, call, regs)?;
+    append_way(text, way)
+}
+
+// Appends which call a thread makes.
+fn append_used(
+    text: &mut Text,
+    tid: Tid,
+    seq: Option<Seq>,
+    call: SysCall,
+    regs: &[u64; 6],
+) -> Result<(), AllocError>
+    ensures { OnOk result (text.new ≡ text.old ++ codes "used" ++ number_fields (tid ∷ []) ++ seq_field seq ++ call_fields call regs.now) }
+{
+    append_numbered(text, b"used", &[u64::from(tid)])?;
+    append_seq(text, seq)?;
+    append_call(text, call, regs)
 }
 
 // Appends with what a call was made, what it gave, and what it changed.
@@ -180,8 +197,26 @@ fn append_made(
     append_changes(alloc, text, changes)
 }
 
-/// Appends an entry, without the newline of its line.
-pub fn append_entry(alloc: Global, text: &mut Text, entry: &Entry) -> Result<(), AllocError>
+// Appends which call of a thread is denied, how, and why.
+fn append_denied(
+    alloc: Global,
+    text: &mut Text,
+    tid: Tid,
+    seq: Option<Seq>,
+    errno: Errno,
+    cause: &Cause,
+) -> Result<(), AllocError>
+    ensures { OnOk result (text.new ≡ text.old ++ codes "denied" ++ number_fields (tid ∷ []) ++ seq_field seq ++ word_field (name_of_error errno) ++ cause_fields cause.now) }
+{
+    append_numbered(text, b"denied", &[u64::from(tid)])?;
+    append_seq(text, seq)?;
+    append_word(text, errno.name())?;
+    append_cause(alloc, text, cause)
+}
+
+// Appends an entry of a thread.
+fn append_thread_entry(alloc: Global, text: &mut Text, entry: &Entry) -> Result<(), AllocError>
+    requires { IsOfThread entry.now }
     ensures { OnOk result (text.new ≡ text.old ++ entry_text entry.now) }
 {
     match entry {
@@ -195,11 +230,82 @@ pub fn append_entry(alloc: Global, text: &mut Text, entry: &Entry) -> Result<(),
             call,
             regs,
             way,
+        } => append_entered(text, *tid, *call, regs, *way),
+        Entry::Used {
+            tid,
+            seq,
+            call,
+            regs,
+            args,
+            ids,
+            result: outcome,
+            changes,
         } => {
-            append_numbered(text, b"entered", &[u64::from(*tid)])?;
-            append_call(text, *call, regs)?;
-            append_way(text, *way)
+            append_used(text, *tid, *seq, *call, regs)?;
+            let args = args.as_slice();
+            append_made(alloc, text, *ids, args, *outcome, changes.as_slice())
         }
+        Entry::Denied {
+            tid,
+            seq,
+            errno,
+            cause,
+        } => append_denied(alloc, text, *tid, *seq, *errno, cause),
+        Entry::Ended { tid } => append_numbered(text, b"ended", &[u64::from(*tid)]),
+        _ => unreachable!(),
+    }
+}
+
+// Appends which word a worker copied.
+fn append_copied(
+    text: &mut Text,
+    seq: Seq,
+    part: u32,
+    place: u32,
+    word: u64,
+) -> Result<(), AllocError>
+    ensures { OnOk result (text.new ≡ text.old ++ codes "copied" ++ number_fields (seq ∷ part ∷ place ∷ word ∷ [])) }
+{
+    let numbers = [seq, u64::from(part), u64::from(place), word];
+    append_numbered(text, b"copied", &numbers)
+}
+
+// Appends which name a worker looked at, and what it saw.
+fn append_looked(
+    alloc: Global,
+    text: &mut Text,
+    seq: Seq,
+    part: u32,
+    name: &AbsName,
+    seen: &SeenText,
+) -> Result<(), AllocError>
+    ensures { OnOk result (text.new ≡ text.old ++ codes "looked" ++ number_fields (seq ∷ part ∷ []) ++ name_field name.now ++ seen_fields seen.now) }
+{
+    append_numbered(text, b"looked", &[seq, u64::from(part)])?;
+    append_name(alloc, text, name)?;
+    append_seen(text, seen)
+}
+
+// Appends what a worker answered.
+fn append_answer(
+    text: &mut Text,
+    copies: &Snapshot,
+    verdict: Verdict,
+    applied: bool,
+) -> Result<(), AllocError>
+    ensures { OnOk result (text.new ≡ text.old ++ asked_fields copies.now ++ verdict_fields verdict ++ applied_field applied) }
+{
+    append_asked(text, copies)?;
+    append_verdict(text, verdict)?;
+    text.append(applied_word(applied))
+}
+
+// Appends an entry of a worker.
+fn append_worker_entry(alloc: Global, text: &mut Text, entry: &Entry) -> Result<(), AllocError>
+    requires { IsOfWorker entry.now }
+    ensures { OnOk result (text.new ≡ text.old ++ entry_text entry.now) }
+{
+    match entry {
         Entry::Claimed { worker, seq } => {
             append_numbered(text, b"claimed", &[u64::from(*worker), *seq])
         }
@@ -208,21 +314,13 @@ pub fn append_entry(alloc: Global, text: &mut Text, entry: &Entry) -> Result<(),
             part,
             place,
             word,
-        } => append_numbered(
-            text,
-            b"copied",
-            &[*seq, u64::from(*part), u64::from(*place), *word],
-        ),
+        } => append_copied(text, *seq, *part, *place, *word),
         Entry::Looked {
             seq,
             part,
             name,
             seen,
-        } => {
-            append_numbered(text, b"looked", &[*seq, u64::from(*part)])?;
-            append_name(alloc, text, name)?;
-            append_seen(text, seen)
-        }
+        } => append_looked(alloc, text, *seq, *part, name, seen),
         Entry::Faulted { seq, errno } => {
             append_numbered(text, b"faulted", &[*seq])?;
             append_word(text, errno.name())
@@ -237,6 +335,25 @@ pub fn append_entry(alloc: Global, text: &mut Text, entry: &Entry) -> Result<(),
             append_judged(text, snapshot)?;
             append_answer(text, snapshot, *verdict, *applied)
         }
+        _ => unreachable!(),
+    }
+}
+
+/// Appends an entry, without the newline of its line.
+pub fn append_entry(alloc: Global, text: &mut Text, entry: &Entry) -> Result<(), AllocError>
+    ensures { OnOk result (text.new ≡ text.old ++ entry_text entry.now) }
+{
+    match entry {
+        Entry::Stored { .. }
+        | Entry::Entered { .. }
+        | Entry::Used { .. }
+        | Entry::Denied { .. }
+        | Entry::Ended { .. } => append_thread_entry(alloc, text, entry),
+        Entry::Claimed { .. }
+        | Entry::Copied { .. }
+        | Entry::Looked { .. }
+        | Entry::Faulted { .. }
+        | Entry::Answered { .. } => append_worker_entry(alloc, text, entry),
         Entry::Replied { seq, reply, number } => append_numbered(
             text,
             b"replied",
@@ -245,39 +362,5 @@ pub fn append_entry(alloc: Global, text: &mut Text, entry: &Entry) -> Result<(),
         Entry::Learned { seq, number } => {
             append_numbered(text, b"learned", &[*seq, u64::from(*number)])
         }
-        Entry::Used {
-            tid,
-            seq,
-            call,
-            regs,
-            args,
-            ids,
-            result: outcome,
-            changes,
-        } => {
-            append_numbered(text, b"used", &[u64::from(*tid)])?;
-            append_seq(text, *seq)?;
-            append_call(text, *call, regs)?;
-            append_made(
-                alloc,
-                text,
-                *ids,
-                args.as_slice(),
-                *outcome,
-                changes.as_slice(),
-            )
-        }
-        Entry::Denied {
-            tid,
-            seq,
-            errno,
-            cause,
-        } => {
-            append_numbered(text, b"denied", &[u64::from(*tid)])?;
-            append_seq(text, *seq)?;
-            append_word(text, errno.name())?;
-            append_cause(alloc, text, cause)
-        }
-        Entry::Ended { tid } => append_numbered(text, b"ended", &[u64::from(*tid)]),
     }
 }

@@ -3,7 +3,7 @@ use Rattle.std.proofs.lemmas.Result.{on_ok_weaker}
 use Rattle.st_report.specs.Fields.{number_fields}
 use Rattle.st_report.specs.TraceText.{applied_field, asked_fields, entry_text, judged_fields, verdict_fields}
 use Rattle.st_report.proofs.Joined.{six_joined}
-use Rattle.st_report.proofs.entry.append_entry.Goals as goal
+use Rattle.st_report.proofs.entry.append_worker_entry.Goals as goal
 
 pub returns-in_ok-append_judged-in-Answered : goal.returns-in_ok-append_judged-in-Answered
 returns-in_ok-append_judged-in-Answered c = let x = c.in-Answered in
