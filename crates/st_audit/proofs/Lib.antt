@@ -1,1 +1,7 @@
+pub mod Answered
+pub mod Following
 pub mod Growth
+pub mod Kept
+pub mod Learnt
+pub mod Rows
+mod WorkedRows

@@ -1,36 +1,130 @@
-use Rattle.std.specs.Prelude.{ℕ, List, ◌++◌, codes, decimal, Option, Some, None}
+-- How a call went, and with which filter's marks.
+use Rattle.std.specs.Prelude.{ℕ, Bool, true, false, List, [], ◌++◌, codes, decimal, Option, Some, None, is_some, option_map}
+use Rattle.st_base.specs.Numbered.{item_at_number}
+use Rattle.st_base.specs.declared.ids.Ids.{Ids}
+use Rattle.st_calls.specs.declared.argument.ArgText.{ArgText}
+use Rattle.st_calls.specs.declared.judged.Snapshot.{Snapshot}
+use Rattle.st_calls.specs.declared.judged.Verdict.{Verdict}
+use Rattle.st_calls.specs.declared.judged.Verdict.TheVariants as verdicts
+use Rattle.st_calls.specs.declared.rule.Rule.{Rule}
+use Rattle.st_filter.specs.Formula.{FilterValue}
 use Rattle.st_lex.specs.Quote.{quoted}
 use Rattle.st_names.specs.Name.{printed_name}
 use Rattle.st_trace.specs.declared.entry.Cause.{Cause}
 use Rattle.st_trace.specs.declared.entry.Cause.TheVariants as cause
+use Rattle.st_law.specs.declared.input.Input.{Input}
+use Rattle.st_law.specs.Sessions.{SessionFilter, session_filters}
+use Rattle.st_law.specs.State.{State, decision_in, read_for, snapshot_in}
 use Rattle.st_audit.specs.declared.how.How.{How}
-use Rattle.st_audit.specs.declared.how.How.TheVariants.{Fast, Barred, Permit, Deny, NoFilter, Fault, Link}
-use Rattle.st_audit.specs.Answer.{Answer, permit_number}
+use Rattle.st_audit.specs.declared.marks.Marks.{Marks}
+use Rattle.st_audit.specs.declared.how.How.TheVariants.{Fast, Barred, Permit, PermitAs, Deny, NoFilter, Fault, Link}
+
+-- ---- how a call went, as text
+
+-- the effective ids that a call was made under
+abbrev pub as_text : Ids → List ℕ
+as_text ids = codes " as " ++ decimal ids.euid ++ codes ":" ++ decimal ids.egid
 
 -- how a call went
 abbrev pub how_text : How → List ℕ
 how_text Fast = codes "fast"
 how_text (Barred n) = codes "barred#" ++ decimal n
 how_text (Permit n) = codes "permit#" ++ decimal n
+how_text (PermitAs n ids) = codes "permit#" ++ decimal n ++ as_text ids
 how_text (Deny n) = codes "deny#" ++ decimal n
 how_text NoFilter = codes "nofilter"
 how_text Fault = codes "fault"
 how_text (Link name) = codes "link " ++ quoted name
 
--- a call that was made: the kernel permitted it by itself, or a filter did
-abbrev pub how_used : (ℕ → Option Answer) → Option ℕ → How
-how_used answers None = Fast
-how_used answers (Some q) = Permit (permit_number (answers q))
+-- ---- what decided on a held call
 
--- how a call went that the filter of this number denied: barred where it has no message, else held
+-- the number of the filter that decides, 0 where none does
+abbrev pub number_of : Verdict → ℕ
+number_of (verdicts.Permit n ids) = n
+number_of (verdicts.Refuse n errno) = n
+number_of verdicts.Unmatched = 0
+
+-- the filter of a number, among those read for a policy and a rule and, behind them, those of the session
+abbrev pub filter_numbered : Input → List SessionFilter → List ℕ → Rule → ℕ → Option FilterValue
+filter_numbered i session policy rule n = item_at_number (read_for i policy rule ++ session_filters session policy rule) n
+
+-- what an audit says of a filter, if it is there: whether it grants ids, and whether it asks for a mark
+abbrev pub marks_of : Option FilterValue → Marks
+marks_of None = record { grants = false; logs = false }
+marks_of (Some f) = record { grants = is_some f.grant; logs = f.log }
+
+-- what an audit says of a held call: its arguments, and the filter that decided, by its number and marks
+pub record Decided : Type 0 where
+  pub parts : List ArgText
+  pub number : ℕ
+  pub marks : Marks
+
+-- the same, by its parts
+abbrev pub decided_with : List ArgText → ℕ → Marks → Decided
+decided_with parts number marks = record { parts = parts; number = number; marks = marks }
+
+-- a held call with these copies, on which the filter of this number decides
+abbrev pub decided_by : Input → List SessionFilter → Snapshot → ℕ → Decided
+decided_by i session s n = decided_with s.parts n (marks_of (filter_numbered i session s.policy s.rule n))
+
+-- the held call of a number, with what its filters decide of it now
+abbrev pub decided_in : Input → State → ℕ → Option Decided
+decided_in i st q = option_map (λ s. decided_by i st.session s (number_of (decision_in i st s))) (snapshot_in st q)
+
+-- the held call of a number, if there is one
+abbrev pub decided_on : (ℕ → Option Decided) → Option ℕ → Option Decided
+decided_on decided None = None
+decided_on decided (Some q) = decided q
+
+-- the arguments that were judged
+abbrev pub parts_of : Option Decided → List ArgText
+parts_of None = []
+parts_of (Some decided) = decided.parts
+
+-- whether the filter that decided asks for a mark
+abbrev pub is_logged : Option Decided → Bool
+is_logged None = false
+is_logged (Some decided) = decided.marks.logs
+
+-- ---- a call that was made
+
+-- permitted by the filter of this number; the ids are told where it grants some
+abbrev pub permitted : ℕ → Bool → Ids → How
+permitted n true ids = PermitAs n ids
+permitted n false ids = Permit n
+
+-- permitted by the filter that decided
+abbrev pub how_permitted : Option Decided → Ids → How
+how_permitted None ids = Permit 0
+how_permitted (Some decided) ids = permitted decided.number decided.marks.grants ids
+
+-- a call that was made: by the kernel itself, or as a filter permitted
+abbrev pub how_used : Option ℕ → Option Decided → Ids → How
+how_used None decided ids = Fast
+how_used (Some q) decided ids = how_permitted decided ids
+
+-- the arguments of a call that was made: its own, where it was held
+abbrev pub args_used : Option ℕ → List ArgText → List ArgText
+args_used None args = []
+args_used (Some q) args = args
+
+-- ---- a call that was denied
+
+-- denied by the filter of this number: barred where it has no message, else held
 abbrev pub how_filtered : ℕ → Option ℕ → How
 how_filtered n None = Barred n
 how_filtered n (Some q) = Deny n
 
--- a call that was denied: the kernel refused it by itself, or a filter did; or there is no filter, or a fault was
--- met, or a name is a link now
+-- a call that was denied: by the kernel itself, or by a filter; or as no filter decided, a fault was met, or a name met a link
 abbrev pub how_denied : Option ℕ → Cause → How
 how_denied seq (cause.Filter n) = how_filtered n seq
 how_denied seq cause.NoFilter = NoFilter
 how_denied seq cause.Fault = Fault
 how_denied seq (cause.Link name) = Link (printed_name name)
+
+-- the number whose copies are told: none where a fault was met
+abbrev pub seq_told : Option ℕ → Cause → Option ℕ
+seq_told seq (cause.Filter n) = seq
+seq_told seq cause.NoFilter = seq
+seq_told seq cause.Fault = None
+seq_told seq (cause.Link name) = seq

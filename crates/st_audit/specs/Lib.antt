@@ -1,6 +1,5 @@
-pub mod Answer
-pub mod Argument
-pub mod Audit
-pub mod Entered
-pub mod Extends
+pub mod AuditText
 pub mod How
+pub mod Ledger
+pub mod Rows
+pub mod Told

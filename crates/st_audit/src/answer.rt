@@ -1,37 +1,38 @@
 ghost use Rattle.std.specs.Prelude.{◌≡◌, ℕ, OnOk};
-ghost use Rattle.st_audit.specs.Answer.{answer_after, answer_in};
+ghost use Rattle.st_audit.specs.Ledger.{answer_in};
+ghost use Rattle.st_audit.specs.Told.{answer_after};
 
 use st_base::Seq;
-use st_calls::{ArgText, Snapshot, Verdict};
+use st_calls::{Snapshot, Verdict};
 use st_trace::Entry;
 use std::alloc::AllocError;
 use std::collections::BTreeMap;
 use std::marker::Model;
 
-/// An applied answer to a message, as the trace has it.
+/// An applied answer to a held call, as the trace has it.
 #[derive(Drop)]
 pub struct Answer<'a> {
-    snapshot: &'a Snapshot,
+    copies: &'a Snapshot,
     verdict: Verdict,
 }
 
 impl<'a> Model for Answer<'a> {
-    ghost use Rattle.st_audit.specs.Answer.{Answer, answer_with};
+    ghost use Rattle.st_audit.specs.Told.{Answer, answer_with};
 
     ghost Value = { Answer };
 
-    ghost view = { λ a. answer_with a.snapshot.now a.verdict };
+    ghost view = { λ a. answer_with a.copies.now a.verdict };
 }
 
 impl<'a> Answer<'a> {
-    /// The arguments that were judged.
-    pub fn parts(&self) -> &[ArgText]
-        ensures { result.now ≡ self.now.snapshot.parts }
+    /// The copies that were judged.
+    pub fn copies(&self) -> &'a Snapshot
+        ensures { result.now ≡ self.now.snapshot }
     {
-        self.snapshot.parts.as_slice()
+        self.copies
     }
 
-    /// What the filters say of the call.
+    /// What the filters that were read say of them.
     pub fn verdict(&self) -> Verdict
         ensures { result ≡ self.now.verdict }
     {
@@ -54,7 +55,7 @@ pub fn note_answer<'a>(
     } = entry
     {
         let answer = Answer {
-            snapshot,
+            copies: snapshot,
             verdict: *verdict,
         };
         answers.insert(snapshot.seq, answer)?;

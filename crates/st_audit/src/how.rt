@@ -1,15 +1,12 @@
 ghost use Rattle.std.specs.Prelude.{◌≡◌, ◌++◌, codes, decimal, IfOk, OnOk};
 ghost use Rattle.st_lex.specs.Quote.{quoted};
-ghost use Rattle.st_audit.specs.Answer.{answer_in};
-ghost use Rattle.st_audit.specs.How.{how_text, how_used, how_denied};
+ghost use Rattle.st_audit.specs.How.{as_text, how_text, how_used, how_denied, permitted};
 
-use crate::answer::Answer;
-use st_base::{Seq, Text};
-use st_calls::Verdict;
+use crate::ledger::Decided;
+use st_base::{Ids, Seq, Text};
 use st_lex::quote;
 use st_trace::Cause;
 use std::alloc::{AllocError, Global};
-use std::collections::BTreeMap;
 
 /// How a call went.
 #[derive(Debug, Drop)]
@@ -19,7 +16,9 @@ pub enum How {
     /// The kernel refused it by itself, by the filter of this number.
     Barred(u32),
     /// The filter of this number permitted it.
-    Permit(u32),
+    Permit(u64),
+    /// The filter of this number permitted it, under these ids.
+    PermitAs(u64, Ids),
     /// The filter of this number refused it.
     Deny(u32),
     /// No filter decided.
@@ -30,18 +29,26 @@ pub enum How {
     Link(Text),
 }
 
+// Permitted by the filter of this number, which may grant ids.
+fn permitted(number: u64, grants: bool, ids: Ids) -> How
+    ensures { result ≡ permitted number grants ids }
+{
+    if grants {
+        How::PermitAs(number, ids)
+    } else {
+        How::Permit(number)
+    }
+}
+
 impl How {
-    /// How a call was made.
-    pub fn used(answers: &BTreeMap<Seq, Answer<'_>>, seq: Option<Seq>) -> Self
-        ensures { result ≡ how_used (answer_in answers.now) seq }
+    /// How a call was made: without a message the kernel permitted it.
+    pub fn used(seq: Option<Seq>, decided: &Option<Decided<'_>>, ids: Ids) -> Self
+        ensures { result ≡ how_used seq decided.now ids }
     {
-        let Some(seq) = seq else { return How::Fast };
-        match answers.get(&seq) {
-            Some(answer) => match answer.verdict() {
-                Verdict::Permit(number, _) => How::Permit(number),
-                Verdict::Refuse(..) | Verdict::Unmatched => How::Permit(0),
-            },
-            None => How::Permit(0),
+        match (seq, decided) {
+            (None, _) => How::Fast,
+            (Some(_), None) => How::Permit(0),
+            (Some(_), Some(decided)) => permitted(decided.number(), decided.marks().grants, ids),
         }
     }
 
@@ -61,15 +68,23 @@ impl How {
     }
 }
 
-fn append_numbered(text: &mut Text, word: &[u8], number: u32) -> Result<(), AllocError>
+fn append_number(text: &mut Text, word: &[u8], number: u64) -> Result<(), AllocError>
     ensures { OnOk result (text.new ≡ text.old ++ word.now ++ decimal number) }
 {
     text.append(word)?;
-    text.append_number(u64::from(number))
+    text.append_number(number)
+}
+
+// Appends the effective ids that a call was made under.
+fn append_as(text: &mut Text, ids: Ids) -> Result<(), AllocError>
+    ensures { OnOk result (text.new ≡ text.old ++ as_text ids) }
+{
+    append_number(text, b" as ", u64::from(ids.euid))?;
+    append_number(text, b":", u64::from(ids.egid))
 }
 
 fn append_link(text: &mut Text, name: &Text) -> Result<(), AllocError>
-    ensures { OnOk result (text.new ≡ text.old ++ codes "link " ++ quoted name.now) }
+    ensures { OnOk result (text.new ≡ text.old ++ (codes "link " ++ quoted name.now)) }
 {
     text.append(b"link ")?;
     quote(name.bytes(), text)
@@ -81,9 +96,13 @@ pub fn append_how(text: &mut Text, how: &How) -> Result<(), AllocError>
 {
     match how {
         How::Fast => text.append(b"fast"),
-        How::Barred(number) => append_numbered(text, b"barred#", *number),
-        How::Permit(number) => append_numbered(text, b"permit#", *number),
-        How::Deny(number) => append_numbered(text, b"deny#", *number),
+        How::Barred(number) => append_number(text, b"barred#", u64::from(*number)),
+        How::Permit(number) => append_number(text, b"permit#", *number),
+        How::PermitAs(number, ids) => {
+            append_number(text, b"permit#", *number)?;
+            append_as(text, *ids)
+        }
+        How::Deny(number) => append_number(text, b"deny#", u64::from(*number)),
         How::NoFilter => text.append(b"nofilter"),
         How::Fault => text.append(b"fault"),
         How::Link(name) => append_link(text, name),

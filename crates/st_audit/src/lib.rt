@@ -2,10 +2,15 @@
 #![tactic(auto)]
 
 mod answer;
-mod argument;
-pub mod audit;
+mod audit;
+mod entered;
 mod how;
+mod ledger;
 mod line;
+mod marks;
+mod process;
+mod read;
+mod session;
 
 pub use audit::{audit_text, longer_runs_extend_the_audit};
 

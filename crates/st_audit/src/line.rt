@@ -1,36 +1,34 @@
-ghost use Rattle.std.specs.Prelude.{◌≡◌, ◌++◌, option_copied, OnOk};
-ghost use Rattle.st_served.specs.History.{owner_of};
-ghost use Rattle.st_base.specs.Numbered.{item_at_number};
-ghost use Rattle.st_audit.specs.Audit.{result_text, caller_text, line_text, call_line};
+ghost use Rattle.std.specs.Prelude.{◌≡◌, ◌++◌, flat_map, OnOk};
+ghost use Rattle.st_audit.specs.AuditText.{caller_text, ending_text, log_text, told_arg};
 
-use crate::argument::append_args;
 use crate::how::{How, append_how};
 use st_base::{Pid, Text, Tid};
-use st_calls::{ArgText, Rule, SysCall};
+use st_calls::{ArgText, Rule, append_index};
 use st_lex::quote;
-use st_served::Input;
+use st_report::append_result;
 use st_trace::CallResult;
 use std::alloc::AllocError;
 
-// Who makes a call, under which policy.
+/// Who makes a call, and the policy and the rule that it is judged by.
 #[derive(Clone, Copy)]
-struct Caller<'a> {
-    pid: Pid,
-    tid: Tid,
-    policy: &'a [u8],
+pub struct Caller<'a> {
+    pub pid: Pid,
+    pub tid: Tid,
+    pub policy: &'a [u8],
+    pub rule: Rule,
 }
 
-/// What a line says of a call: with which arguments it was made or denied, how, and with what end.
+/// What a line says of a call: with which arguments it was made or denied, how, with what end, and whether it is marked.
 #[derive(Drop)]
-pub struct CallLine<'a> {
-    pub call: SysCall,
+pub struct Ending<'a> {
     pub args: &'a [ArgText],
     pub how: How,
     pub outcome: CallResult,
+    pub log: bool,
 }
 
-fn append_caller(text: &mut Text, caller: &Caller<'_>, call: SysCall) -> Result<(), AllocError>
-    ensures { OnOk result (text.new ≡ text.old ++ caller_text caller.now.pid caller.now.tid caller.now.policy.now call) }
+fn append_caller(text: &mut Text, caller: &Caller<'_>) -> Result<(), AllocError>
+    ensures { OnOk result (text.new ≡ text.old ++ caller_text caller.now.pid caller.now.tid caller.now.policy.now caller.now.rule) }
 {
     text.append_number(u64::from(caller.pid))?;
     text.push(b'.')?;
@@ -38,63 +36,57 @@ fn append_caller(text: &mut Text, caller: &Caller<'_>, call: SysCall) -> Result<
     text.push(b' ')?;
     quote(caller.policy, text)?;
     text.append(b" native-")?;
-    text.append(Rule::of(call, &[0; 6], true).word())
+    text.append(caller.rule.word())
 }
 
-fn append_result(text: &mut Text, outcome: CallResult) -> Result<(), AllocError>
-    ensures { OnOk result (text.new ≡ text.old ++ result_text outcome) }
+// Appends a blank and an argument.
+fn append_told_arg(text: &mut Text, arg: &ArgText) -> Result<(), AllocError>
+    ensures { OnOk result (text.new ≡ text.old ++ told_arg arg.now) }
 {
-    match outcome {
-        CallResult::Value(number) => text.append_number(number),
-        CallResult::Failed(errno) => text.append(errno.name()),
-    }
-}
-
-fn append_line(text: &mut Text, caller: &Caller<'_>, told: &CallLine<'_>) -> Result<(), AllocError>
-    ensures { OnOk result (text.new ≡ text.old ++ line_text caller.now.pid caller.now.tid caller.now.policy.now told.now.call told.now.args.now told.now.how told.now.outcome) }
-{
-    append_caller(text, caller, told.call)?;
-    append_args(text, told.args)?;
     text.push(b' ')?;
-    append_how(text, &told.how)?;
+    text.append(arg.label.word())?;
+    append_index(arg.index, text)?;
+    text.push(b'=')?;
+    quote(arg.text.bytes(), text)
+}
+
+// Appends arguments, each behind a blank.
+fn append_told_args(text: &mut Text, args: &[ArgText]) -> Result<(), AllocError>
+    ensures { OnOk result (text.new ≡ text.old ++ flat_map told_arg args.now) }
+{
+    for arg in args {
+        append_told_arg(text, arg)?;
+    }
+    Ok(())
+}
+
+// The mark of a filter that asks for one.
+fn log_word(log: bool) -> &'static [u8]
+    ensures { result.now ≡ log_text log }
+{
+    if log { b" log" } else { b"" }
+}
+
+fn append_ending(text: &mut Text, ending: &Ending<'_>) -> Result<(), AllocError>
+    ensures { OnOk result (text.new ≡ text.old ++ ending_text ending.now.args.now ending.now.how ending.now.outcome ending.now.log) }
+{
+    append_told_args(text, ending.args)?;
+    text.push(b' ')?;
+    append_how(text, &ending.how)?;
     text.append(b" = ")?;
-    append_result(text, told.outcome)?;
+    append_result(text, ending.outcome)?;
+    text.append(log_word(ending.log))?;
     text.push(b'\n')
 }
 
-// The row of a number, counted from 1.
-fn item_at_number<T>(rows: &[T], number: u32) -> Option<&T>
-    ensures { option_copied result ≡ item_at_number rows.now number }
-{
-    let index = number.checked_sub(1)?;
-    rows.get(index as usize)
-}
-
-// The process of a thread, 0 where it has none.
-fn owner(input: &Input, tid: Tid) -> Pid
-    ensures { result ≡ owner_of input.now tid }
-{
-    match item_at_number(input.start.threads.as_slice(), tid) {
-        Some(row) => row.process.unwrap_or(0),
-        None => 0,
-    }
-}
-
-/// Appends the line of a thread's call, where its process is traced.
-pub fn append_traced_line(
+/// Appends the line of a call.
+pub fn append_call_line(
     text: &mut Text,
-    input: &Input,
-    tid: Tid,
-    told: &CallLine<'_>,
+    caller: &Caller<'_>,
+    ending: &Ending<'_>,
 ) -> Result<(), AllocError>
-    ensures { OnOk result (text.new ≡ text.old ++ call_line input.now tid told.now.call told.now.args.now told.now.how told.now.outcome) }
+    ensures { OnOk result (text.new ≡ text.old ++ (caller_text caller.now.pid caller.now.tid caller.now.policy.now caller.now.rule ++ ending_text ending.now.args.now ending.now.how ending.now.outcome ending.now.log)) }
 {
-    let pid = owner(input, tid);
-    match item_at_number(input.start.processes.as_slice(), pid) {
-        Some(row) if row.traced => {
-            let policy = row.binary.bytes();
-            append_line(text, &Caller { pid, tid, policy }, told)
-        }
-        _ => Ok(()),
-    }
+    append_caller(text, caller)?;
+    append_ending(text, ending)
 }

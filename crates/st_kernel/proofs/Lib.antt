@@ -1,17 +1,5 @@
-pub mod Answering
-pub mod Keys
-pub mod Looks
-pub mod Opens
-pub mod Trees
-pub mod Walked
-pub mod One
-pub mod Quiet
-pub mod Ending
-pub mod Lowering
-pub mod Finishing
-pub mod Fresh
-pub mod Staging
-pub mod Chosen
-pub mod Keeping
-pub mod Now
-pub mod Ways
+mod Courses
+mod Cursors
+mod Movers
+mod Plays
+mod Rests

@@ -1,10 +1,2 @@
-pub mod Answers
-pub mod Copies
-pub mod Files
-pub mod Held
-pub mod Index
-pub mod Kept
-pub mod Opening
-pub mod Runs
-pub mod Setup
-pub mod ProcessState
+pub mod Cursor
+pub mod Kernel

@@ -1,18 +1,12 @@
-//! The modelled kernel: it runs the system calls of one traced thread under a policy, each step as the machine says.
+//! The kernel: the machine that runs, with the trace of what it did and the schedule by which it did it.
 #![tactic(auto)]
 
-mod copies;
-mod effects;
-mod files;
-mod held;
-mod index;
-mod kernel;
-mod opening;
-mod process_state;
-mod setup;
-mod table;
-#[cfg(test)]
-mod tests;
-mod thread;
+mod cursor;
+pub mod kernel;
+pub mod play;
 
 pub use kernel::{Kernel, StepFault};
+pub use play::PlayFault;
+
+#[cfg(test)]
+mod tests;

@@ -3,7 +3,6 @@ pub mod Canon
 pub mod Diagram
 pub mod Draft
 pub mod FaultPlace
-pub mod Form
 pub mod Grammar
 pub mod Leftmost
 pub mod OneFilter

@@ -8,8 +8,8 @@ use Rattle.st_outside.specs.declared.files.TheConstants.{FILE_LIMIT}
 use Rattle.st_filter.specs.declared.set.BinaryPolicy.{BinaryPolicy}
 use Rattle.st_policy.specs.declared.env.Env.{Env}
 use Rattle.st_law.specs.declared.input.Options.{Options}
-use Rattle.st_whole_script.specs.Reading.{script_in}
-use Rattle.st_whole_script.specs.declared.reading.ReadScript.{ReadScript}
+use Rattle.st_script.specs.Reading.{script_in}
+use Rattle.st_script.specs.declared.reading.ReadScript.{ReadScript}
 use Rattle.st_command.specs.Words.{Word}
 use Rattle.st_reading.specs.Meaning.{Held, Meaning, SaysScript, SaysPolicy, Fetches, MeansPolicies}
 use Rattle.st_reading.specs.Files.{Has, IsScript, IsPolicy, ArePolicies, ComesTo}

@@ -2,3 +2,4 @@ pub mod Fetched
 pub mod Leads
 pub mod Meanings
 pub mod Refusals
+pub mod Runnable

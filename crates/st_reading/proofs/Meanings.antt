@@ -13,9 +13,9 @@ use Rattle.st_policy.specs.Diagram.{fault_in}
 use Rattle.st_policy.proofs.Complete.{reads-once, reads-faultless, faultless-reads}
 use Rattle.st_schedule.specs.Schedule.{schedule_in}
 use Rattle.st_script_faults.specs.declared.fault.ScriptFault.{ScriptFault}
-use Rattle.st_whole_script.specs.Reading.{script_in}
-use Rattle.st_whole_script.specs.Startable.{input_with}
-use Rattle.st_whole_script.specs.declared.reading.ReadScript.{ReadScript}
+use Rattle.st_script.specs.Reading.{script_in}
+use Rattle.st_script.specs.Startable.{input_with}
+use Rattle.st_script.specs.declared.reading.ReadScript.{ReadScript}
 use Rattle.st_command.specs.Words.{Word}
 use Rattle.st_command.specs.Command.{StepWords, CheckWords, check_options}
 use Rattle.st_command.specs.declared.command.Command.{Command}

@@ -2,10 +2,6 @@
 use Rattle.std.specs.Prelude.{◌≡◌, ◌⊎◌, ℕ, List, [], ◌∷◌, ◌++◌, Result, Ok, Err}
 use Rattle.st_outside.specs.Count.{HasRisen}
 use Rattle.st_outside.specs.Files.{CanFit}
-use Rattle.st_filter.specs.declared.set.BinaryPolicy.{BinaryPolicy}
-use Rattle.st_law.specs.declared.input.Input.{Input}
-use Rattle.st_whole_script.specs.Startable.{CanStart, input_with}
-use Rattle.st_whole_script.specs.declared.reading.ReadScript.{ReadScript}
 use Rattle.st_command.specs.Words.{Word}
 use Rattle.st_command.specs.declared.command.Command.{Command}
 use Rattle.st_reading.specs.Meaning.{Held, Meaning, Stops, Refuses, Runs, Prints, Means, names_to, last_file}
@@ -60,15 +56,3 @@ Ends held c faults faults_after old new (Err refusal) = Refused held c faults fa
 abbrev pub ending : Result Reading Refusal → Meaning
 ending (Ok read) = as_meaning read
 ending (Err refusal) = Refuses refusal
-
--- an input is of a script that a run can start with
-pub record IsOfScript (input : Input) : Type 0 where
-  pub script : ReadScript
-  pub policies : List BinaryPolicy
-  pub can_start : CanStart script
-  pub input_is : input ≡ input_with policies input.options script
-
--- what is read to be run can start
-abbrev pub CanBeRun : Reading → Type 0
-CanBeRun (reading.Run input schedule) = IsOfScript input
-CanBeRun (reading.Text text) = Unit {0}

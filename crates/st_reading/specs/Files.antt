@@ -10,8 +10,8 @@ use Rattle.st_policy.specs.Grammar as policy
 use Rattle.st_law.specs.declared.input.Options.{Options}
 use Rattle.st_law.specs.declared.input.ReadSchedule.{ReadSchedule}
 use Rattle.st_schedule.specs.Schedule.{schedule_in}
-use Rattle.st_whole_script.specs.Reading.{script_in}
-use Rattle.st_whole_script.specs.declared.reading.ReadScript.{ReadScript}
+use Rattle.st_script.specs.Reading.{script_in}
+use Rattle.st_script.specs.declared.reading.ReadScript.{ReadScript}
 use Rattle.st_command.specs.Words.{Word}
 use Rattle.st_command.specs.Command.{CheckWords, check_options}
 use Rattle.st_command.specs.Grammar.{maybe_word}

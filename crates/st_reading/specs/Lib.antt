@@ -2,3 +2,4 @@ pub mod Bare
 pub mod Meaning
 pub mod Files
 pub mod Ends
+pub mod Runnable

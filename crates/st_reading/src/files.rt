@@ -1,7 +1,6 @@
 ghost use Rattle.std.specs.Prelude.{◌≡◌, ◌≢◌, ◌≤◌, ◌<◌, ◌+◌, ◌^◌, [], ◌∷◌, ◌++◌, length, map, IfOk, IfErr, OnErr};
 ghost use Rattle.st_outside.specs.Files.{CanHold};
 ghost use Rattle.st_outside.specs.declared.files.TheConstants.{FILE_LIMIT};
-ghost use Rattle.st_whole_script.specs.Startable.{CanStart};
 ghost use Rattle.st_reading.specs.Files.{FetchRefused, ScriptEnds, PolicyEnds, PoliciesEnd, ScheduleEnds};
 
 use crate::refusal::{Refusal, Which};
@@ -10,8 +9,8 @@ use st_law::{Options, ReadSchedule};
 use st_outside::{FetchFault, Files};
 use st_policy::{Env, PolicyFault, PolicySet, read_policies};
 use st_schedule::read_schedule;
+use st_script::{ReadScript, read_script};
 use st_script_faults::ScriptFault;
-use st_whole_script::{ReadScript, read_script};
 use std::alloc::Global;
 
 // The whole content of a file.
@@ -42,7 +41,6 @@ pub(crate) fn read_script_file<F: Files>(
     ensures held { F.held files.new ≡ F.held files.old }
     ensures asked { F.asked files.new ≡ F.asked files.old ++ name.now ∷ [] }
     ensures ends { ScriptEnds (F.held files.old name.now) options.now (F.faults files.old) (F.faults files.new) result }
-    ensures can_start { IfOk result CanStart }
     ensures quiet { result ≢ Err Refusal.ReadFault → F.faults files.new ≡ F.faults files.old }
 {
     let text = fetch(alloc, files, name, Which::Script)?;

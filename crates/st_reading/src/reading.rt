@@ -1,10 +1,10 @@
-ghost use Rattle.std.specs.Prelude.{◌≡◌, ◌≢◌, ◌⊎◌, false, IfOk};
+ghost use Rattle.std.specs.Prelude.{◌≡◌, ◌≢◌, ◌⊎◌, false};
 ghost use Rattle.st_outside.specs.Count.{HasRisen};
 ghost use Rattle.st_command.specs.Reading.{IsWithinLimits};
 ghost use Rattle.st_command.specs.declared.command.Command.TheVariants as command;
 ghost use Rattle.st_reading.specs.Meaning.{Meaning, Means, is_stop, AreTold, names_of};
 ghost use Rattle.st_reading.specs.Files.{EnvEnds};
-ghost use Rattle.st_reading.specs.Ends.{Ends, CanBeRun, ending};
+ghost use Rattle.st_reading.specs.Ends.{Ends, ending};
 
 use crate::environment::bare_env;
 use crate::files::{read_policy_files, read_schedule_file, read_script_file};
@@ -14,7 +14,7 @@ use st_command::{CheckWords, Command, StepWords};
 use st_law::{Input, ReadSchedule};
 use st_outside::Files;
 use st_policy::{Env, print_policies};
-use st_whole_script::ReadScript;
+use st_script::ReadScript;
 use std::alloc::Global;
 
 /// What a command comes to, as far as it is read.
@@ -35,7 +35,6 @@ fn read_step<F: Files>(
     requires { IsWithinLimits (command.Step step.now) }
     ensures held { F.held files.new ≡ F.held files.old }
     ensures ends { Ends (F.held files.old) (command.Step step.now) (F.faults files.old) (F.faults files.new) (F.asked files.old) (F.asked files.new) result }
-    ensures can_run { IfOk result CanBeRun }
     ensures quiet { result ≢ Err Refusal.ReadFault → F.faults files.new ≡ F.faults files.old }
 {
     let script = read_script_file(alloc, files, step.script, &step.options)?;
@@ -78,7 +77,6 @@ fn read_check<F: Files>(
 ) -> Result<Reading, Refusal>
     ensures held { F.held files.new ≡ F.held files.old }
     ensures ends { Ends (F.held files.old) (command.Check check.now) (F.faults files.old) (F.faults files.new) (F.asked files.old) (F.asked files.new) result }
-    ensures can_run { IfOk result CanBeRun }
     ensures quiet { result ≢ Err Refusal.ReadFault → F.faults files.new ≡ F.faults files.old }
 {
     let env = env_of_check(alloc, check, files)?;
@@ -98,7 +96,6 @@ pub fn read_command<F: Files>(
     // What is answered is what the command means, and the names that were asked for are those of the command, in order, up to the
     // file that is told.
     ensures ends { Ends (F.held files.old) command.now (F.faults files.old) (F.faults files.new) (F.asked files.old) (F.asked files.new) result }
-    ensures can_run { IfOk result CanBeRun }
 
     // All else stays.
     ensures held { F.held files.new ≡ F.held files.old }

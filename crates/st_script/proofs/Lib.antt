@@ -1,3 +1,13 @@
-mod Placing
-mod Stores
-pub mod Plain
+pub mod Bounded
+mod Counted
+mod FewInstructions
+mod InMemory
+mod Placed
+mod PutTexts
+mod ReadTexts
+mod Said
+mod Slashes
+mod Standing
+pub mod Startable
+mod StartedOnce
+pub mod Ungranted

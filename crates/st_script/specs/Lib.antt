@@ -1,7 +1,3 @@
-pub mod Path
-pub mod Values
-pub mod Places
-pub mod Tree
-pub mod Body
-pub mod Script
-pub mod Schedule
+pub mod Bounds
+pub mod Reading
+pub mod Startable

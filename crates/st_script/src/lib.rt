@@ -1,19 +1,11 @@
-//! Reads scripts, which say where a run starts, and schedules, which say what choices it makes.
+//! Reads whole scripts, which say where a run starts, what policies are read with, and what the operator replies.
 #![tactic(auto)]
 
-pub mod body;
-pub mod path;
-pub mod schedule;
-pub mod script;
-pub mod tree;
-pub mod values;
+pub mod bodies;
+pub mod policies;
+pub mod reading;
 
-pub use body::{BodyRow, body_row, call_row, is_end, put_row, store_row};
-pub use schedule::{read_schedule, schedule_row};
-pub use script::{
-    INSTRUCTION_LIMIT, NamedProcess, ScriptFault, is_thread_row, process_row, read_script,
-};
-pub use tree::{Owner, TREE_LIMIT, TreeBuilder, TreePlace, is_tree_row, root_tree, tree_with_row};
+pub use reading::{ReadScript, read_script};
 
 #[cfg(test)]
 mod tests;

@@ -1,127 +1,130 @@
-use crate::path::is_absolute;
-use crate::{ScriptFault, read_schedule, read_script};
+use crate::{ReadScript, read_script};
 use st_calls::SysCall;
-use st_served::Schedule;
-use st_trace::{Instr, NewKind, Start};
+use st_law::{Mode, Options};
+use st_lex::LexFault;
+use st_script_faults::ScriptFault;
+use st_trace::Instr;
 use std::process::Abort;
 use std::test::Fail;
 
-fn script<R: Abort + AllocGlobal>(rt: &R, text: &[u8]) -> Result<Start, ScriptFault> {
+fn script<R: Abort + AllocGlobal>(rt: &R, text: &[u8]) -> Result<ReadScript, ScriptFault> {
     assert!(rt; text.len() < 1000);
-    read_script(rt.alloc(), text)
+    let options = Options {
+        mode: Mode::AskText,
+        inherit: false,
+        aliasing: true,
+        ids: Some((30, 30)),
+        workers: 1,
+    };
+    read_script(rt.alloc(), text, &options)
 }
 
+const EACH_ROW: &[u8] = b"reply \"$HOME/cgi\" native-bind: permit as www:www
+user www 30 30 \"/var/www\"
+group www 67
+dir \"/tmp\" 0 0 777
+file \"/tmp/f\" 1 2 0644 \"a\\x0a\"
+link \"/tmp/l\" 0 0 \"f\"
+process p untraced \"/bin/sh\" 0 0 \"/\"
+process q traced \"/bin/cat\" 0 0 \"/tmp\"
+
+thread a in q
+put 8 \"/tmp/lnk\"
+call open 8 0x200 420
+fork b
+end
+thread b
+store 8191 1
+end
+";
+
 #[test]
-fn one_process_and_one_thread_of_it(rt: HostRuntime) -> Result<(), Fail> {
-    let start = script(
-        &rt,
-        b"process p traced \"/bin/a\" 7 0x10 \"/\"\n\nthread a in p\ncall getpid\n call exit 0 5\nend\n",
-    )?;
-    let processes = start.processes.as_slice();
-    assert_eq!(rt; processes.len(), 1);
-    assert_eq!(rt; processes[0].binary.bytes(), b"/bin/a".as_slice());
-    assert_eq!(rt;
-        (processes[0].traced, processes[0].uid, processes[0].gid),
-        (true, 7, 16)
-    );
-    let threads = start.threads.as_slice();
-    assert_eq!(rt; threads.len(), 1);
-    assert_eq!(rt; threads[0].process, Some(1));
+fn a_script_with_each_row(rt: HostRuntime) -> Result<(), Fail> {
+    let start = script(&rt, EACH_ROW)?.start;
+    assert_eq!(rt; start.tree.len(), 3);
+    assert_eq!(rt; start.threads.len(), 2);
     let body = [
-        Instr::Call(SysCall::GetPid, [0; 6]),
-        Instr::Call(SysCall::Exit, [0, 5, 0, 0, 0, 0]),
+        Instr::Store(1, 0x6b6e6c2f706d742f),
+        Instr::Store(2, 0),
+        Instr::Call(SysCall::Open, [8, 0x200, 420, 0, 0, 0]),
+        Instr::Fork(2),
     ];
-    assert_eq!(rt; threads[0].body.as_slice(), body.as_slice());
-    Ok(())
-}
-
-#[test]
-fn a_tree_and_texts_in_memory(rt: HostRuntime) -> Result<(), Fail> {
-    let start = script(
-        &rt,
-        b"dir \"/etc\" 0 0 755\nfile \"/etc/motd\" 1 2 644 \"hi\"\nprocess p traced \"/bin/a\" 0 0 \"/\"\nthread a in p\nput 16 \"/etc/mot\"\nstore 3 100\ncall open 16\nend",
-    )?;
-    let tree = start.tree.as_slice();
-    assert_eq!(rt; tree.len(), 2);
-    assert!(rt; matches!(tree[0].new.kind, NewKind::Dir));
-    assert_eq!(rt;
-        (tree[1].new.uid, tree[1].new.gid, tree[1].new.mode),
-        (1, 2, 420)
-    );
-    assert_eq!(rt; tree[1].name.len(), 2);
-    let body = [
-        Instr::Store(2, 0x746f6d2f6374652f),
-        Instr::Store(3, 0),
-        Instr::Store(3, 100),
-        Instr::Call(SysCall::Open, [16, 0, 0, 0, 0, 0]),
-    ];
-    let threads = start.threads.as_slice();
-    assert_eq!(rt; threads.len(), 1);
-    assert_eq!(rt; threads[0].body.as_slice(), body.as_slice());
-    Ok(())
-}
-
-#[test]
-fn what_is_not_in_the_form_is_not_built(rt: HostRuntime) {
-    let texts = [
-        b"".as_slice(),
-        b"process p traced \"/bin/a\" 0 0 \"/\"\nthread a in p",
-        b"process p traced \"/bin/a\" 0 0 \"/\"\nthread a in q\nend",
-        b"process p traced \"/bin/a\" 0 0 \"/\"\nthread a in p\nend\nend",
-        b"process p untraced \"/bin/a\" 0 0 \"/\"\nthread a in p\nend",
-        b"process p traced \"bin/a\" 0 0 \"/\"\nthread a in p\nend",
-        b"process p traced \"/bin\\a\" 0 0 \"/\"\nthread a in p\nend",
-        b"process p traced \"/bin/a\" 4294967296 0 \"/\"\nthread a in p\nend",
-        b"process p traced \"/bin/a\" 0 0 \"/tmp\"\nthread a in p\nend",
-        b"process p traced \"/bin/a\" 0 0 \"/\"\nthread a in p\ncall open 0 1\nend",
-        b"process p traced \"/bin/a\" 0 0 \"/\"\nthread a in p\nstore 8192 0\nend",
-        b"process p traced \"/bin/a\" 0 0 \"/\"\nthread a in p\nput 4 \"a\"\nend",
-        b"process p traced \"/bin/a\" 0 0 \"/\"\nthread a in p\nput 65528 \"12345678\"\nend",
-        b"dir \"/a/b\" 0 0 755\nprocess p traced \"/bin/a\" 0 0 \"/\"\nthread a in p\nend",
-        b"dir \"/\" 0 0 755\nprocess p traced \"/bin/a\" 0 0 \"/\"\nthread a in p\nend",
-        b"dir \"/a\" 0 0 755\ndir \"/a\" 0 0 755\nprocess p traced \"/bin/a\" 0 0 \"/\"\nthread a in p\nend",
-        b"file \"/a\" 0 0 755 \"\"\ndir \"/a/b\" 0 0 755\nprocess p traced \"/bin/a\" 0 0 \"/\"\nthread a in p\nend",
-        b"dir \"/a\" 0 0 1000\nprocess p traced \"/bin/a\" 0 0 \"/\"\nthread a in p\nend",
-        b"process p traced \"/bin/a\" 0 0 \"/\"\nthread a in p\ncall exit 1 2 3 4 5 6 7\nend",
-        b"process p traced \"/bin/a\" 0 0 \"/\" # root\nthread a in p\nend",
-    ];
-    for text in texts {
-        assert!(rt; matches!(script(&rt, text), Err(ScriptFault::NotBuilt)));
-    }
-}
-
-#[test]
-fn names_are_absolute_and_normal(rt: HostRuntime) {
-    let cases: [(&[u8], bool); 10] = [
-        (b"/", true),
-        (b"/bin/a", true),
-        (b"/...", true),
-        (b"/a b", true),
-        (b"", false),
-        (b"a", false),
-        (b"//", false),
-        (b"/a/", false),
-        (b"/./a", false),
-        (b"/a/..", false),
-    ];
-    for (name, absolute) in cases {
-        assert_eq!(rt; is_absolute(name), absolute);
-    }
-}
-
-#[test]
-fn the_one_row_rest(rt: HostRuntime) -> Result<(), Fail> {
-    let cases = [
-        (b"\n rest \n".as_slice(), Some(Schedule::Rest)),
-        (b"rest", Some(Schedule::Rest)),
-        (b"rest\nrest", None),
-        (b"rest 1", None),
-        (b"thread 1", None),
-        (b"", None),
-    ];
-    for (text, schedule) in cases {
-        assert!(rt; text.len() < 1000);
-        assert_eq!(rt; read_schedule(rt.alloc(), text)?, schedule);
+    for thread in start.threads.as_slice() {
+        if thread.process.is_some() {
+            assert_eq!(rt; thread.process, Some(2));
+            assert_eq!(rt; thread.body.as_slice(), body.as_slice());
+        }
     }
     Ok(())
+}
+
+#[test]
+fn the_environment_of_a_script(rt: HostRuntime) -> Result<(), Fail> {
+    let read = script(&rt, EACH_ROW)?;
+    let dollars = &read.env.dollars;
+    assert_eq!(rt; dollars.home.bytes(), b"/var/www".as_slice());
+    assert_eq!(rt; dollars.user.bytes(), b"www".as_slice());
+    assert_eq!(rt; dollars.cwd.bytes(), b"/tmp".as_slice());
+    for reply in read.replies.as_slice() {
+        assert_eq!(rt; reply.binary.bytes(), b"/var/www/cgi".as_slice());
+    }
+    Ok(())
+}
+
+#[test]
+fn the_first_fault_of_a_script(rt: HostRuntime) {
+    let cases: [(&[u8], ScriptFault); 22] = [
+        (b"user a 0 0 \"h\" 1", ScriptFault::Expected(1)),
+        (b"\n\ngroup g 4294967296", ScriptFault::Expected(3)),
+        (b"dir \"/a//b\" 0 0 755", ScriptFault::Expected(1)),
+        (b"link \"/l\" 0 0 \"\"", ScriptFault::Expected(1)),
+        (b"call getpid", ScriptFault::Expected(1)),
+        (b"thread a\ncall fork\nend", ScriptFault::Expected(2)),
+        (
+            b"thread a\ndir \"/a\" 0 0 755\nend",
+            ScriptFault::Expected(2),
+        ),
+        (
+            b"thread a\nput 65528 \"12345678\"\nend",
+            ScriptFault::Expected(2),
+        ),
+        // a thread without an end, whose process isn't there either
+        (b"\nthread a in p\ncall getpid", ScriptFault::Expected(2)),
+        (b"thread a in p\nend", ScriptFault::UnknownName(1)),
+        (b"dir \"/a/b\" 0 0 755", ScriptFault::UnknownName(1)),
+        (b"thread a\nfork b\nend", ScriptFault::UnknownName(2)),
+        // behind a lexical fault the fork's thread may stand
+        (
+            b"thread a\nfork b\nend\n!",
+            ScriptFault::Lex(LexFault::BadByte(20)),
+        ),
+        (
+            b"thread a\nfork b\n!",
+            ScriptFault::Lex(LexFault::BadByte(16)),
+        ),
+        (b"end 1 !", ScriptFault::Lex(LexFault::BadByte(6))),
+        (b"end 1\n!", ScriptFault::Expected(1)),
+        (
+            b"user a 0 0 \"\"\nuser a 1 1 \"\"",
+            ScriptFault::Duplicate(2),
+        ),
+        (
+            b"thread a\nfork b\nfork b\nend\nthread b\nend",
+            ScriptFault::Duplicate(3),
+        ),
+        (b"reply \"/b\" native-bind: ask", ScriptFault::Expected(1)),
+        // a row with a fault gives the environment nothing
+        (
+            b"reply \"/b\" native-bind: permit as u\nuser u 5 5",
+            ScriptFault::Expected(1),
+        ),
+        (
+            b"reply \"/b\" native-bind: permit as u\nend\nuser u 5 5 \"\"",
+            ScriptFault::Expected(2),
+        ),
+        (b"dir \"$HOME\" 0 0 755", ScriptFault::Expected(1)),
+    ];
+    for (text, fault) in cases {
+        assert!(rt; matches!(script(&rt, text), Err(found) if found == fault));
+    }
 }

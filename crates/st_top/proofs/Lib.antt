@@ -1,2 +1,4 @@
-pub mod Meanings
-pub mod Endings
+mod Endings
+mod Outcomes
+mod Preparing
+mod Runs

@@ -1,80 +1,125 @@
--- How a call of the program ends, against what its words and files mean.
-use Rattle.std.specs.Prelude.{◌≡◌, ◌⊎◌, ℕ, List, Option, Result}
-use Rattle.std.specs.Prelude.{Ok, Err}
+-- How a call of the program ends, against what its words and files come to.
+use Rattle.std.specs.Prelude.{◌≡◌, ◌⊎◌, ℕ, List, [], Option, Some, None, Result, Ok, Err}
 use Rattle.st_outside.specs.Count.{HasRisen}
-use Rattle.st_outside.specs.Files.{FileView, Unknown, Absent, FileBytes, CanLack, CanExceed}
 use Rattle.st_outside.specs.Sink.{Appends, AppendsFront}
 use Rattle.st_trace.specs.declared.entry.Choice.{Choice}
-use Rattle.st_served.specs.declared.input.Input.{Input}
-use Rattle.st_served.specs.Lawful.{Lawful}
-use Rattle.st_served.specs.Machine.{run}
+use Rattle.st_law.specs.declared.input.Input.{Input}
+use Rattle.st_law.specs.declared.input.ReadSchedule.{ReadSchedule}
+use Rattle.st_law.specs.Lawful.{Lawful}
+use Rattle.st_law.specs.Machine.{run}
+use Rattle.st_law.specs.Schedules.{Choices, BadLine, played}
+use Rattle.st_command.specs.Words.{Word}
+use Rattle.st_command.specs.Command.{StepWords, CheckWords}
+use Rattle.st_command.specs.declared.command.Command.{Command}
+use Rattle.st_command.specs.declared.command.Command.TheVariants as command
+use Rattle.st_command.specs.declared.given.Print.{Print}
+use Rattle.st_reading.specs.Ends.{AskedTo, LastFits}
+use Rattle.st_reading.specs.Ends as reading
+use Rattle.st_reading.specs.Meaning.{Held, Meaning, Stops, Refuses, Runs, Prints, Means, names_of, names_to, last_file}
+use Rattle.st_reading.specs.declared.refusal.Refusal.TheVariants as refusal
+use Rattle.st_reading.specs.declared.refusal.Which.{Which}
+use Rattle.st_reading.specs.declared.refusal.Which.TheVariants as which
+use Rattle.st_top.specs.Outcome as outcome
+use Rattle.st_top.specs.Outcome.{Outcome, printed}
+use Rattle.st_top.specs.Served.{served_in}
 use Rattle.st_top.specs.declared.status.Status.{Status}
-use Rattle.st_top.specs.declared.status.Status.TheVariants.{Done, Missing, Usage, Policy, ReadFault, WriteFault, NoMemory, TooLong, NotBuilt}
-use Rattle.st_top.specs.declared.status.Which.{Which}
-use Rattle.st_top.specs.Meaning.{Meaning, Stops, Refuses, Writes, Prints}
+use Rattle.st_top.specs.declared.status.Status.TheVariants.{Done, Missing, Usage, Policy, Script, ReadFault, WriteFault, NoMemory, Schedule, TooLong}
 
--- a text is what is meant to be written of some run, and the run is lawful
-pub record IsMeantRun (Meant : Meaning → Type 0) (text : List ℕ) : Type 0 where
+-- ---- what is written
+
+-- a text is the one that is asked for of the run that `step` and its files mean, and the run is lawful
+pub record IsOfRun (held : Held) (step : StepWords) (text : List ℕ) : Type 0 where
   pub input : Input
+  pub schedule : ReadSchedule
   pub choices : List Choice
-  pub meant : Meant (Writes input choices text)
+  pub meant : Means held (command.Step step) (Runs input schedule)
+  pub played_to : played input schedule ≡ Choices choices
   pub lawful : Lawful input (run input choices)
+  pub text_is : text ≡ printed step.print input choices
 
--- a text is what is meant to be written: that of a lawful run, or one of no run
-abbrev pub IsMeant : (Meaning → Type 0) → List ℕ → Type 0
-IsMeant Meant text = IsMeantRun Meant text ⊎ Meant (Prints text)
+-- a text is what a command and its files mean to be written
+abbrev pub IsMeant : Held → Command → List ℕ → Type 0
+IsMeant held (command.Step step) text = IsOfRun held step text
+IsMeant held (command.Check check) text = Means held (command.Check check) (Prints text)
 
--- some file is come to, with all before it as it has to be
-abbrev pub IsStopped : (Meaning → Type 0) → Type 0
-IsStopped Meant = (which : Which) × Meant (Stops which)
+-- ---- what refuses
 
--- before anything is written: a status is meant, or a file that is come to can't be read and the files' count of faults rose, or
--- memory is wanting
-abbrev pub Refused : (Meaning → Type 0) → ℕ → ℕ → Status → Type 0
-Refused Meant old new Usage = Meant (Refuses Usage)
-Refused Meant old new (Missing which) = Meant (Refuses (Missing which))
-Refused Meant old new (TooLong which) = Meant (Refuses (TooLong which))
-Refused Meant old new (NotBuilt which) = Meant (Refuses (NotBuilt which))
-Refused Meant old new (Policy file fault) = Meant (Refuses (Policy file fault))
-Refused Meant old new ReadFault = HasRisen old new × IsStopped Meant
-Refused Meant old new NoMemory = Unit {0}
-Refused Meant old new Done = ⊥
-Refused Meant old new WriteFault = ⊥
+-- a line of the schedule is bad: the schedule of the run that is meant comes to it
+pub record HasBadLine (held : Held) (c : Command) (line : ℕ) : Type 0 where
+  pub input : Input
+  pub schedule : ReadSchedule
+  pub meant : Means held c (Runs input schedule)
+  pub bad : played input schedule ≡ BadLine line
 
--- why a file was not fetched
-abbrev pub FetchRefused : FileView → Which → ℕ → ℕ → Status → Type 0
-FetchRefused held which old new (Missing other) = (other ≡ which) × CanLack held
-FetchRefused held which old new (TooLong other) = (other ≡ which) × CanExceed held
-FetchRefused held which old new ReadFault = HasRisen old new
-FetchRefused held which old new NoMemory = Unit {0}
-FetchRefused held which old new (NotBuilt other) = ⊥
-FetchRefused held which old new (Policy file fault) = ⊥
-FetchRefused held which old new Usage = ⊥
-FetchRefused held which old new Done = ⊥
-FetchRefused held which old new WriteFault = ⊥
+-- memory was wanting while the command was read, or once all of it was
+abbrev pub WantsMemory : Held → Command → List Word → List Word → Type 0
+WantsMemory held c old new = reading.WantsMemory held c old new ⊎ AskedTo c (last_file c) old new
 
--- what is ready before anything is written: a text that is meant, or a status that refuses
-abbrev pub Prepares : (Meaning → Type 0) → ℕ → ℕ → Result (List ℕ) Status → Type 0
-Prepares Meant old new (Ok text) = IsMeant Meant text
-Prepares Meant old new (Err status) = Refused Meant old new status
+-- before anything is written: a status is meant, and the names up to the file that it is of were asked for; or a file that is come to
+-- can't be read and the count of faults rose; or memory is wanting
+abbrev pub Refused : Held → Command → ℕ → ℕ → List Word → List Word → Status → Type 0
+Refused held c faults faults_after old new (Missing w) = Means held c (Refuses (refusal.Missing w)) × AskedTo c w old new
+Refused held c faults faults_after old new (TooLong w) = Means held c (Refuses (refusal.TooLong w)) × AskedTo c w old new
+Refused held c faults faults_after old new (Script fault) = Means held c (Refuses (refusal.Script fault)) × AskedTo c which.Script old new
+Refused held c faults faults_after old new (Policy n fault) = Means held c (Refuses (refusal.Policy n fault)) × AskedTo c (which.Policy n) old new
+Refused held c faults faults_after old new (Schedule line) = HasBadLine held c line × AskedTo c which.Schedule old new
+Refused held c faults faults_after old new ReadFault = HasRisen faults faults_after × ((w : Which) × reading.StopsAt held c old new w)
+Refused held c faults faults_after old new NoMemory = WantsMemory held c old new
+Refused held c faults faults_after old new Usage = ⊥
+Refused held c faults faults_after old new Done = ⊥
+Refused held c faults faults_after old new WriteFault = ⊥
 
--- a text that is meant was written, all of it
-abbrev pub WritesWhole : (Meaning → Type 0) → Option (List ℕ) → Option (List ℕ) → Type 0
-WritesWhole Meant old new = (text : List ℕ) × IsMeant Meant text × Appends old new text
+-- what is ready before anything is written: a text that is meant, all names asked for, or a status that refuses
+abbrev pub Prepares : Held → Command → ℕ → ℕ → List Word → List Word → Result (List ℕ) Status → Type 0
+Prepares held c faults faults_after old new (Ok text) = IsMeant held c text × AskedTo c (last_file c) old new
+Prepares held c faults faults_after old new (Err status) = Refused held c faults faults_after old new status
 
--- of a text that is meant a front was written
-abbrev pub WritesFront : (Meaning → Type 0) → Option (List ℕ) → Option (List ℕ) → Type 0
-WritesFront Meant old new = (text : List ℕ) × IsMeant Meant text × AppendsFront old new text
+-- ---- how a command ends
 
--- whether the name holds a file is told, and which
-abbrev pub IsTold : FileView → Type 0
-IsTold Unknown = ⊥
-IsTold Absent = Unit {0}
-IsTold (FileBytes text) = Unit {0}
+-- a text that is meant was written, all of it, or a front of it where writing failed; or a status refuses and nothing was written
+abbrev pub Ends : Held → Command → ℕ → ℕ → List Word → List Word → ℕ → ℕ → Option (List ℕ) → Option (List ℕ) → Status → Type 0
+Ends held c faults faults_after asked asked_after sink sink_after old new Done =
+    ((text : List ℕ) × IsMeant held c text × Appends old new text) × AskedTo c (last_file c) asked asked_after
+Ends held c faults faults_after asked asked_after sink sink_after old new WriteFault =
+    HasRisen sink sink_after × ((text : List ℕ) × IsMeant held c text × AppendsFront old new text) × AskedTo c (last_file c) asked asked_after
+Ends held c faults faults_after asked asked_after sink sink_after old new status = Refused held c faults faults_after asked asked_after status × (new ≡ old)
+
+-- ---- runs
+
+-- what is shown of the run by a schedule, or why there is no run
+abbrev pub RunShown : Print → Input → ReadSchedule → Result (List ℕ) Status → Type 0
+RunShown print i schedule (Ok text) = (choices : List Choice) × (played i schedule ≡ Choices choices) × (text ≡ printed print i choices)
+RunShown print i schedule (Err (Schedule line)) = played i schedule ≡ BadLine line
+RunShown print i schedule (Err NoMemory) = Unit {0}
+RunShown print i schedule (Err _) = ⊥
+
+-- ---- by the words
+
+-- words spell a command that is served, which with its files means this, and its names up to this file were asked for
+pub record Meets (words : List Word) (held : Held) (m : Meaning) (w : Which) (old new : List Word) : Type 0 where
+  pub served : Command
+  pub spelled : served_in words ≡ Some served
+  pub meant : Means held served m
+  pub asked : AskedTo served w old new
+
+-- a text is what words and files mean to be written
+pub record IsMeantBy (words : List Word) (held : Held) (text : List ℕ) : Type 0 where
+  pub served : Command
+  pub spelled : served_in words ≡ Some served
+  pub meant : IsMeant held served text
+
+-- memory was wanting: before any file was asked for, or for a command
+abbrev pub WantsMemoryFor : Held → Option Command → List Word → List Word → Type 0
+WantsMemoryFor held None old new = new ≡ old
+WantsMemoryFor held (Some c) old new = WantsMemory held c old new
+
+-- the names that a command asks for, if it asks for any
+abbrev pub names_asked : Option Command → List Word
+names_asked None = []
+names_asked (Some c) = names_of c
 
 -- the status is that of the outcome, and the outcome's text was written; of a stop nothing is said here
-abbrev pub Ends : Meaning → Option (List ℕ) → Option (List ℕ) → Status → Type 0
-Ends (Stops which) old new status = Unit {0}
-Ends (Refuses refusal) old new status = status ≡ refusal
-Ends (Writes input choices text) old new status = (status ≡ Done) × Appends old new text
-Ends (Prints text) old new status = (status ≡ Done) × Appends old new text
+abbrev pub EndsAs : Outcome → Option (List ℕ) → Option (List ℕ) → Status → Type 0
+EndsAs (outcome.Stops w) old new status = Unit {0}
+EndsAs (outcome.Refuses refused) old new status = status ≡ refused
+EndsAs (outcome.Writes text) old new status = (status ≡ Done) × Appends old new text

@@ -1,6 +1,4 @@
-pub mod Command
-pub mod Envs
-pub mod Readings
-pub mod Meaning
-pub mod Ends
 pub mod Number
+pub mod Served
+pub mod Outcome
+pub mod Ends

@@ -1,15 +1,15 @@
-//! The top calls of the program: words, files and a sink in, one status out.
+//! The top call of the program: words, files and a sink in, one status out.
 #![tactic(auto)]
 
-pub mod command;
-pub mod envs;
 pub mod law;
 pub mod plain;
+mod run;
+mod served;
 pub mod status;
 
-pub use envs::{check_env, script_env};
 pub use plain::systrace_plain;
-pub use status::{Status, Which};
+pub use st_reading::Which;
+pub use status::Status;
 
 #[cfg(test)]
 mod tests;

@@ -1,17 +1,11 @@
 ghost use Rattle.std.specs.Prelude.{◌≡◌};
 ghost use Rattle.st_top.specs.Number.{number_of_status};
 
+use st_kernel::PlayFault;
 use st_policy::PolicyFault;
+use st_reading::{Refusal, Which};
+use st_script_faults::ScriptFault;
 use std::alloc::AllocError;
-
-/// A file that a command names.
-#[derive(Clone, Copy, Debug, PartialEq, Eq)]
-pub enum Which {
-    /// The policy file of this number, from 1.
-    Policy(u32),
-    Script,
-    Schedule,
-}
 
 /// How a call of the program ends.
 #[derive(Clone, Copy, Debug, PartialEq, Eq)]
@@ -20,19 +14,21 @@ pub enum Status {
     Done,
     /// No file of that name is held.
     Missing(Which),
-    /// The words are no command.
+    /// The words are no command, or ask for what isn't built.
     Usage,
     /// The policy file of this number, from 1, is refused, with its leftmost fault.
     Policy(u32, PolicyFault),
+    /// The script is refused, with its first fault.
+    Script(ScriptFault),
     /// A file could not be read.
     ReadFault,
     /// The text could not be written; what was written is a front of it.
     WriteFault,
     NoMemory,
+    /// This line of the schedule, from 1, is the first that isn't in the grammar or whose choice isn't enabled at its turn.
+    Schedule(u32),
     /// The file holds more than 1,048,576 bytes.
     TooLong(Which),
-    /// The file isn't in a form that is built.
-    NotBuilt(Which),
 }
 
 impl Status {
@@ -45,11 +41,12 @@ impl Status {
             Status::Missing(_) => 1,
             Status::Usage => 2,
             Status::Policy(_, _) => 3,
+            Status::Script(_) => 4,
             Status::ReadFault => 5,
             Status::WriteFault => 6,
             Status::NoMemory => 7,
+            Status::Schedule(_) => 8,
             Status::TooLong(_) => 9,
-            Status::NotBuilt(_) => 11,
         }
     }
 }
@@ -61,5 +58,35 @@ impl From<AllocError> for Status {
 
     fn from(_error: AllocError) -> Self {
         Status::NoMemory
+    }
+}
+
+impl From<Refusal> for Status {
+    ghost use Rattle.st_top.specs.Outcome.{status_of};
+
+    ghost from_gives = { λ refusal status. status ≡ status_of refusal };
+
+    fn from(refusal: Refusal) -> Self {
+        match refusal {
+            Refusal::Missing(which) => Status::Missing(which),
+            Refusal::TooLong(which) => Status::TooLong(which),
+            Refusal::ReadFault => Status::ReadFault,
+            Refusal::Script(fault) => Status::Script(fault),
+            Refusal::Policy(file, fault) => Status::Policy(file, fault),
+            Refusal::NoMemory => Status::NoMemory,
+        }
+    }
+}
+
+impl From<PlayFault> for Status {
+    ghost use Rattle.st_top.specs.Outcome.{status_of_play};
+
+    ghost from_gives = { λ fault status. status ≡ status_of_play fault };
+
+    fn from(fault: PlayFault) -> Self {
+        match fault {
+            PlayFault::BadLine(line) => Status::Schedule(line),
+            PlayFault::NoMemory => Status::NoMemory,
+        }
     }
 }

@@ -1,24 +1,40 @@
 ghost use Rattle.std.specs.Prelude.{◌≡◌, None, IsSome};
-ghost use Rattle.st_top.specs.Command.{command_in};
+ghost use Rattle.st_command.specs.Reading.{command_in};
 
 use st_base::Text;
 
 const HELP: &str =
-    "systrace runs the system calls of a script under a policy, and prints what became of each.
+    "systrace runs the system calls of a script under policies, and prints what became of each.
 
-usage: systrace step -f POLICY SCRIPT SCHEDULE
-       systrace check [-c U:G] POLICY
+usage: systrace step [OPTION]... SCRIPT SCHEDULE
+       systrace check [-c U:G] POLICY [SCRIPT]
        systrace --help
        systrace --version
 
-step      runs the script under the policy in the order of the schedule, and writes a line for each call
-check     reads a policy, and writes it in its canonical form, or tells its first fault
+step      runs the script under the policies, in the order of the schedule
+check     reads a policy, and writes it in its canonical form
 
--c U:G    the ids of a user and of a group, as decimals: with them the filters of a policy may grant ids, by 'as'
-POLICY    the policy of a binary: which of its system calls are permitted, and which are denied
-SCRIPT    the files that are there, the process that runs, its thread, and what the thread does: the words that it stores
-          in memory, and the system calls that it makes
-SCHEDULE  the order in which the threads run: the one line 'rest' runs them to their end
+Options of step, in any order, each once but for -f:
+
+-f POLICY      a file of policies; up to eight, each read behind those before it
+-a             denies a call that no filter decides, as is done without it
+-i             lets a process keep its policy when it executes another binary
+-u             judges each call under its own name, and not as fsread or fswrite
+-c U:G         the user and the group of each traced process, as decimals; with them filters may grant ids, by 'as'
+-w N           how many workers copy and judge the arguments of calls, 1 to 8; without it 1
+--print KIND   audit: a line for each call of a traced process, as without it
+               trace: a line for each thing that happens
+               schedule: the choices that were made, as a schedule
+
+-c of check lets the filters of the policy grant ids.
+
+POLICY    for a binary, which of its system calls are permitted, and which are denied
+SCRIPT    the users, the files, the processes with their threads, and what each thread does: words that it stores
+          in memory, and system calls that it makes; check takes the names of users and groups from it
+SCHEDULE  who moves when: lines 'thread N' and 'worker N', behind which a count may stand, and 'rest', which goes
+          on until nobody can move
+
+The exit status is 0 where all was written. Else a line on standard error says why not.
 ";
 
 const VERSION: &str = "systrace 0.1.0\n";

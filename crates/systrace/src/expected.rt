@@ -1,4 +1,4 @@
-use st_lex::LexFault;
+use crate::shown::token_for;
 use st_policy::{Place, PolicyFault, Unsupported, Who};
 
 const FILTER_OR_HEADER: &str =
@@ -68,11 +68,7 @@ fn at_most(place: Place) -> &'static str {
 /// What was expected where a policy has a fault at this place in the grammar.
 pub fn expected_of(fault: PolicyFault, place: Place) -> &'static str {
     match fault {
-        PolicyFault::Lex(LexFault::BadByte(_)) => "a token",
-        PolicyFault::Lex(LexFault::OpenQuote(_)) => "a text that is closed on its line",
-        PolicyFault::Lex(LexFault::BadEscape(_)) => {
-            "'\\x' and two hexadecimal digits that aren't 00"
-        }
+        PolicyFault::Lex(fault) => token_for(fault),
         PolicyFault::Expected(_) | PolicyFault::NoMemory => expected_at(place),
         PolicyFault::UnknownCall(_) => "'native-' and letters, digits or '_'",
         PolicyFault::UnknownArgument(_) => "an argument of the call",

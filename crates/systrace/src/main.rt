@@ -1,4 +1,4 @@
-//! The command line over the top call: words in, the audit of a run on standard output, a number out.
+//! The command line over the top call: words in, what they ask for on standard output, a number out, and on standard error why not.
 #![tactic(auto)]
 
 ghost use Rattle.std.specs.Prelude.{◌≡◌};
@@ -7,22 +7,28 @@ ghost use Rattle.st_top.specs.Number.{number_of_status};
 
 mod answer;
 mod expected;
+mod kept;
 mod message;
-mod misfit;
+mod names;
+mod policy_fault;
 mod position;
-mod refusal;
+mod row;
+mod schedule_fault;
+mod script_fault;
+mod shown;
+mod sources;
+mod telling;
+#[cfg(test)]
+mod tests;
 
 use crate::answer::answer_of;
-use crate::message::{OUT_OF_MEMORY, message, misfit_message, word_of};
-use crate::misfit::misfit_in;
-use crate::refusal::refusal_message;
+use crate::kept::KeptFiles;
+use crate::message::OUT_OF_MEMORY;
+use crate::telling::line_of;
 use st_base::Text;
-use st_outside::{Files as _, StdFiles, StdSink};
-use st_policy::PolicyFault;
-use st_script::read_script;
-use st_top::command::{check_of, step_of};
-use st_top::{Status, Which, check_env, script_env, systrace_plain};
-use std::alloc::AllocError;
+use st_outside::{MemoryFiles, StdFiles, StdSink};
+use st_top::{Status, systrace_plain};
+use std::alloc::{AllocError, Global};
 use std::process::ExitCode;
 use std::rt::{Env, Files};
 use std::{env, io};
@@ -39,91 +45,26 @@ fn words_of<R: Env + AllocGlobal>(rt: &R) -> io::Result<Vec<Text>> {
     Ok(words)
 }
 
-fn serve<R: Files + Print + AllocGlobal>(rt: &R, words: &[Text]) -> Status {
+// How words end, and the files that were read for them.
+fn serve<R: Files + Print + AllocGlobal>(rt: &R, words: &[Text]) -> (Status, MemoryFiles) {
+    let alloc = rt.alloc();
     match answer_of(words) {
         Some(answer) => match rt.print(answer) {
-            Ok(()) => Status::Done,
-            Err(_) => Status::WriteFault,
+            Ok(()) => (Status::Done, MemoryFiles::new(alloc)),
+            Err(_) => (Status::WriteFault, MemoryFiles::new(alloc)),
         },
         None => {
-            let mut files = StdFiles::new(rt);
+            let mut files = KeptFiles::new(alloc, StdFiles::new(rt));
             let mut out = StdSink::new(rt);
-            systrace_plain(rt.alloc(), words, &mut files, &mut out)
+            let status = systrace_plain(alloc, words, &mut files, &mut out);
+            (status, files.into_kept())
         }
     }
 }
 
-// Where a file isn't in the form that is run, it is read again to tell where it leaves it.
-fn misfit_line<R: Files + AllocGlobal>(
-    rt: &R,
-    which: Which,
-    words: &[Text],
-) -> Result<Option<Text>, AllocError> {
-    let alloc = rt.alloc();
-    if let Some(name) = word_of(words, which)
-        && let Ok(text) = StdFiles::new(rt).fetch(alloc, name)
-        && let Some(misfit) = misfit_in(alloc, which, text.bytes())?
-    {
-        return Ok(Some(misfit_message(alloc, name.bytes(), &misfit)?));
-    }
-    Ok(None)
-}
-
-// What the policies of a command are read with; of `step`, by its script, which is read again.
-fn env_of<R: Files + AllocGlobal>(
-    rt: &R,
-    words: &[Text],
-) -> Result<Option<st_policy::Env>, AllocError> {
-    let alloc = rt.alloc();
-    if let Some(check) = check_of(words) {
-        return Ok(Some(check_env(alloc, check.elevate)?));
-    }
-    if let Some(step) = step_of(words)
-        && let Ok(text) = StdFiles::new(rt).fetch(alloc, step.script)
-        && let Ok(start) = read_script(alloc, text.bytes())
-    {
-        return Ok(Some(script_env(alloc, &start)?));
-    }
-    Ok(None)
-}
-
-// Where a policy file is refused, it is read again to tell what stands there.
-fn refusal_line<R: Files + AllocGlobal>(
-    rt: &R,
-    file: u32,
-    fault: PolicyFault,
-    words: &[Text],
-) -> Result<Option<Text>, AllocError> {
-    let alloc = rt.alloc();
-    if let Some(name) = word_of(words, Which::Policy(file))
-        && let Some(env) = env_of(rt, words)?
-        && let Ok(text) = StdFiles::new(rt).fetch(alloc, name)
-    {
-        return refusal_message(alloc, name.bytes(), text.bytes(), &env, fault);
-    }
-    Ok(None)
-}
-
-// The line for a status.
-fn line_of<R: Files + AllocGlobal>(
-    rt: &R,
-    status: Status,
-    words: &[Text],
-) -> Result<Text, AllocError> {
-    let told = match status {
-        Status::NotBuilt(which) => misfit_line(rt, which, words)?,
-        Status::Policy(file, fault) => refusal_line(rt, file, fault, words)?,
-        _ => None,
-    };
-    match told {
-        Some(line) => Ok(line),
-        None => message(rt.alloc(), status, words),
-    }
-}
-
 // Tells a person of a status. A failed write is ignored, since there is nobody else to tell.
-fn tell<R: Files + AllocGlobal>(rt: &R, err: &impl Print, status: Status, words: &[Text]) {
-    let _ = match line_of(rt, status, words) {
+fn tell(alloc: Global, err: &impl Print, status: Status, words: &[Text], files: &mut MemoryFiles) {
+    let _ = match line_of(alloc, files, words, status) {
         Ok(mut line) => match line.push(b'\n') {
             Ok(()) => err.write_all(line.bytes()),
             Err(_) => err.println(OUT_OF_MEMORY),
@@ -132,26 +73,37 @@ fn tell<R: Files + AllocGlobal>(rt: &R, err: &impl Print, status: Status, words:
     };
 }
 
-fn end<R: Files + AllocGlobal>(rt: &R, err: &impl Print, status: Status, words: &[Text]) -> ExitCode
+// How the program ends with this status, over the files that were read.
+fn end(
+    alloc: Global,
+    err: &impl Print,
+    status: Status,
+    words: &[Text],
+    files: &mut MemoryFiles,
+) -> ExitCode
     ensures { exit_status result ≡ number_of_status status }
 {
     if status != Status::Done {
-        tell(rt, err, status, words);
+        tell(alloc, err, status, words, files);
     }
     ExitCode::from(status.number())
 }
 
 fn main(rt: HostRuntime) -> ExitCode {
+    let alloc = rt.alloc();
     let err = rt.stderr();
     match words_of(&rt) {
         Ok(words) => {
-            let status = serve(&rt, words.as_slice());
-            end(&rt, &err, status, words.as_slice())
+            let (status, mut files) = serve(&rt, words.as_slice());
+            end(alloc, &err, status, words.as_slice(), &mut files)
         }
-        // A word that is no text is no word of a command.
-        Err(error) if error.kind() == io::ErrorKind::InvalidData => {
-            end(&rt, &err, Status::Usage, &[])
+        Err(error) => {
+            // A word that is no text is no word of a command.
+            let status = match error.kind() {
+                io::ErrorKind::InvalidData => Status::Usage,
+                _ => Status::NoMemory,
+            };
+            end(alloc, &err, status, &[], &mut MemoryFiles::new(alloc))
         }
-        Err(_) => end(&rt, &err, Status::NoMemory, &[]),
     }
 }

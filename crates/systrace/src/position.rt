@@ -1,6 +1,3 @@
-use st_base::Text;
-use std::alloc::{AllocError, Global};
-
 /// Where a byte stands in a text: its line, and its place in the line, each from 1.
 #[derive(Clone, Copy, Debug, PartialEq, Eq)]
 pub struct Position {
@@ -39,14 +36,12 @@ pub fn position_in(text: &[u8], at: usize) -> Position {
     }
 }
 
-/// The front of a line that tells what was found at a position in a file.
-pub fn found_at(alloc: Global, name: &[u8], position: Position) -> Result<Text, AllocError> {
-    let mut line = Text::of(alloc, b"systrace: ")?;
-    line.append(name)?;
-    line.push(b':')?;
-    line.append_number(position.line as u64)?;
-    line.push(b':')?;
-    line.append_number(position.column as u64)?;
-    line.append(b": found ")?;
-    Ok(line)
+/// The line of this number, from 1; nothing behind the last.
+pub fn line_numbered(text: &[u8], number: u32) -> &[u8] {
+    let mut rest = text;
+    for _ in 1..number {
+        let len = rest.iter().take_while(|byte| **byte != b'\n').count();
+        rest = &rest[rest.len().min(len.saturating_add(1))..];
+    }
+    rest_of_line(rest, 0)
 }

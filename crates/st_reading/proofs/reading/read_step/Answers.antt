@@ -1,5 +1,5 @@
 use Rattle.std.proofs.Common.{◌≡◌, ◌≢◌, ap, ◌∙◌, subst, [], ◌∷◌, ◌++◌, refl, Ok, Err}
-use Rattle.st_whole_script.specs.Startable.{input_with}
+use Rattle.st_script.specs.Startable.{input_with}
 use Rattle.st_schedule.specs.Schedule.{schedule_in}
 use Rattle.st_command.specs.Command.{StepWords}
 use Rattle.st_command.specs.declared.command.Command.TheVariants as command

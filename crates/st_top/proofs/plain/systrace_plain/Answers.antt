@@ -1,20 +1,14 @@
-use Rattle.std.proofs.Common.{subst}
-use Rattle.st_outside.specs.Sink.{Appends}
-use Rattle.st_top.specs.Meaning.{Means}
-use Rattle.st_top.proofs.Meanings.{one_meaning}
-use Rattle.st_top.proofs.Endings.{ends_written, ends_refused}
+use Rattle.std.proofs.Common.{sym, ◌∙◌}
+use Rattle.st_command.specs.Reading.{command_in}
+use Rattle.st_top.proofs.Outcomes.{ended_as}
+use Rattle.st_top.proofs.Preparing.{spelled_is_served}
 use Rattle.st_top.proofs.plain.systrace_plain.Goals as goal
 
-pub returns-in-Ok-write_all-clause-complete : goal.returns-in-Ok-write_all-clause-complete
-returns-in-Ok-write_all-clause-complete g c told files_quiet sink_quiet =
-    ends_written (Means c.args.words.now (g.F.Files.held c.args.files.now)) c.in-Ok.text (g.S.Sink.written c.args.out.now) (g.S.Sink.written c.write_all.new.out)
-    (λ a b u v p q. one_meaning c.args.words.now (g.F.Files.held c.args.files.now) a b told u v p q)
-    c.in-Ok.ensures.prepares
-    (subst (λ text. Appends (g.S.Sink.written c.args.out.now) (g.S.Sink.written c.write_all.new.out) text) c.bytes.ensures c.in-Ok-write_all.ensures.ok)
+pub serve-requires-clause-served : goal.serve-requires-clause-served
+serve-requires-clause-served g c = spelled_is_served (command_in c.args.words.now) c.in-Ok-Some.command (sym c.in-Ok-Some.ensures.is ∙ c.in-Ok-Some.field-0-is)
 
-pub returns-clause-complete : goal.returns-clause-complete
-returns-clause-complete g c told files_quiet sink_quiet =
-    ends_refused (Means c.args.words.now (g.F.Files.held c.args.files.now)) (g.F.Files.faults c.args.files.now) (g.F.Files.faults c.prepare.new.files)
-    (g.S.Sink.written c.args.out.now) (g.S.Sink.written c.args.out.now) c.in-Err.status
-    (λ a b u v p q. one_meaning c.args.words.now (g.F.Files.held c.args.files.now) a b told u v p q)
-    c.in-Err.ensures.prepares files_quiet
+pub returns-in-Ok-Some-clause-complete : goal.returns-in-Ok-Some-clause-complete
+returns-in-Ok-Some-clause-complete g c = λ told quiet sink_quiet outcome go comes.
+    ended_as (g.F.Files.held c.args.files.now) (g.F.Files.faults c.args.files.now) (g.F.Files.faults c.serve.new.files) (g.F.Files.asked c.args.files.now) (g.F.Files.asked c.serve.new.files)
+    (g.S.Sink.faults c.args.out.now) (g.S.Sink.faults c.serve.new.out) (g.S.Sink.written c.args.out.now) (g.S.Sink.written c.serve.new.out)
+    c.in-Ok-Some.command c.serve.result c.serve.ensures.ends quiet sink_quiet c.args.words.now (sym c.in-Ok-Some.ensures.is ∙ c.in-Ok-Some.field-0-is) told outcome go comes

@@ -1,6 +1,11 @@
-use Rattle.st_served.proofs.Laws.{run_lawful}
+use Rattle.std.proofs.Common.{◌∙◌, sym, subst}
+use Rattle.st_law.proofs.Laws.{run_lawful}
+use Rattle.st_law.specs.Lawful.{Lawful}
+use Rattle.st_kernel.specs.Kernel.{Course}
 use Rattle.st_kernel.proofs.kernel.Kernel.trace.Goals as goal
 
 pub returns-clause-lawful : goal.returns-clause-lawful
 returns-clause-lawful c =
-    rw (← c.self.view_is, c.as_slice.ensures.value, c.self.invariant.run_is) (run_lawful c.self.inside.setup c.self.inside.schedule.items)
+    let m = c.self.inside.machine in
+    let lawful : Lawful m.input c.as_slice.result.now = subst (Lawful m.input) (sym (c.as_slice.ensures.value ∙ c.self.invariant.trace_is)) (run_lawful m.input c.self.invariant.machine.reached.startable c.self.inside.schedule.items) in
+    subst (λ (course : Course). Lawful course.input c.as_slice.result.now) c.self.view_is lawful

@@ -1,0 +1,220 @@
+-- What the entries of a lawful history tell of held calls is what looking back says of them.
+use Rattle.std.proofs.Common.{◌≡◌, ℕ, suc, Bool, true, false, cond, ◌==◌, ◌&&◌, ◌||◌, List, [], ◌∷◌, ◌++◌, length, Option, Some, None, option_map, reverse, refl, sym, ap, subst, ◌∙◌}
+use Rattle.std.proofs.lemmas.Bool.{and_parts, eqb-true}
+use Rattle.st_base.specs.Numbered.{item_at_number}
+use Rattle.st_base.specs.declared.errno.Errno.{Errno}
+use Rattle.st_base.specs.declared.ids.Ids.{Ids}
+use Rattle.st_calls.specs.declared.argument.ArgText.{ArgText}
+use Rattle.st_calls.specs.declared.call.SysCall.{SysCall}
+use Rattle.st_calls.specs.declared.judged.Snapshot.{Snapshot}
+use Rattle.st_calls.specs.declared.judged.Verdict.{Verdict}
+use Rattle.st_filter.specs.Judging.{verdict, verdict_from}
+use Rattle.st_trace.specs.declared.entry.CallResult.{CallResult}
+use Rattle.st_trace.specs.declared.entry.CallResult.TheVariants.{Failed}
+use Rattle.st_trace.specs.declared.entry.Cause.{Cause}
+use Rattle.st_trace.specs.declared.entry.Cause.TheVariants.{Filter, NoFilter, Fault, Link}
+use Rattle.st_trace.specs.declared.entry.Change.{Change}
+use Rattle.st_trace.specs.declared.entry.Entry.{Entry}
+use Rattle.st_trace.specs.declared.entry.Entry.TheVariants.{Stored, Entered, Claimed, Copied, Looked, Faulted, Answered, Used, Denied, Ended, Replied, Learned}
+use Rattle.st_law.specs.declared.input.Input.{Input}
+use Rattle.st_law.specs.History.{looking_back, session_at}
+use Rattle.st_law.specs.Inputs.{IsStartable}
+use Rattle.st_law.specs.Lawful.{IsDeniedHeld, IsJudged, IsLawfulBack, IsLearned, IsReplied, IsUsedHeld, Lawful}
+use Rattle.st_law.specs.Messages.{is_answered_at}
+use Rattle.st_law.specs.Sessions.{SessionFilter, learnt_by, replied_by, session_filters, verdict_or}
+use Rattle.st_law.specs.State.{is_live, is_open_question, is_question, read_for, snapshot_in}
+use Rattle.st_law.specs.Threads.{History, owner_at}
+use Rattle.st_law.proofs.Standing.{Stands, answer_stands}
+use Rattle.st_audit.specs.AuditText.{audit, audit_back, call_line, denied_line, ending_text, line_of}
+use Rattle.st_audit.specs.How.{Decided, args_used, decided_by, decided_in, decided_on, how_denied, how_used, is_logged, number_of, parts_of, seq_told}
+use Rattle.st_audit.specs.Rows.{entered_at, row_at}
+use Rattle.st_audit.specs.Told.{answer_of, answer_with, audit_told, copies_of, decided_told, session_told, told_back, told_line}
+
+-- ---- answers
+
+-- where a number was answered, some entry is its newest applied answer
+record Found (h : History) (q : ℕ) : Type 0 where
+  later : History
+  worker : ℕ
+  copies : Snapshot
+  verdict : Verdict
+  earlier : History
+  split : h ≡ later ++ Answered worker copies verdict true ∷ earlier
+  number : copies.seq ≡ q
+  newest : answer_of h q ≡ Some (answer_with copies verdict)
+
+behind : (e : Entry) (h : History) (q : ℕ) (x : Found h q) → answer_of (e ∷ h) q ≡ answer_of h q → Found (e ∷ h) q
+behind e h q x same = record {
+  later = e ∷ x.later;
+  worker = x.worker;
+  copies = x.copies;
+  verdict = x.verdict;
+  earlier = x.earlier;
+  split = ap (λ rest. e ∷ rest) x.split;
+  number = x.number;
+  newest = same ∙ x.newest;
+}
+
+answered_here : (w : ℕ) (s : Snapshot) (v : Verdict) (applied : Bool) (h : History) (q : ℕ) → (is_answered_at h q ≡ true → Found h q) → (b : Bool) → ((s.seq == q) && applied) ≡ b
+    → ((b || is_answered_at h q) ≡ true) → Found (Answered w s v applied ∷ h) q
+answered_here w s v applied h q older true e answered =
+    let both = and_parts (s.seq == q) applied e in record {
+      later = [];
+      worker = w;
+      copies = s;
+      verdict = v;
+      earlier = h;
+      split = ap (λ c. Answered w s v c ∷ h) both.1;
+      number = eqb-true s.seq q both.0;
+      newest = ap (λ c. cond c (Some (answer_with s v)) (answer_of h q)) e;
+    }
+answered_here w s v applied h q older false e answered =
+    behind (Answered w s v applied) h q (older answered) (ap (λ c. cond c (Some (answer_with s v)) (answer_of h q)) e)
+
+found : (h : History) (q : ℕ) → is_answered_at h q ≡ true → Found h q
+found [] q answered = absurd (cc)
+found (Answered w s v applied ∷ h) q answered =
+    answered_here w s v applied h q (found h q) ((s.seq == q) && applied) refl answered
+found (Stored u place word ∷ h) q answered = behind (Stored u place word) h q (found h q answered) refl
+found (Entered u call regs way ∷ h) q answered = behind (Entered u call regs way) h q (found h q answered) refl
+found (Claimed w p ∷ h) q answered = behind (Claimed w p) h q (found h q answered) refl
+found (Copied p part place word ∷ h) q answered = behind (Copied p part place word) h q (found h q answered) refl
+found (Looked p part name seen ∷ h) q answered = behind (Looked p part name seen) h q (found h q answered) refl
+found (Faulted p errno ∷ h) q answered = behind (Faulted p errno) h q (found h q answered) refl
+found (Used u seq call regs args ids result changes ∷ h) q answered = behind (Used u seq call regs args ids result changes) h q (found h q answered) refl
+found (Denied u seq errno cause ∷ h) q answered = behind (Denied u seq errno cause) h q (found h q answered) refl
+found (Ended u ∷ h) q answered = behind (Ended u) h q (found h q answered) refl
+found (Replied p reply n ∷ h) q answered = behind (Replied p reply n) h q (found h q answered) refl
+found (Learned p n ∷ h) q answered = behind (Learned p n) h q (found h q answered) refl
+
+verdict_of_answer : (i : Input) (later earlier : History) (w : ℕ) (s : Snapshot) (v : Verdict) → IsLawfulBack i (later ++ Answered w s v true ∷ earlier) → v ≡ verdict (read_for i s.policy s.rule) s
+verdict_of_answer i [] earlier w s v lawful = lawful.0.verdict_is
+verdict_of_answer i (e ∷ later) earlier w s v lawful = verdict_of_answer i later earlier w s v lawful.1
+
+-- a number that was answered has the copies of its newest answer, whose verdict is that of the filters that were read
+record IsTold (i : Input) (h : History) (q : ℕ) : Type 0 where
+  copies : Snapshot
+  given : Verdict
+  newest : answer_of h q ≡ Some (answer_with copies given)
+  there : snapshot_in (looking_back i h) q ≡ Some copies
+  says : given ≡ verdict (read_for i copies.policy copies.rule) copies
+
+module _ (i : Input) (startable : IsStartable i) where
+  told : (h : History) (q : ℕ) → IsLawfulBack i h → is_answered_at h q ≡ true → IsTold i h q
+  told h q lawful answered =
+      let x : Found h q = found h q answered in
+      let same : IsLawfulBack i (x.later ++ Answered x.worker x.copies x.verdict true ∷ x.earlier) = subst (IsLawfulBack i) x.split lawful in
+      let stands : Stands i (x.later ++ Answered x.worker x.copies x.verdict true ∷ x.earlier) x.copies = answer_stands i startable x.later x.earlier x.worker x.copies x.verdict same in
+      record {
+        copies = x.copies;
+        given = x.verdict;
+        newest = x.newest;
+        there = (λ k. snapshot_in (looking_back i (x.split k)) (sym x.number k)) ∙ stands.copies;
+        says = verdict_of_answer i x.later x.earlier x.worker x.copies x.verdict same;
+      }
+
+  same_copies : (h : History) (q : ℕ) → IsLawfulBack i h → is_answered_at h q ≡ true → copies_of (answer_of h q) ≡ snapshot_in (looking_back i h) q
+  same_copies h q lawful answered = let x : IsTold i h q = told h q lawful answered in ap copies_of x.newest ∙ sym x.there
+
+  -- ---- the session
+
+  -- a question was answered
+  asked_answered : (live answered asked : Bool) → (live && answered && asked) ≡ true → answered ≡ true
+  asked_answered live answered asked e = (and_parts live answered (and_parts (live && answered) asked e).0).1
+
+  question_answered : (h : History) (q : ℕ) → is_question i (looking_back i h) q ≡ true → is_answered_at h q ≡ true
+  question_answered h q e = asked_answered (is_live (looking_back i h) q) (is_answered_at h q) (is_open_question i (looking_back i h) (snapshot_in (looking_back i h) q)) e
+
+  session_same : (h : History) → IsLawfulBack i h → session_told i h ≡ session_at i h
+  session_same [] lawful = refl
+  session_same (Learned q n ∷ h) lawful =
+      let y : IsLearned i (looking_back i h) q n = lawful.0 in
+      let same = same_copies h q lawful.1 (question_answered h q y.asked.question) in
+      λ k. session_same h lawful.1 k ++ learnt_by (same k)
+  session_same (Replied q reply n ∷ h) lawful =
+      let y : IsReplied i (looking_back i h) q reply n = lawful.0 in
+      let same = same_copies h q lawful.1 (question_answered h q y.asked.question) in
+      λ k. session_same h lawful.1 k ++ replied_by (item_at_number i.replies reply) (same k)
+  session_same (Stored u place word ∷ h) lawful = session_same h lawful.1
+  session_same (Entered u call regs way ∷ h) lawful = session_same h lawful.1
+  session_same (Claimed w p ∷ h) lawful = session_same h lawful.1
+  session_same (Copied p part place word ∷ h) lawful = session_same h lawful.1
+  session_same (Looked p part name seen ∷ h) lawful = session_same h lawful.1
+  session_same (Faulted p errno ∷ h) lawful = session_same h lawful.1
+  session_same (Answered w s v applied ∷ h) lawful = session_same h lawful.1
+  session_same (Used u seq call regs args ids result changes ∷ h) lawful = session_same h lawful.1
+  session_same (Denied u seq errno cause ∷ h) lawful = session_same h lawful.1
+  session_same (Ended u ∷ h) lawful = session_same h lawful.1
+
+  -- ---- what decides
+
+  -- what is said of a held call with these copies, by the verdict of the filters that were read and the session
+  abbrev said_of : Snapshot → Verdict → List SessionFilter → Decided
+  said_of s v session =
+      decided_by i session s (number_of (verdict_or v (verdict_from (suc (length (read_for i s.policy s.rule))) (session_filters session s.policy s.rule) s)))
+
+  same_decided : (h : History) (q : ℕ) → IsLawfulBack i h → is_answered_at h q ≡ true → decided_told i (session_told i h) (answer_of h q) ≡ decided_in i (looking_back i h) q
+  same_decided h q lawful answered = let x : IsTold i h q = told h q lawful answered in
+      ap (decided_told i (session_told i h)) x.newest
+      ∙ (λ k. Some (said_of x.copies (x.says k) (session_same h lawful k)))
+      ∙ sym (ap (λ o. option_map (λ s. said_of s (verdict (read_for i s.policy s.rule) s) (session_at i h)) o) x.there)
+
+  -- ---- lines
+
+  -- what each of the two says of held calls
+  abbrev by_entries : History → ℕ → Option Decided
+  by_entries h q = decided_told i (session_told i h) (answer_of h q)
+
+  abbrev by_law : History → ℕ → Option Decided
+  by_law h q = decided_in i (looking_back i h) q
+
+  used_same : (h : History) (u : ℕ) (seq : Option ℕ) (call : SysCall) (regs : List ℕ) (args : List ArgText) (ids : Ids) (result : CallResult) (changes : List Change)
+      → decided_on (by_entries h) seq ≡ decided_on (by_law h) seq → told_line i h (Used u seq call regs args ids result changes) ≡ line_of i h (Used u seq call regs args ids result changes)
+  used_same h u seq call regs args ids result changes e =
+      ap (λ d. call_line i (row_at i h) (owner_at i h u) u call regs (ending_text (args_used seq args) (how_used seq d ids) result (is_logged d))) e
+
+  denied_same : (h : History) (u : ℕ) (seq : Option ℕ) (errno : Errno) (cause : Cause)
+      → decided_on (by_entries h) (seq_told seq cause) ≡ decided_on (by_law h) (seq_told seq cause) → told_line i h (Denied u seq errno cause) ≡ line_of i h (Denied u seq errno cause)
+  denied_same h u seq errno cause e =
+      ap (λ d. denied_line i (row_at i h) (owner_at i h u) u (entered_at i h u) (ending_text (parts_of d) (how_denied seq cause) (Failed errno) (is_logged d))) e
+
+  judged_same : (h : History) (q : ℕ) (s : Snapshot) → IsLawfulBack i h → IsJudged (looking_back i h) q s → by_entries h q ≡ by_law h q
+  judged_same h q s lawful judged = same_decided h q lawful judged.answered
+
+  cause_same : (h : History) (u q : ℕ) (errno : Errno) (cause : Cause) → IsLawfulBack i h → IsDeniedHeld i (looking_back i h) u q errno cause
+      → decided_on (by_entries h) (seq_told (Some q) cause) ≡ decided_on (by_law h) (seq_told (Some q) cause)
+  cause_same h u q errno (Filter n) lawful y = judged_same h q y.cause_is.0 lawful y.cause_is.1
+  cause_same h u q errno NoFilter lawful y = judged_same h q y.cause_is.0 lawful y.cause_is.1
+  cause_same h u q errno Fault lawful y = refl
+  cause_same h u q errno (Link name) lawful y = judged_same h q y.cause_is.0 lawful y.cause_is.2.judged
+
+  barred_same : (h : History) (cause : Cause) → decided_on (by_entries h) (seq_told None cause) ≡ decided_on (by_law h) (seq_told None cause)
+  barred_same h (Filter n) = refl
+  barred_same h NoFilter = refl
+  barred_same h Fault = refl
+  barred_same h (Link name) = refl
+
+  line_same : (h : History) (e : Entry) → IsLawfulBack i (e ∷ h) → told_line i h e ≡ line_of i h e
+  line_same h (Used u None call regs args ids result changes) lawful = used_same h u None call regs args ids result changes refl
+  line_same h (Used u (Some q) call regs args ids result changes) lawful =
+      let y : IsUsedHeld i (looking_back i h) u q call regs args ids result changes = lawful.0 in
+      used_same h u (Some q) call regs args ids result changes (judged_same h q y.copies lawful.1 y.permitted.judged)
+  line_same h (Denied u None errno cause) lawful = denied_same h u None errno cause (barred_same h cause)
+  line_same h (Denied u (Some q) errno cause) lawful = denied_same h u (Some q) errno cause (cause_same h u q errno cause lawful.1 lawful.0)
+  line_same h (Stored u place word) lawful = refl
+  line_same h (Entered u call regs way) lawful = refl
+  line_same h (Claimed w p) lawful = refl
+  line_same h (Copied p part place word) lawful = refl
+  line_same h (Looked p part name seen) lawful = refl
+  line_same h (Faulted p errno) lawful = refl
+  line_same h (Answered w s v applied) lawful = refl
+  line_same h (Ended u) lawful = refl
+  line_same h (Replied q reply n) lawful = refl
+  line_same h (Learned q n) lawful = refl
+
+  audit_back_same : (h : History) → IsLawfulBack i h → told_back i h ≡ audit_back i h
+  audit_back_same [] lawful = refl
+  audit_back_same (e ∷ h) lawful = λ k. audit_back_same h lawful.1 k ++ line_same h e lawful k
+
+  pub audit_same : (trace : List Entry) → Lawful i trace → audit_told i trace ≡ audit i trace
+  audit_same trace lawful = audit_back_same (reverse trace) lawful

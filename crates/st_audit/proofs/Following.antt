@@ -1,0 +1,87 @@
+-- What is kept follows the entries.
+use Rattle.std.proofs.Common.{◌≡◌, ℕ, ◌+◌, ◌<◌, Bool, List, [], ◌∷◌, ◌++◌, Option, get_or, length, reverse, take, ap, sym, subst, ◌∙◌}
+use Rattle.std.specs.BTreeMap.{BTreeMap}
+use Rattle.std.proofs.lemmas.List.{reverse-append, take_more}
+use Rattle.st_base.specs.declared.ids.Ids.{Ids}
+use Rattle.st_calls.specs.declared.argument.ArgText.{ArgText}
+use Rattle.st_calls.specs.declared.call.SysCall.{SysCall}
+use Rattle.st_effects.specs.Changes.{owner_after}
+use Rattle.st_law.specs.declared.input.Input.{Input}
+use Rattle.st_law.specs.Processes.{process_at}
+use Rattle.st_law.specs.Sessions.{session_after}
+use Rattle.st_law.specs.Threads.{History, changes_of, left_at, owner_at, pending_at, thread_of}
+use Rattle.st_trace.specs.declared.entry.CallResult.{CallResult}
+use Rattle.st_trace.specs.declared.entry.Change.{Change}
+use Rattle.st_trace.specs.declared.entry.Entry.{Entry}
+use Rattle.st_trace.specs.declared.entry.Entry.TheVariants.{Used}
+use Rattle.st_audit.specs.AuditText.{call_line, ending_text, line_by}
+use Rattle.st_audit.specs.How.{Decided, args_used, decided_on, how_used, is_logged}
+use Rattle.st_audit.specs.Ledger.{IsLedger, answer_in, entered_after, entered_in, kept_line, owner_in, row_in}
+use Rattle.st_audit.specs.Rows.{Row, row_after}
+use Rattle.st_audit.specs.Told.{answer_after, audit_told, copies_of, decided_told, session_of, told_back, told_line}
+use Rattle.st_audit.specs.declared.how.How.{How}
+use Rattle.st_audit.specs.declared.ledger.Ledger.{Ledger}
+use Rattle.st_audit.proofs.Rows.{entered_changed, row_of_changed}
+
+-- what an entry makes of what is kept, part by part
+pub record Follows (i : Input) (old new : Ledger) (e : Entry) : Type 0 where
+  pub owners : (t : ℕ) → owner_in i new.owners t ≡ owner_after t (owner_in i old.owners t) (changes_of e)
+  pub rows : (p : ℕ) → row_in i new.rows p ≡ row_after (row_in i old.rows (owner_in i old.owners (thread_of e))) (owner_in i old.owners (thread_of e)) p (row_in i old.rows p) (changes_of e)
+  pub entered : (t : ℕ) → entered_in new.entered t ≡ entered_after e t (entered_in old.entered t)
+  pub answers : (q : ℕ) → answer_in new.answers q ≡ answer_after e q (answer_in old.answers q)
+  pub session : session_of new.session.items ≡ session_after i.replies (λ q. copies_of (answer_in old.answers q)) e (session_of old.session.items)
+
+pub followed : (i : Input) (old new : Ledger) (e : Entry) (h : History) → Follows i old new e → IsLedger i old h → IsLedger i new (e ∷ h)
+followed i old new e h f is = record {
+  owners = λ t. f.owners t ∙ ap (λ m. owner_after t m (changes_of e)) (is.owners t);
+  rows = λ p. f.rows p
+      ∙ ap (λ m. row_after (row_in i old.rows m) m p (row_in i old.rows p) (changes_of e)) (is.owners (thread_of e))
+      ∙ (λ k. row_after (is.rows (owner_at i h (thread_of e)) k) (owner_at i h (thread_of e)) p (is.rows p k) (changes_of e))
+      ∙ sym (row_of_changed (process_at i h) (owner_at i h (thread_of e)) p (changes_of e));
+  entered = λ t. f.entered t ∙ ap (entered_after e t) (is.entered t) ∙ sym (entered_changed e t (left_at i h t) (pending_at i h t));
+  answers = λ q. f.answers q ∙ ap (answer_after e q) (is.answers q);
+  session = f.session ∙ (λ k. session_after i.replies (λ q. copies_of (is.answers q k)) e (is.session k));
+}
+
+-- what an entry prints by what is kept is what it prints by the entries before it
+pub line_told : (i : Input) (ledger : Ledger) (h : History) (e : Entry) → IsLedger i ledger h → kept_line i ledger e ≡ told_line i h e
+line_told i ledger h e is = λ k. line_by i (λ t. is.owners t k) (λ p. is.rows p k) (λ t. is.entered t k) (λ q. decided_told i (is.session k) (is.answers q k)) e
+
+-- the rows that the changes of a call give, by its entry
+pub rows_noted : (i : Input) (owners : BTreeMap ℕ ℕ) (old new : BTreeMap ℕ Row) (e : Entry) (t pid : ℕ) (changes : List Change) → thread_of e ≡ t → changes_of e ≡ changes → pid ≡ owner_in i owners t
+    → ((p : ℕ) → row_in i new p ≡ row_after (row_in i old pid) pid p (row_in i old p) changes)
+    → (p : ℕ) → row_in i new p ≡ row_after (row_in i old (owner_in i owners (thread_of e))) (owner_in i owners (thread_of e)) p (row_in i old p) (changes_of e)
+rows_noted i owners old new e t pid changes thread all same noted p =
+    let m : pid ≡ owner_in i owners (thread_of e) = same ∙ ap (owner_in i owners) (sym thread) in
+    noted p ∙ ap (λ n. row_after (row_in i old n) n p (row_in i old p) changes) m
+    ∙ ap (row_after (row_in i old (owner_in i owners (thread_of e))) (owner_in i owners (thread_of e)) p (row_in i old p)) (sym all)
+
+-- ---- one entry more
+
+one_more : (trace : List Entry) (k : ℕ) (e : Entry) → k < length trace → e ≡ get_or trace k e → reverse (take (k + 1) trace) ≡ e ∷ reverse (take k trace)
+one_more trace k e low is =
+    ap reverse (take_more trace k e low ∙ ap (λ (last : Entry). take k trace ++ last ∷ []) (sym is)) ∙ reverse-append (take k trace) (e ∷ [])
+
+-- the audit and what is kept, behind one entry more
+module _ (i : Input) (trace : List Entry) (k : ℕ) (e : Entry) (low : k < length trace) (is : e ≡ get_or trace k e) where
+  pub audit_more : (ledger : Ledger) (text new : List ℕ) → text ≡ audit_told i (take k trace) → IsLedger i ledger (reverse (take k trace)) → new ≡ text ++ kept_line i ledger e → new ≡ audit_told i (take (k + 1) trace)
+  audit_more ledger text new written kept more =
+      more ∙ ap (λ line. text ++ line) (line_told i ledger (reverse (take k trace)) e kept)
+      ∙ ap (λ front. front ++ told_line i (reverse (take k trace)) e) written ∙ sym (ap (told_back i) (one_more trace k e low is))
+
+  pub kept_more : (old new : Ledger) → IsLedger i old (reverse (take k trace)) → ((h : History) → IsLedger i old h → IsLedger i new (e ∷ h)) → IsLedger i new (reverse (take (k + 1) trace))
+  kept_more old new kept noted = subst (IsLedger i new) (sym (one_more trace k e low is)) (noted (reverse (take k trace)) kept)
+
+-- what a call that was made prints, by what is told of it
+pub used_line : (i : Input) (ledger : Ledger) (e : Entry) (t : ℕ) (seq : Option ℕ) (call : SysCall) (regs : List ℕ) (args : List ArgText) (ids : Ids) (result : CallResult) (changes : List Change)
+    (text new : List ℕ) (slice told : List ArgText) (how : How) (log : Bool) (decided : Option Decided)
+    → e ≡ Used t seq call regs args ids result changes
+    → decided ≡ decided_on (λ q. decided_told i (session_of ledger.session.items) (answer_in ledger.answers q)) seq
+    → slice ≡ args → told ≡ args_used seq slice → how ≡ how_used seq decided ids → log ≡ is_logged decided
+    → new ≡ text ++ call_line i (row_in i ledger.rows) (owner_in i ledger.owners t) t call regs (ending_text told how result log)
+    → new ≡ text ++ kept_line i ledger e
+used_line i ledger e t seq call regs args ids result changes text new slice told how log decided is same all those went marked last =
+    last
+    ∙ (λ k. text ++ call_line i (row_in i ledger.rows) (owner_in i ledger.owners t) t call regs
+    (ending_text ((those ∙ ap (args_used seq) all) k) ((went ∙ ap (λ d. how_used seq d ids) same) k) result ((marked ∙ ap is_logged same) k)))
+    ∙ sym (ap (λ each. text ++ kept_line i ledger each) is)

@@ -1,0 +1,70 @@
+-- What an audit needs of a process, and of the calls that threads have entered, behind an entry.
+use Rattle.std.proofs.Common.{◌≡◌, ℕ, Bool, true, false, cond, ◌==◌, List, [], ◌∷◌, Option, None, option_map, refl, ap, ◌∙◌}
+use Rattle.std.specs.List.{fold}
+use Rattle.st_effects.specs.Changes.{process_after, process_after_change}
+use Rattle.st_model.specs.Process.{Process}
+use Rattle.st_trace.specs.declared.entry.Change.{Change}
+use Rattle.st_trace.specs.declared.entry.Change.TheVariants.{Made, Linked, Removed, Renamed, Written, Cut, Moded, Owned, Put, Forked, Execed, SetIds, Cwd, Dying, Renewed, Policy}
+use Rattle.st_trace.specs.declared.entry.Entry.{Entry}
+use Rattle.st_trace.specs.declared.entry.Entry.TheVariants.{Stored, Entered, Claimed, Copied, Looked, Faulted, Answered, Used, Denied, Ended, Replied, Learned}
+use Rattle.st_trace.specs.declared.start.Instr.{Instr}
+use Rattle.st_law.specs.Threads.{PendingCall, pending_after}
+use Rattle.st_audit.specs.Ledger.{entered_after}
+use Rattle.st_audit.specs.Rows.{entered_call, row_after, row_after_change, row_of}
+
+-- ---- rows
+
+either_row : (b : Bool) (p q : Process) → row_of (cond b p q) ≡ cond b (row_of p) (row_of q)
+either_row true p q = refl
+either_row false p q = refl
+
+same_row : (b : Bool) (p q : Process) → row_of p ≡ row_of q → row_of (cond b p q) ≡ row_of q
+same_row true p q e = e
+same_row false p q e = refl
+
+module _ (processes : ℕ → Process) (m p : ℕ) where
+  row_changed : (before : Process) (c : Change) → row_of (process_after_change processes m p before c) ≡ row_after_change (row_of (processes m)) m p (row_of before) c
+  row_changed before (Forked pid space tid) = either_row (pid == p) (record (processes m) { space = space }) before
+  row_changed before (Execed binary space) = same_row (m == p) (record before { space = space }) before refl
+  row_changed before (SetIds ids) = same_row (m == p) (record before { ids = ids }) before refl
+  row_changed before (Cwd name) = same_row (m == p) (record before { cwd = name }) before refl
+  row_changed before (Policy binary) = either_row (m == p) (record before { policy = binary }) before
+  row_changed before (Made name obj kind uid gid mode) = refl
+  row_changed before (Linked name obj) = refl
+  row_changed before (Removed name) = refl
+  row_changed before (Renamed old new) = refl
+  row_changed before (Written obj at bytes) = refl
+  row_changed before (Cut obj len) = refl
+  row_changed before (Moded obj mode) = refl
+  row_changed before (Owned obj uid gid) = refl
+  row_changed before (Put space at bytes) = refl
+  row_changed before (Dying pid) = refl
+  row_changed before (Renewed old new) = refl
+
+  rows_changed : (before : Process) (changes : List Change) → row_of (fold (process_after_change processes m p) before changes) ≡ row_after (row_of (processes m)) m p (row_of before) changes
+  rows_changed before [] = refl
+  rows_changed before (c ∷ changes) =
+      rows_changed (process_after_change processes m p before c) changes ∙ ap (λ row. row_after (row_of (processes m)) m p row changes) (row_changed before c)
+
+pub row_of_changed : (processes : ℕ → Process) (m p : ℕ) (changes : List Change) → row_of (process_after processes m p changes) ≡ row_after (row_of (processes m)) m p (row_of (processes p)) changes
+row_of_changed processes m p changes = rows_changed processes m p (processes p) changes
+
+-- ---- calls that were entered
+
+either_call : (b : Bool) (o q : Option PendingCall) → option_map entered_call (cond b o q) ≡ cond b (option_map entered_call o) (option_map entered_call q)
+either_call true o q = refl
+either_call false o q = refl
+
+pub entered_changed : (e : Entry) (t : ℕ) (left : List Instr) (before : Option PendingCall) → option_map entered_call (pending_after e t left before) ≡ entered_after e t (option_map entered_call before)
+entered_changed (Entered u call regs way) t left before = either_call (u == t) _ before
+entered_changed (Used u seq call regs args ids result changes) t left before = either_call (u == t) None before
+entered_changed (Denied u seq errno cause) t left before = either_call (u == t) None before
+entered_changed (Stored u place word) t left before = refl
+entered_changed (Claimed w q) t left before = refl
+entered_changed (Copied q part place word) t left before = refl
+entered_changed (Looked q part name seen) t left before = refl
+entered_changed (Faulted q errno) t left before = refl
+entered_changed (Answered w s v applied) t left before = refl
+entered_changed (Ended u) t left before = refl
+entered_changed (Replied q reply n) t left before = refl
+entered_changed (Learned q n) t left before = refl

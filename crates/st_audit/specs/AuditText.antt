@@ -1,0 +1,88 @@
+-- What is printed of a run: a line for each call that a traced process made or was denied.
+use Rattle.std.specs.Prelude.{◌≡◌, ℕ, Bool, true, false, List, [], ◌∷◌, ◌++◌, reverse, codes, decimal, Option, Some, None, if◌then◌else◌}
+use Rattle.std.specs.List.{flat_map}
+use Rattle.st_calls.specs.Argument.{index_text, name_of_label}
+use Rattle.st_calls.specs.Call.{name_of_rule, rule_of}
+use Rattle.st_calls.specs.declared.argument.ArgText.{ArgText}
+use Rattle.st_calls.specs.declared.call.SysCall.{SysCall}
+use Rattle.st_calls.specs.declared.rule.Rule.{Rule}
+use Rattle.st_lex.specs.Quote.{quoted}
+use Rattle.st_trace.specs.declared.entry.CallResult.{CallResult}
+use Rattle.st_trace.specs.declared.entry.CallResult.TheVariants.{Failed}
+use Rattle.st_trace.specs.declared.entry.Entry.{Entry}
+use Rattle.st_trace.specs.declared.entry.Entry.TheVariants.{Used, Denied}
+use Rattle.st_law.specs.declared.input.Input.{Input}
+use Rattle.st_law.specs.History.{looking_back}
+use Rattle.st_law.specs.Threads.{History, owner_at}
+use Rattle.st_audit.specs.declared.how.How.{How}
+use Rattle.st_audit.specs.How.{Decided, args_used, decided_in, decided_on, how_denied, how_text, how_used, is_logged, parts_of, seq_told}
+use Rattle.st_audit.specs.Rows.{Row, entered_at, row_at}
+use Rattle.st_report.specs.TraceText.{result_text}
+use Rattle.st_audit.specs.declared.entered.EnteredCall.{EnteredCall}
+
+-- ---- a line
+
+-- a blank, and an argument as label="text" or label[N]="text"
+abbrev pub told_arg : ArgText → List ℕ
+told_arg arg = codes " " ++ name_of_label arg.label ++ index_text arg.index ++ codes "=" ++ quoted arg.text
+
+-- PID.TID "POLICY" native-RULE
+abbrev pub caller_text : ℕ → ℕ → List ℕ → Rule → List ℕ
+caller_text pid tid policy rule = decimal pid ++ codes "." ++ decimal tid ++ codes " " ++ quoted policy ++ codes " native-" ++ name_of_rule rule
+
+-- what the filter that decided asks for
+abbrev pub log_text : Bool → List ℕ
+log_text true = codes " log"
+log_text false = []
+
+-- what a line says behind its caller:{ ARG} HOW = RESULT[ log], and a newline
+abbrev pub ending_text : List ArgText → How → CallResult → Bool → List ℕ
+ending_text args how result log = flat_map told_arg args ++ codes " " ++ how_text how ++ codes " = " ++ result_text result ++ log_text log ++ codes "\n"
+
+-- the line of a call of a traced process; none of another's
+abbrev pub traced_line : Row → ℕ → ℕ → Rule → List ℕ → List ℕ
+traced_line row pid tid rule ending = if row.traced then caller_text pid tid row.policy rule ++ ending else []
+
+-- the line of a thread's call, by its process
+abbrev pub call_line : Input → (ℕ → Row) → ℕ → ℕ → SysCall → List ℕ → List ℕ → List ℕ
+call_line i rows pid tid call regs ending = traced_line (rows pid) pid tid (rule_of call regs i.options.aliasing) ending
+
+-- the line of the call that a thread had entered and that was denied; none where it had entered none
+abbrev pub denied_line : Input → (ℕ → Row) → ℕ → ℕ → Option EnteredCall → List ℕ → List ℕ
+denied_line i rows pid tid None ending = []
+denied_line i rows pid tid (Some entered) ending = call_line i rows pid tid entered.call entered.regs ending
+
+-- ---- the audit
+
+-- what an entry prints, by the processes of threads, their rows, the calls that were entered, and what is said of each held call
+abbrev pub line_by : Input → (ℕ → ℕ) → (ℕ → Row) → (ℕ → Option EnteredCall) → (ℕ → Option Decided) → Entry → List ℕ
+line_by i owners rows entered decided (Used t seq call regs args ids result changes) =
+    call_line i rows (owners t) t call regs
+    (ending_text (args_used seq args) (how_used seq (decided_on decided seq) ids) result (is_logged (decided_on decided seq)))
+line_by i owners rows entered decided (Denied t seq errno cause) =
+    denied_line i rows (owners t) t (entered t)
+    (ending_text (parts_of (decided_on decided (seq_told seq cause))) (how_denied seq cause) (Failed errno) (is_logged (decided_on decided (seq_told seq cause))))
+line_by i owners rows entered decided _ = []
+
+-- what an entry behind a history prints
+abbrev pub line_of : Input → History → Entry → List ℕ
+line_of i h e = line_by i (owner_at i h) (row_at i h) (entered_at i h) (decided_in i (looking_back i h)) e
+
+-- the audit of a history: the lines of its entries, the oldest first
+abbrev pub audit_back : Input → History → List ℕ
+audit_back i [] = []
+audit_back i (e ∷ h) = audit_back i h ++ line_of i h e
+
+-- the audit of a trace: the lines of its entries, in order
+abbrev pub audit : Input → List Entry → List ℕ
+audit i trace = audit_back i (reverse trace)
+
+-- ---- longer runs
+
+-- a text begins with another
+abbrev pub BeginsWith : List ℕ → List ℕ → Type 0
+BeginsWith text front = (behind : List ℕ) × (text ≡ front ++ behind)
+
+-- the audit of a longer run begins with that of the shorter one
+abbrev pub GrowsWithTheRun : Type 0
+GrowsWithTheRun = (input : Input) (trace more : List Entry) → BeginsWith (audit input (trace ++ more)) (audit input trace)

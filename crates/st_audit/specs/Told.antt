@@ -1,0 +1,98 @@
+-- What the entries themselves tell of held calls: their applied answers, and the filters that were kept.
+use Rattle.std.specs.Prelude.{ℕ, suc, ◌==◌, ◌&&◌, if◌then◌else◌, List, [], ◌∷◌, ◌++◌, reverse, length, map, Option, Some, None, option_map}
+use Rattle.st_calls.specs.declared.judged.Snapshot.{Snapshot}
+use Rattle.st_calls.specs.declared.judged.Verdict.{Verdict}
+use Rattle.st_filter.specs.Formula.{FilterValue}
+use Rattle.st_filter.specs.Judging.{verdict_from}
+use Rattle.st_trace.specs.declared.entry.Entry.{Entry}
+use Rattle.st_trace.specs.declared.entry.Entry.TheVariants.{Answered}
+use Rattle.st_law.specs.declared.input.Input.{Input}
+use Rattle.st_law.specs.Sessions.{SessionFilter, kept_for, learnt_filter, session_after, session_filters, verdict_or}
+use Rattle.st_law.specs.State.{read_for}
+use Rattle.st_law.specs.Threads.{History, owner_at}
+use Rattle.st_audit.specs.How.{Decided, decided_by, number_of}
+use Rattle.st_audit.specs.AuditText.{line_by}
+use Rattle.st_audit.specs.Rows.{entered_at, row_at}
+
+-- ---- answers
+
+-- an answer: the held call that was judged, and what the filters that were read say of it
+pub record Answer : Type 0 where
+  pub snapshot : Snapshot
+  pub verdict : Verdict
+
+-- the answer with this snapshot and this verdict
+abbrev pub answer_with : Snapshot → Verdict → Answer
+answer_with snapshot verdict = record { snapshot = snapshot; verdict = verdict }
+
+-- what an entry does to the applied answer to a number
+abbrev pub answer_after : Entry → ℕ → Option Answer → Option Answer
+answer_after (Answered w snapshot verdict applied) q before =
+    if (snapshot.seq == q) && applied then Some (answer_with snapshot verdict) else before
+answer_after _ q before = before
+
+-- the newest applied answer to a number
+abbrev pub answer_of : History → ℕ → Option Answer
+answer_of [] q = None
+answer_of (e ∷ h) q = answer_after e q (answer_of h q)
+
+-- the copies that an answer was for
+abbrev pub copies_of : Option Answer → Option Snapshot
+copies_of answer = option_map (λ a. a.snapshot) answer
+
+-- ---- filters that were kept
+
+-- what is kept for copies: the filter that they teach, or a reply
+pub record Kept : Type 0 where
+  pub copies : Snapshot
+  pub reply : Option FilterValue
+
+-- what is kept for these copies, by the reply
+abbrev pub kept_with : Snapshot → Option FilterValue → Kept
+kept_with copies reply = record { copies = copies; reply = reply }
+
+-- the reply, if there is one, else the filter that copies teach
+abbrev pub filter_of_reply : Snapshot → Option FilterValue → FilterValue
+filter_of_reply copies None = learnt_filter copies
+filter_of_reply copies (Some filter) = filter
+
+-- the filter that is kept
+abbrev pub filter_of : Kept → FilterValue
+filter_of kept = filter_of_reply kept.copies kept.reply
+
+-- the same, for the policy and the rule of the copies
+abbrev pub kept_filter : Kept → SessionFilter
+kept_filter kept = kept_for (filter_of kept) kept.copies
+
+-- the session that keeps these filters
+abbrev pub session_of : List Kept → List SessionFilter
+session_of kept = map kept_filter kept
+
+-- the filters of the session, by the copies that answers were for
+abbrev pub session_told : Input → History → List SessionFilter
+session_told i [] = []
+session_told i (e ∷ h) = session_after i.replies (λ q. copies_of (answer_of h q)) e (session_told i h)
+
+-- ---- what decided
+
+-- what the filters that were read decide by an answer, else those of the session
+abbrev pub decision_told : Input → List SessionFilter → Answer → Verdict
+decision_told i session a =
+    verdict_or a.verdict (verdict_from (suc (length (read_for i a.snapshot.policy a.snapshot.rule))) (session_filters session a.snapshot.policy a.snapshot.rule) a.snapshot)
+
+-- what an audit says of the held call of an answer
+abbrev pub decided_told : Input → List SessionFilter → Option Answer → Option Decided
+decided_told i session answer = option_map (λ a. decided_by i session a.snapshot (number_of (decision_told i session a))) answer
+
+-- what an entry prints, by what the entries before it tell
+abbrev pub told_line : Input → History → Entry → List ℕ
+told_line i h e = line_by i (owner_at i h) (row_at i h) (entered_at i h) (λ q. decided_told i (session_told i h) (answer_of h q)) e
+
+-- the audit of a history by what its entries tell
+abbrev pub told_back : Input → History → List ℕ
+told_back i [] = []
+told_back i (e ∷ h) = told_back i h ++ told_line i h e
+
+-- the audit of a trace by what its entries tell
+abbrev pub audit_told : Input → List Entry → List ℕ
+audit_told i trace = told_back i (reverse trace)

@@ -1,0 +1,169 @@
+ghost use Rattle.std.specs.Prelude.{◌≡◌, ℕ, [], ◌∷◌, OnOk};
+ghost use Rattle.st_effects.specs.Changes.{owner_after};
+ghost use Rattle.st_law.specs.Threads.{History, changes_of, thread_of};
+ghost use Rattle.st_law.specs.declared.input.Input.{Input};
+ghost use Rattle.st_audit.specs.How.{decided_on, filter_numbered, marks_of, number_of};
+ghost use Rattle.st_audit.specs.Ledger.{IsLedger, answer_in, owner_in, row_in};
+ghost use Rattle.st_audit.specs.Rows.{row_after};
+ghost use Rattle.st_audit.specs.Told.{decided_told, decision_told, session_of};
+
+use crate::answer::{Answer, note_answer};
+use crate::entered::{EnteredCall, note_entered};
+use crate::marks::Marks;
+use crate::process::{Row, note_owners, note_rows, owner_of};
+use crate::read::{read_count, read_marks};
+use crate::session::{Kept, note_session, session_marks, session_number};
+use st_base::{Pid, Seq, Tid};
+use st_calls::{ArgText, Snapshot, Verdict};
+use st_law::Input;
+use st_trace::Entry;
+use std::alloc::{AllocError, Global};
+use std::collections::BTreeMap;
+use std::marker::Model;
+
+/// What an audit says of a held call: its arguments, and the filter that decided, by its number and marks.
+#[derive(Drop)]
+pub struct Decided<'a> {
+    parts: &'a [ArgText],
+    number: u64,
+    marks: Marks,
+}
+
+impl<'a> Model for Decided<'a> {
+    ghost use Rattle.st_audit.specs.How.{Decided, decided_with};
+
+    ghost Value = { Decided };
+
+    ghost view = { λ d. decided_with d.parts.now d.number d.marks };
+}
+
+impl<'a> Decided<'a> {
+    /// The arguments that were judged.
+    pub fn parts(&self) -> &'a [ArgText]
+        ensures { result.now ≡ self.now.parts }
+    {
+        self.parts
+    }
+
+    /// The number of the filter that decided, 0 where none did.
+    pub fn number(&self) -> u64
+        ensures { result ≡ self.now.number }
+    {
+        self.number
+    }
+
+    /// What an audit says of that filter.
+    pub fn marks(&self) -> Marks
+        ensures { result ≡ self.now.marks }
+    {
+        self.marks
+    }
+}
+
+/// What is kept of a run while its audit is printed.
+#[derive(Drop)]
+pub struct Ledger<'a> {
+    /// The processes of the threads that forks have started.
+    pub owners: BTreeMap<Tid, Pid>,
+    /// The processes that were changed.
+    pub rows: BTreeMap<Pid, Row<'a>>,
+    /// The calls that threads have entered.
+    pub entered: BTreeMap<Tid, EnteredCall>,
+    /// The applied answers to held calls.
+    pub answers: BTreeMap<Seq, Answer<'a>>,
+    /// The filters that were kept, in order.
+    pub session: Vec<Kept<'a>>,
+}
+
+// Takes an entry into the maps of threads and processes.
+fn note_processes<'a>(
+    input: &'a Input,
+    owners: &mut BTreeMap<Tid, Pid>,
+    rows: &mut BTreeMap<Pid, Row<'a>>,
+    entry: &'a Entry,
+) -> Result<(), AllocError>
+    ensures owners { OnOk result ((t : ℕ) → owner_in input.now owners.new t ≡ owner_after t (owner_in input.now owners.old t) (changes_of entry.now)) }
+    ensures rows { OnOk result ((p : ℕ) → row_in input.now rows.new p ≡ row_after (row_in input.now rows.old (owner_in input.now owners.old (thread_of entry.now))) (owner_in input.now owners.old (thread_of entry.now)) p (row_in input.now rows.old p) (changes_of entry.now)) }
+{
+    if let Entry::Used { tid, changes, .. } = entry {
+        let pid = owner_of(input, owners, *tid);
+        note_rows(input, rows, pid, changes.as_slice())?;
+        note_owners(input, owners, changes.as_slice())?;
+    }
+    Ok(())
+}
+
+impl<'a> Ledger<'a> {
+    /// Before the first entry.
+    pub fn new(alloc: Global) -> Self
+        ensures { (i : Input) → IsLedger i result [] }
+    {
+        Ledger {
+            owners: BTreeMap::new(alloc),
+            rows: BTreeMap::new(alloc),
+            entered: BTreeMap::new(alloc),
+            answers: BTreeMap::new(alloc),
+            session: Vec::new(alloc),
+        }
+    }
+
+    // The number of the filter that decides on the call of an answer, 0 where none does.
+    fn deciding_number(&self, input: &Input, answer: &Answer<'_>) -> u64
+        ensures { result ≡ number_of (decision_told input.now (session_of self.now.session.items) answer.now) }
+    {
+        match answer.verdict() {
+            Verdict::Permit(number, _) | Verdict::Refuse(number, _) => u64::from(number),
+            Verdict::Unmatched => {
+                let copies = answer.copies();
+                let policy = input.policies.get(copies.policy.bytes());
+                let read = read_count(policy, copies.rule);
+                session_number(self.session.as_slice(), copies, read)
+            }
+        }
+    }
+
+    // What an audit says of the filter of this number for a call, by its copies.
+    fn marks_of(&self, input: &Input, copies: &Snapshot, number: u64) -> Marks
+        ensures { result ≡ marks_of (filter_numbered input.now (session_of self.now.session.items) copies.now.policy copies.now.rule number) }
+    {
+        if number == 0 {
+            return Marks::none();
+        }
+        let policy = input.policies.get(copies.policy.bytes());
+        let read = read_count(policy, copies.rule);
+        if number <= read {
+            read_marks(policy, copies.rule, number)
+        } else {
+            session_marks(
+                self.session.as_slice(),
+                copies.policy.bytes(),
+                copies.rule,
+                number - read,
+            )
+        }
+    }
+
+    /// What an audit says of a held call, where it has this number and was answered.
+    pub fn decided(&self, input: &Input, seq: Option<Seq>) -> Option<Decided<'a>>
+        ensures { result ≡ decided_on (λ q. decided_told input.now (session_of self.now.session.items) (answer_in self.now.answers q)) seq }
+    {
+        let answer = self.answers.get(&seq?)?;
+        let copies = answer.copies();
+        let number = self.deciding_number(input, answer);
+        Some(Decided {
+            parts: copies.parts.as_slice(),
+            number,
+            marks: self.marks_of(input, copies, number),
+        })
+    }
+
+    /// Takes an entry in.
+    pub fn note(&mut self, input: &'a Input, entry: &'a Entry) -> Result<(), AllocError>
+        ensures { OnOk result ((h : History) → IsLedger input.now self.old h → IsLedger input.now self.new (entry.now ∷ h)) }
+    {
+        note_session(input, &self.answers, &mut self.session, entry)?;
+        note_processes(input, &mut self.owners, &mut self.rows, entry)?;
+        note_entered(&mut self.entered, entry)?;
+        note_answer(&mut self.answers, entry)
+    }
+}

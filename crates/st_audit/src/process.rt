@@ -1,0 +1,182 @@
+ghost use Rattle.std.specs.Prelude.{◌≡◌, ℕ, option_copied, OnOk};
+ghost use Rattle.st_base.specs.Numbered.{item_at_number};
+ghost use Rattle.st_effects.specs.Changes.{owner_after, owner_after_change};
+ghost use Rattle.st_law.specs.Processes.{first_process};
+ghost use Rattle.st_law.specs.Threads.{first_owner};
+ghost use Rattle.st_audit.specs.Ledger.{owner_in, row_in};
+ghost use Rattle.st_audit.specs.Rows.{row_after, row_after_change, row_of};
+
+use st_base::{Pid, Tid};
+use st_law::Input;
+use st_trace::Change;
+use std::alloc::AllocError;
+use std::collections::BTreeMap;
+use std::marker::Model;
+
+/// What an audit needs of a process: whether it is traced, and its policy.
+#[derive(Drop)]
+pub struct Row<'a> {
+    traced: bool,
+    policy: &'a [u8],
+}
+
+impl<'a> Model for Row<'a> {
+    ghost use Rattle.st_audit.specs.Rows.{Row, row_with};
+
+    ghost Value = { Row };
+
+    ghost view = { λ r. row_with r.traced r.policy.now };
+}
+
+impl<'a> Row<'a> {
+    /// An equal one.
+    fn copy(&self) -> Row<'a>
+        ensures { result ≡ self.now }
+    {
+        Row {
+            traced: self.traced,
+            policy: self.policy,
+        }
+    }
+
+    /// Whether policies apply to it.
+    pub fn is_traced(&self) -> bool
+        ensures { result ≡ self.now.traced }
+    {
+        self.traced
+    }
+
+    /// The binary whose policy applies to it.
+    pub fn policy(&self) -> &'a [u8]
+        ensures { result.now ≡ self.now.policy }
+    {
+        self.policy
+    }
+}
+
+/// The item of a number, counted from 1.
+pub fn item_at_number<T>(items: &[T], number: u32) -> Option<&T>
+    ensures { option_copied result ≡ item_at_number items.now number }
+{
+    let index = number.checked_sub(1)?;
+    items.get(index as usize)
+}
+
+// The process that a thread starts in, 0 where it starts by a fork.
+fn first_owner(input: &Input, tid: Tid) -> Pid
+    ensures { result ≡ first_owner input.now tid }
+{
+    match item_at_number(input.start.threads.as_slice(), tid) {
+        Some(row) => row.process.unwrap_or(0),
+        None => 0,
+    }
+}
+
+// A process before the first entry.
+fn first_row(input: &Input, pid: Pid) -> Row<'_>
+    ensures { result ≡ row_of (first_process input.now pid) }
+{
+    match item_at_number(input.start.processes.as_slice(), pid) {
+        Some(row) => Row {
+            traced: row.traced,
+            policy: row.binary.bytes(),
+        },
+        None => Row {
+            traced: false,
+            policy: b"",
+        },
+    }
+}
+
+/// The process of a thread, 0 before it starts; the map has the threads that forks have started.
+pub fn owner_of(input: &Input, owners: &BTreeMap<Tid, Pid>, tid: Tid) -> Pid
+    ensures { result ≡ owner_in input.now owners.now tid }
+{
+    match owners.get(&tid) {
+        Some(pid) => *pid,
+        None => first_owner(input, tid),
+    }
+}
+
+/// What an audit needs of a process; the map has the processes that were changed.
+pub fn row_of<'a>(input: &'a Input, rows: &BTreeMap<Pid, Row<'a>>, pid: Pid) -> Row<'a>
+    ensures { result ≡ row_in input.now rows.now pid }
+{
+    match rows.get(&pid) {
+        Some(row) => row.copy(),
+        None => first_row(input, pid),
+    }
+}
+
+// Takes a change into the map of the threads that forks have started. A thread starts once.
+fn note_started(
+    input: &Input,
+    owners: &mut BTreeMap<Tid, Pid>,
+    change: &Change,
+) -> Result<(), AllocError>
+    ensures { OnOk result ((t : ℕ) → owner_in input.now owners.new t ≡ owner_after_change t (owner_in input.now owners.old t) change.now) }
+{
+    if let Change::Forked { pid, tid, .. } = change
+        && owner_of(input, owners, *tid) == 0
+    {
+        owners.insert(*tid, *pid)?;
+    }
+    Ok(())
+}
+
+/// Takes changes into the map of the threads that forks have started.
+pub fn note_owners(
+    input: &Input,
+    owners: &mut BTreeMap<Tid, Pid>,
+    changes: &[Change],
+) -> Result<(), AllocError>
+    ensures { OnOk result ((t : ℕ) → owner_in input.now owners.new t ≡ owner_after t (owner_in input.now owners.old t) changes.now) }
+{
+    for change in changes {
+        note_started(input, owners, change)?;
+    }
+    Ok(())
+}
+
+// Takes a change that process `pid`, of this row, makes into the map of rows.
+fn note_row<'a>(
+    input: &'a Input,
+    rows: &mut BTreeMap<Pid, Row<'a>>,
+    pid: Pid,
+    parent: &Row<'a>,
+    change: &'a Change,
+) -> Result<(), AllocError>
+    ensures { OnOk result ((p : ℕ) → row_in input.now rows.new p ≡ row_after_change parent.now pid p (row_in input.now rows.old p) change.now) }
+{
+    match change {
+        Change::Forked { pid: child, .. } => {
+            rows.insert(*child, parent.copy())?;
+        }
+        Change::Policy(binary) => {
+            let row = row_of(input, rows, pid);
+            let changed = Row {
+                traced: row.traced,
+                policy: binary.bytes(),
+            };
+            rows.insert(pid, changed)?;
+        }
+        _ => {}
+    }
+    Ok(())
+}
+
+/// Takes changes that a process makes into the map of rows: a child has the row that its parent had before them.
+pub fn note_rows<'a>(
+    input: &'a Input,
+    rows: &mut BTreeMap<Pid, Row<'a>>,
+    pid: Pid,
+    changes: &'a [Change],
+) -> Result<(), AllocError>
+    ensures { OnOk result ((p : ℕ) → row_in input.now rows.new p ≡ row_after (row_in input.now rows.old pid) pid p (row_in input.now rows.old p) changes.now) }
+{
+    let parent = row_of(input, rows, pid);
+    for change in changes {
+        note_row(input, rows, pid, &parent, change)?;
+    }
+    Ok(())
+}

@@ -1,0 +1,105 @@
+-- What the cursor finds is the first choice that is enabled.
+use native.Mathlib.Omega.{arith}
+use Rattle.std.proofs.Common.{◌≡◌, ◌≤◌, ◌<◌, ◌∙◌, ℕ, zero, suc, ◌+◌, Bool, true, false, Option, Some, None, inl, inr, refl, ap, sym}
+use Rattle.std.proofs.lemmas.Bool.{cases_eq}
+use Rattle.std.proofs.lemmas.Bool.Decides.{leb_tells}
+use Rattle.std.specs.Option.{option_map}
+use Rattle.std.specs.Prelude.{is_some}
+use Rattle.st_trace.specs.declared.entry.Choice.{Choice}
+use Rattle.st_trace.specs.declared.entry.Choice.TheVariants as choice
+use Rattle.st_trace.specs.declared.entry.Entry.{Entry}
+use Rattle.st_law.specs.Machine.{entry_of, thread_entry, worker_entry}
+use Rattle.st_law.specs.Schedules.{EnabledChoice, choice_or, first_enabled, first_enabled_of}
+use Rattle.st_law.specs.State.{State, thread_count}
+use Rattle.st_law.specs.declared.input.Input.{Input}
+use Rattle.st_machine.specs.Machine.{IsMachine, Running}
+use Rattle.st_machine.proofs.Choices.{none_asked}
+use Rattle.st_kernel.specs.Cursor.{HasFirstAble, IsFirstServer, NoneAble, NoneServes}
+
+-- ---- one after the other
+
+none_by : (b : Bool) (o : Option Entry) → b ≡ is_some o → b ≡ false → o ≡ None
+none_by b None says e = refl
+none_by b (Some entry) says e = let clash = sym e ∙ says in cc
+
+-- one thread more can't move
+pub next_unable : (m : Running) (from to : ℕ) → NoneAble m from to → (b : Bool) → ((st : State) → IsMachine m st → b ≡ is_some (thread_entry m.input st to)) → b ≡ false → NoneAble m from (to + 1)
+next_unable m from to none b says e st is t low high = elim (cases_eq t to) [
+  | inl same ↦ ap (thread_entry m.input st) same ∙ none_by b (thread_entry m.input st to) (says st is) e
+  | inr ne ↦ none st is t low (omega (arith, high, ne))
+]
+
+-- none can
+pub none_able : (m : Running) (from end : ℕ) → NoneAble m from end → from ≤ end → end ≡ suc (thread_count m.input) → HasFirstAble m from end
+none_able m from end none low is = record { from_on = low; to = omega (arith, is); none = none; able = λ within st machine. absurd (omega (arith, is, within)) }
+
+-- one worker more can't
+pub next_idle : (m : Running) (to : ℕ) → NoneServes m to → (b : Bool) → ((st : State) → IsMachine m st → b ≡ is_some (worker_entry m.input st to)) → b ≡ false → NoneServes m (to + 1)
+next_idle m to none b says e st is w low high = elim (cases_eq w to) [
+  | inl same ↦ ap (worker_entry m.input st) same ∙ none_by b (worker_entry m.input st to) (says st is) e
+  | inr ne ↦ none st is w low (omega (arith, high, ne))
+]
+
+-- ---- the first choice
+
+abbrev chosen : Option EnabledChoice → Option Choice
+chosen o = option_map (λ (found : EnabledChoice). found.choice) o
+
+module _ (of : ℕ → Choice) (i : Input) (st : State) where
+  here : (n : ℕ) (o : Option Entry) (other : Option EnabledChoice) → is_some o ≡ true → chosen (choice_or (of n) o other) ≡ Some (of n)
+  here n None other e = cc
+  here n (Some entry) other e = refl
+
+  passed : (n : ℕ) (o : Option Entry) (other : Option EnabledChoice) → o ≡ None → choice_or (of n) o other ≡ other
+  passed n o other e = ap (λ (x : Option Entry). choice_or (of n) x other) e
+
+  -- the first of some that is enabled
+  found : (n count : ℕ) (other : Option EnabledChoice) (p : ℕ) → n ≤ p → p < n + count → ((q : ℕ) → n ≤ q → q < p → entry_of i st (of q) ≡ None) → is_some (entry_of i st (of p)) ≡ true → chosen (first_enabled_of of i st n count other) ≡ Some (of p)
+  found n zero other p low high none some = absurd (omega (arith, low, high))
+  found n (suc count) other p low high none some = elim (cases_eq n p) [
+    | inl e ↦ here n (entry_of i st (of n)) (first_enabled_of of i st (suc n) count other) (ap (λ (k : ℕ). is_some (entry_of i st (of k))) e ∙ some) ∙ ap (λ (k : ℕ). Some (of k)) e
+    | inr ne ↦ ap chosen (passed n (entry_of i st (of n)) (first_enabled_of of i st (suc n) count other) (none n (omega arith) (omega (arith, low, ne))))
+        ∙ found (suc n) count other p (omega (arith, low, ne)) (omega (arith, high)) (λ q above below. none q (omega (arith, above)) below) some
+  ]
+
+  -- where none of them is, it is the other
+  none_of : (n count : ℕ) (other : Option EnabledChoice) → ((q : ℕ) → n ≤ q → q < n + count → entry_of i st (of q) ≡ None) → first_enabled_of of i st n count other ≡ other
+  none_of n zero other none = refl
+  none_of n (suc count) other none =
+      passed n (entry_of i st (of n)) (first_enabled_of of i st (suc n) count other) (none n (omega arith) (omega arith)) ∙ none_of (suc n) count other (λ q above below. none q (omega (arith, above)) (omega (arith, below)))
+
+module _ (m : Running) (st : State) (is : IsMachine m st) where
+  abbrev workers : Option EnabledChoice
+  workers = first_enabled_of choice.Worker m.input st 1 m.input.options.workers (choice_or choice.Operator (entry_of m.input st choice.Operator) None)
+
+  -- a thread, where none before it can move
+  pub thread_first : (from first : ℕ) → ((t : ℕ) → 1 ≤ t → t < from → thread_entry m.input st t ≡ None) → 1 ≤ from → HasFirstAble m from first → first ≤ thread_count m.input → Some (choice.Thread first) ≡ chosen (first_enabled m.input st)
+  thread_first from first before some able within =
+      let on = able.from_on in
+      sym (found choice.Thread m.input st 1 (thread_count m.input) workers first (omega (arith, some, on)) (omega (arith, within)) (λ t low high. by t low high) (able.able within st is)) where
+        by : (t : ℕ) → 1 ≤ t → t < first → thread_entry m.input st t ≡ None
+        by t low high = elim (leb_tells from t) [
+          | inl x ↦ able.none st is t x.1 high
+          | inr x ↦ before t low x.1
+        ]
+
+  no_thread : (from first : ℕ) → ((t : ℕ) → 1 ≤ t → t < from → thread_entry m.input st t ≡ None) → HasFirstAble m from first → thread_count m.input < first → first_enabled m.input st ≡ workers
+  no_thread from first before able beyond = none_of choice.Thread m.input st 1 (thread_count m.input) workers by where
+    by : (t : ℕ) → 1 ≤ t → t < 1 + thread_count m.input → thread_entry m.input st t ≡ None
+    by t low high = elim (leb_tells from t) [
+      | inl x ↦ able.none st is t x.1 (omega (arith, high, beyond))
+      | inr x ↦ before t low x.1
+    ]
+
+  -- else a worker
+  pub worker_first : (from first worker : ℕ) → ((t : ℕ) → 1 ≤ t → t < from → thread_entry m.input st t ≡ None) → HasFirstAble m from first → thread_count m.input < first → IsFirstServer m worker → Some (choice.Worker worker) ≡ chosen (first_enabled m.input st)
+  worker_first from first worker before able beyond server =
+      let to = server.to in
+      sym (ap chosen (no_thread from first before able beyond) ∙ found choice.Worker m.input st 1 m.input.options.workers (choice_or choice.Operator (entry_of m.input st choice.Operator) None) worker server.from (omega (arith, to)) (λ w low high. server.none st is w low high) (server.serves st is))
+
+  -- else nobody
+  pub nobody_first : (from first : ℕ) → ((t : ℕ) → 1 ≤ t → t < from → thread_entry m.input st t ≡ None) → HasFirstAble m from first → thread_count m.input < first → NoneServes m (suc m.input.options.workers) → None ≡ chosen (first_enabled m.input st)
+  nobody_first from first before able beyond none =
+      sym (ap chosen (no_thread from first before able beyond
+      ∙ none_of choice.Worker m.input st 1 m.input.options.workers (choice_or choice.Operator (entry_of m.input st choice.Operator) None) (λ w low high. none st is w low (omega (arith, high)))
+      ∙ ap (λ (o : Option Entry). choice_or choice.Operator o None) (none_asked m st is)))

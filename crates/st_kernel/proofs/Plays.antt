@@ -1,0 +1,73 @@
+-- What the lines of a schedule come to, from where the kernel stands.
+use native.Mathlib.Omega.{arith}
+use Rattle.std.proofs.Common.{◌≡◌, ◌<◌, ◌∙◌, ℕ, suc, ◌+◌, ◌-◌, ◌∷◌, ◌++◌, List, [], Option, Some, None, Result, Ok, Err, refl, ap, sym, subst}
+use Rattle.std.specs.Result.{IsErr, IsErrAnd}
+use Rattle.std.proofs.Math.Nat.{le_refl}
+use Rattle.st_trace.specs.declared.entry.Choice.{Choice}
+use Rattle.st_trace.specs.declared.entry.Entry.{Entry}
+use Rattle.st_law.proofs.Resting.{rest_settles}
+use Rattle.st_law.specs.Inputs.{IsStartable}
+use Rattle.st_law.specs.Machine.{entry_of, state_after, state_of_run, IsEnabled}
+use Rattle.st_law.specs.Schedules.{Played, further_on, line_played, most_steps, repeated, rest_from}
+use Rattle.st_law.specs.State.{State}
+use Rattle.st_law.specs.declared.input.Input.{Input}
+use Rattle.st_law.specs.declared.input.What.TheVariants.{Rest}
+use Rattle.st_kernel.specs.declared.kernel.StepFault.{StepFault}
+use Rattle.st_kernel.specs.Kernel.{Course, rested, standing, with_choice}
+use Rattle.st_kernel.proofs.Courses.{state_more}
+
+module _ (i : Input) (made : List Choice) where
+  abbrev here : Course
+  here = record { input = i; choices = made }
+
+  -- ---- a choice many times
+
+  pub repeated_further : (count : ℕ) (c : Choice) (e : Entry) → entry_of i (state_of_run i made) c ≡ Some e → repeated (suc count) c i (standing here) ≡ repeated count c i (standing (record { input = i; choices = made ++ c ∷ [] }))
+  repeated_further count c e adds =
+      ap (further_on (λ (entry : Entry). repeated count c i (record { choices = made ++ c ∷ []; state = state_after i (state_of_run i made) entry }))) adds
+      ∙ ap (λ (st : State). repeated count c i (record { choices = made ++ c ∷ []; state = st })) (sym (state_more i made c e adds))
+
+  pub repeated_stuck : (count : ℕ) (c : Choice) → entry_of i (state_of_run i made) c ≡ None → repeated (suc count) c i (standing here) ≡ None
+  repeated_stuck count c none = ap (further_on (λ (entry : Entry). repeated count c i (record { choices = made ++ c ∷ []; state = state_after i (state_of_run i made) entry }))) none
+
+  -- ---- `rest`
+
+  pub rest_stands : (count : ℕ) → IsStartable i → line_played Rest count i (standing here) ≡ Some (standing (rested here))
+  rest_stands count startable =
+      let over : Played = rest_from (most_steps i) i (state_of_run i made) made in
+      ap (λ (st : State). Some (record { choices = over.choices; state = st })) (rest_settles i startable made (most_steps i) (le_refl (most_steps i))).reached
+
+-- ---- the rounds of a loop that makes a choice many times
+
+module _ (old : Course) (c : Choice) (count k : ℕ) (within : k < count) where
+  abbrev i : Input
+  i = old.input
+
+  one_less : count - k ≡ suc (count - (k + 1))
+  one_less = omega (arith, within)
+
+  further : (new : Course) → new ≡ with_choice old c → IsEnabled i (state_of_run i old.choices) c → repeated (count - (k + 1)) c i (standing new) ≡ repeated (count - k) c i (standing old)
+  further new on enabled =
+      ap (λ (course : Course). repeated (count - (k + 1)) c i (standing course)) on
+      ∙ sym (repeated_further i old.choices (count - (k + 1)) c enabled.0 enabled.1)
+      ∙ ap (λ (n : ℕ). repeated n c i (standing old)) (sym one_less)
+
+  stuck : entry_of i (state_of_run i old.choices) c ≡ None → repeated (count - k) c i (standing old) ≡ None
+  stuck none = ap (λ (n : ℕ). repeated n c i (standing old)) one_less ∙ repeated_stuck i old.choices (count - (k + 1)) c none
+
+  -- one round more leaves one time less to make the choice
+  pub round_further : (input : Input) → i ≡ input → (new : Course) → new ≡ with_choice old c → IsEnabled i (state_of_run i old.choices) c → repeated (count - (k + 1)) c input (standing new) ≡ repeated (count - k) c input (standing old)
+  round_further input same new on enabled = subst (λ (j : Input). repeated (count - (k + 1)) c j (standing new) ≡ repeated (count - k) c j (standing old)) same (further new on enabled)
+
+  pub round_stuck : (input : Input) → i ≡ input → entry_of i (state_of_run i old.choices) c ≡ None → repeated (count - k) c input (standing old) ≡ None
+  round_stuck input same none = subst (λ (j : Input). repeated (count - k) c j (standing old) ≡ None) same (stuck none)
+
+-- the error of a result, else the other
+abbrev fault_or : {A : Type 0} → StepFault → Result A StepFault → StepFault
+fault_or other (Ok value) = other
+fault_or other (Err e) = e
+
+-- an error that is handed on is the one that came
+pub came_from : {A : Type 0} (s f : StepFault) (r : Result A StepFault) → IsErr r → IsErrAnd r (λ e. e ≡ s) → r ≡ Err f → s ≡ f
+came_from s f (Ok value) failed same is = cc
+came_from s f (Err e) failed same is = sym same ∙ ap (fault_or e) is

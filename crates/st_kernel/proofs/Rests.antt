@@ -1,0 +1,135 @@
+-- What `rest` comes to, step by step. It may make so many steps that how many doesn't matter.
+use native.Mathlib.Omega.{arith}
+use Rattle.std.proofs.Common.{◌≡◌, ◌≤◌, ◌<◌, ◌∙◌, ℕ, zero, suc, ◌+◌, ◌-◌, ◌∷◌, ◌++◌, Bool, true, false, List, [], length, Option, Some, None, refl, ap, sym, subst}
+use Rattle.std.proofs.lemmas.List.{append_assoc, length-append}
+use Rattle.std.proofs.lemmas.Option.{none-some, same_Some}
+use Rattle.std.specs.Option.{option_map}
+use Rattle.st_trace.specs.declared.entry.Choice.{Choice}
+use Rattle.st_trace.specs.declared.entry.Entry.{Entry}
+use Rattle.st_law.specs.Inputs.{IsStartable}
+use Rattle.st_law.specs.Machine.{entry_of, run, state_after, state_of_run, IsSettled}
+use Rattle.st_law.specs.Schedules.{EnabledChoice, Played, first_enabled, most_steps, rest_from, rest_on}
+use Rattle.st_law.specs.State.{State}
+use Rattle.st_law.specs.declared.input.Input.{Input}
+use Rattle.st_law.proofs.EndOfRuns.{run_bound}
+use Rattle.st_law.proofs.Resting.{first_found, rest_settles}
+use Rattle.st_kernel.specs.Kernel.{Course, IsChosen, IsPlayed, next_of, rested}
+use Rattle.st_kernel.proofs.Courses.{run_more, state_more}
+
+module _ (i : Input) (startable : IsStartable i) where
+  -- each of these choices was enabled at its turn
+  abbrev AreEnabled : List Choice → Type 0
+  AreEnabled made = length (run i made) ≡ length made
+
+  longer : (made : List Choice) (c : Choice) → length (made ++ c ∷ []) ≡ length made + 1
+  longer made c = length-append made (c ∷ [])
+
+  pub enabled_more : (made : List Choice) (c : Choice) (e : Entry) → AreEnabled made → entry_of i (state_of_run i made) c ≡ Some e → AreEnabled (made ++ c ∷ [])
+  enabled_more made c e are adds = ap (λ (l : List Entry). length l) (run_more i made c e adds) ∙ length-append (run i made) (e ∷ []) ∙ ap (λ (n : ℕ). n + 1) are ∙ sym (longer made c)
+
+  -- so there is room for one more
+  pub room : (made : List Choice) (c : Choice) (e : Entry) → AreEnabled made → entry_of i (state_of_run i made) c ≡ Some e → length made + 1 ≤ most_steps i
+  room made c e are adds =
+      let bound = run_bound i startable (made ++ c ∷ []) in
+      let same = enabled_more made c e are adds in
+      let long = longer made c in
+      omega (arith, bound, same, long)
+
+  -- behind the first choice that is found
+  abbrev behind : (count : ℕ) (made : List Choice) → EnabledChoice → Played
+  behind count made found = rest_from count i (state_after i (state_of_run i made) found.entry) (made ++ found.choice ∷ [])
+
+  behind_is : (count : ℕ) (made : List Choice) (found : EnabledChoice) → first_enabled i (state_of_run i made) ≡ Some found → behind count made found ≡ rest_from count i (state_of_run i (made ++ found.choice ∷ [])) (made ++ found.choice ∷ [])
+  behind_is count made found e = ap (λ (st : State). rest_from count i st (made ++ found.choice ∷ [])) (sym (state_more i made found.choice found.entry (first_found i (state_of_run i made) found e)))
+
+  -- one step more makes no difference where it makes none behind the first choice
+  step : (count : ℕ) (made : List Choice) (o : Option EnabledChoice) → first_enabled i (state_of_run i made) ≡ o
+      → ((found : EnabledChoice) → first_enabled i (state_of_run i made) ≡ Some found → rest_from (suc count) i (state_of_run i (made ++ found.choice ∷ [])) (made ++ found.choice ∷ []) ≡ rest_from count i (state_of_run i (made ++ found.choice ∷ [])) (made ++ found.choice ∷ []))
+      → rest_from (suc (suc count)) i (state_of_run i made) made ≡ rest_from (suc count) i (state_of_run i made) made
+  step count made None e again = ap (rest_on (record { choices = made; state = state_of_run i made }) (λ found. behind (suc count) made found)) e ∙ sym (ap (rest_on (record { choices = made; state = state_of_run i made }) (λ found. behind count made found)) e)
+  step count made (Some found) e again =
+      ap (rest_on (record { choices = made; state = state_of_run i made }) (λ other. behind (suc count) made other)) e
+      ∙ behind_is (suc count) made found e ∙ again found e ∙ sym (behind_is count made found e)
+      ∙ sym (ap (rest_on (record { choices = made; state = state_of_run i made }) (λ other. behind count made other)) e)
+
+  -- nor where there are enough
+  enough : (count : ℕ) (made : List Choice) → AreEnabled made → most_steps i ≤ count + length made → rest_from (suc count) i (state_of_run i made) made ≡ rest_from count i (state_of_run i made) made
+  enough zero made are few = by (first_enabled i (state_of_run i made)) refl where
+    by : (o : Option EnabledChoice) → first_enabled i (state_of_run i made) ≡ o → rest_on (record { choices = made; state = state_of_run i made }) (λ found. behind zero made found) o ≡ rest_from zero i (state_of_run i made) made
+    by None e = refl
+    by (Some found) e = let more = room made found.choice found.entry are (first_found i (state_of_run i made) found e) in absurd (omega (arith, more, few))
+  enough (suc count) made are few = step count made (first_enabled i (state_of_run i made)) refl
+      (λ found e. enough count (made ++ found.choice ∷ []) (enabled_more made found.choice found.entry are (first_found i (state_of_run i made) found e)) (let long = longer made found.choice in omega (arith, few, long)))
+
+  some_next : (o : Option EnabledChoice) (c : Choice) → option_map (λ (found : EnabledChoice). found.choice) o ≡ Some c → (found : EnabledChoice) × (o ≡ Some found) × (found.choice ≡ c)
+  some_next None c e = absurd (none-some c e)
+  some_next (Some found) c e = (found, refl, same_Some found.choice c e)
+
+  further : (made : List Choice) (found : EnabledChoice) → AreEnabled made → first_enabled i (state_of_run i made) ≡ Some found → (most : ℕ) → most_steps i ≡ most
+      → rest_from most i (state_of_run i (made ++ found.choice ∷ [])) (made ++ found.choice ∷ []) ≡ rest_from most i (state_of_run i made) made
+  further made found are e zero same = let more = room made found.choice found.entry are (first_found i (state_of_run i made) found e) in absurd (omega (arith, more, same))
+  further made found are e (suc count) same =
+      let long = longer made found.choice in
+      enough count (made ++ found.choice ∷ []) (enabled_more made found.choice found.entry are (first_found i (state_of_run i made) found e)) (omega (arith, same, long))
+      ∙ sym (behind_is count made found e)
+      ∙ sym (ap (rest_on (record { choices = made; state = state_of_run i made }) (λ other. behind count made other)) e)
+
+  -- `rest` comes to the same behind the choice that it makes first
+  pub rest_further : (made : List Choice) (c : Choice) → AreEnabled made → next_of (record { input = i; choices = made }) ≡ Some c → rested (record { input = i; choices = made ++ c ∷ [] }) ≡ rested (record { input = i; choices = made })
+  rest_further made c are e =
+      let x = some_next (first_enabled i (state_of_run i made)) c e in
+      subst (λ (first : Choice). rested (record { input = i; choices = made ++ first ∷ [] }) ≡ rested (record { input = i; choices = made })) x.2
+      (ap (λ (played : Played). record { input = i; choices = played.choices }) (further made x.0 are x.1 (most_steps i) refl))
+
+  pub next_adds : (made : List Choice) (c : Choice) → next_of (record { input = i; choices = made }) ≡ Some c → (e : Entry) × (entry_of i (state_of_run i made) c ≡ Some e)
+  next_adds made c e =
+      let x = some_next (first_enabled i (state_of_run i made)) c e in
+      (x.0.entry, subst (λ (first : Choice). entry_of i (state_of_run i made) first ≡ Some x.0.entry) x.2 (first_found i (state_of_run i made) x.0 x.1))
+
+-- where none is enabled `rest` makes none
+rests_at : (course : Course) → next_of course ≡ None → rest_from (most_steps course.input) course.input (state_of_run course.input course.choices) course.choices ≡ record { choices = course.choices; state = state_of_run course.input course.choices }
+rests_at course none = by (most_steps course.input) (first_enabled course.input st) refl none where
+  st : State
+  st = state_of_run course.input course.choices
+
+  by : (most : ℕ) (o : Option EnabledChoice) → first_enabled course.input st ≡ o → option_map (λ (found : EnabledChoice). found.choice) o ≡ None → rest_from most course.input st course.choices ≡ record { choices = course.choices; state = st }
+  by zero o is none = refl
+  by (suc count) None is none = ap (rest_on (record { choices = course.choices; state = st }) (λ found. rest_from count course.input (state_after course.input st found.entry) (course.choices ++ found.choice ∷ []))) is
+  by (suc count) (Some found) is none = absurd (none-some found.choice (sym none))
+
+pub rest_over : (course : Course) → next_of course ≡ None → rested course ≡ course
+rest_over course none = ap (λ (played : Played). record { input = course.input; choices = played.choices }) (rests_at course none)
+
+-- and no choice at all is
+pub settled_at : (course : Course) → IsPlayed course → next_of course ≡ None → IsSettled course.input (state_of_run course.input course.choices)
+settled_at course played none =
+    subst (λ (at : Played). IsSettled course.input at.state) (rests_at course none) (rest_settles course.input played.startable course.choices (most_steps course.input) (omega arith)).settled
+
+-- ---- a step of `rest`
+
+-- a course has gone on by a choice, `rest` comes to the same behind it, and fewer steps are left
+pub record GoesOn (before after : Course) : Type 0 where
+  pub on_the_way : rested after ≡ rested before
+  pub made : (c : Choice) × (after.choices ≡ before.choices ++ c ∷ [])
+  pub less : most_steps after.input - length after.choices < most_steps before.input - length before.choices
+
+-- the first choice that is enabled is made, and leads on
+pub goes_on : (before after : Course) (c : Choice) (enabled : Bool) → IsPlayed before → next_of before ≡ Some c → IsChosen before c enabled after → GoesOn before after
+goes_on before after c true played next chosen = subst (GoesOn before) (sym chosen.0) (record {
+  on_the_way = rest_further before.input played.startable before.choices c played.enabled next;
+  made = (c, refl);
+  less =
+      let adds = next_adds before.input played.startable before.choices c next in
+      let more = room before.input played.startable before.choices c adds.0 played.enabled adds.1 in
+      let long = length-append before.choices (c ∷ []) in
+      omega (arith, more, long);
+})
+goes_on before after c false played next chosen =
+    let adds = next_adds before.input played.startable before.choices c next in
+    absurd (none-some adds.0 (sym chosen.1 ∙ adds.1))
+
+-- choices that were made earlier stay
+pub made_on : (first : List Choice) (before after : Course) → (made : List Choice) × (before.choices ≡ first ++ made) → GoesOn before after → (made : List Choice) × (after.choices ≡ first ++ made)
+made_on first before after earlier goes =
+    let c = goes.made.0 in
+    (earlier.0 ++ c ∷ [], goes.made.1 ∙ ap (λ (l : List Choice). l ++ c ∷ []) earlier.1 ∙ append_assoc first earlier.0 (c ∷ []))

@@ -1,0 +1,32 @@
+-- Which thread and which worker is the first that can move.
+use Rattle.std.specs.Prelude.{◌≡◌, ◌≤◌, ◌<◌, ℕ, suc, Option, Some, None, IsSome}
+use Rattle.st_law.specs.Machine.{thread_entry, worker_entry}
+use Rattle.st_law.specs.State.{State, thread_count}
+use Rattle.st_machine.specs.Machine.{IsMachine, Running}
+
+-- no thread from one number up to another can move, in each state that the machine may be in
+abbrev pub NoneAble : Running → ℕ → ℕ → Type 0
+NoneAble m from to = (st : State) → IsMachine m st → (t : ℕ) → from ≤ t → t < to → thread_entry m.input st t ≡ None
+
+-- the first thread from this one on that can move, or the number behind the last
+pub record HasFirstAble (m : Running) (from first : ℕ) : Type 0 where
+  pub from_on : from ≤ first
+  pub to : first ≤ suc (thread_count m.input)
+  pub none : NoneAble m from first
+  pub able : first ≤ thread_count m.input → (st : State) → IsMachine m st → IsSome (thread_entry m.input st first)
+
+-- no worker below this number can move
+abbrev pub NoneServes : Running → ℕ → Type 0
+NoneServes m to = (st : State) → IsMachine m st → (w : ℕ) → 1 ≤ w → w < to → worker_entry m.input st w ≡ None
+
+-- a worker is the first that can move
+pub record IsFirstServer (m : Running) (worker : ℕ) : Type 0 where
+  pub from : 1 ≤ worker
+  pub to : worker ≤ m.input.options.workers
+  pub none : NoneServes m worker
+  pub serves : (st : State) → IsMachine m st → IsSome (worker_entry m.input st worker)
+
+-- the first worker that can move, or none
+abbrev pub HasFirstServer : Running → Option ℕ → Type 0
+HasFirstServer m (Some worker) = IsFirstServer m worker
+HasFirstServer m None = NoneServes m (suc m.input.options.workers)

@@ -1,0 +1,76 @@
+// A schedule's lines, one after the other.
+ghost use Rattle.std.specs.Prelude.{◌≡◌, ℕ, None, Some, OnOk};
+ghost use Rattle.st_law.specs.Schedules.{BadLine, Choices, line_played, lines_played, repeated};
+ghost use Rattle.st_kernel.specs.Kernel.{standing};
+
+use crate::kernel::{Kernel, StepFault};
+use st_law::{ReadSchedule, ScheduleLine, What};
+use st_trace::Choice;
+use std::alloc::Global;
+use thiserror::Error;
+
+/// Why a schedule wasn't played to its end.
+#[derive(Clone, Copy, Debug, PartialEq, Eq, Drop, Error)]
+pub enum PlayFault {
+    /// The line, counted from 1, isn't in the grammar, or its choice isn't enabled at its turn.
+    #[error("line {0} can't be played")]
+    BadLine(u32),
+    #[error("out of memory")]
+    NoMemory,
+}
+
+impl PlayFault {
+    // What becomes of a schedule where a line of it isn't played.
+    fn at_line(line: u32, fault: StepFault) -> PlayFault
+        ensures enabled { fault ≡ StepFault.NotEnabled → result ≡ PlayFault.BadLine line }
+        ensures memory { fault ≡ StepFault.NoMemory → result ≡ PlayFault.NoMemory }
+    {
+        match fault {
+            StepFault::NotEnabled => PlayFault::BadLine(line),
+            StepFault::NoMemory => PlayFault::NoMemory,
+        }
+    }
+}
+
+impl Kernel<'_> {
+    // Makes a choice so many times.
+    fn repeat(&mut self, alloc: Global, choice: Choice, count: u32) -> Result<(), StepFault>
+        ensures ok { OnOk result (repeated count choice self.old.input (standing self.old) ≡ Some (standing self.new)) }
+        ensures not_enabled { result ≡ Err StepFault.NotEnabled → repeated count choice self.old.input (standing self.old) ≡ None }
+        ensures input { self.new.input ≡ self.old.input }
+    {
+        for _ in 0..count {
+            self.advance(alloc, choice)?;
+        }
+        Ok(())
+    }
+
+    // Plays what one line asks for.
+    fn play_line(&mut self, alloc: Global, line: ScheduleLine) -> Result<(), StepFault>
+        ensures ok { OnOk result (line_played line.what line.count self.old.input (standing self.old) ≡ Some (standing self.new)) }
+        ensures not_enabled { result ≡ Err StepFault.NotEnabled → line_played line.what line.count self.old.input (standing self.old) ≡ None }
+        ensures input { self.new.input ≡ self.old.input }
+    {
+        match line.what {
+            What::Choose(choice) => self.repeat(alloc, choice, line.count),
+            What::Rest => Ok(self.rest(alloc)?),
+        }
+    }
+
+    /// Plays a schedule from here on. It ends at the first line that isn't in the grammar or asks for a choice that isn't enabled at its
+    /// turn, or without memory; the choices made until then stand.
+    pub fn play(&mut self, alloc: Global, schedule: &ReadSchedule) -> Result<(), PlayFault>
+        ensures ok { OnOk result (lines_played schedule.now.lines schedule.now.bad self.old.input (standing self.old) ≡ Choices self.new.choices) }
+        ensures bad_line { (line : ℕ) → result ≡ Err (PlayFault.BadLine line) → lines_played schedule.now.lines schedule.now.bad self.old.input (standing self.old) ≡ BadLine line }
+        ensures input { self.new.input ≡ self.old.input }
+    {
+        for line in schedule.lines.as_slice() {
+            self.play_line(alloc, *line)
+                .map_err(|fault| PlayFault::at_line(line.line, fault))?;
+        }
+        match schedule.bad {
+            Some(line) => Err(PlayFault::BadLine(line)),
+            None => Ok(()),
+        }
+    }
+}

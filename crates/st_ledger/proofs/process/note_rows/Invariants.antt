@@ -1,9 +1,0 @@
-use Rattle.std.proofs.Common.{◌≡◌, ℕ, take}
-use Rattle.st_ledger.specs.Ledger.{row_in}
-use Rattle.st_ledger.specs.Rows.{row_after}
-use Rattle.st_ledger.proofs.process.note_rows.Given as goal
-
--- the changes so far are taken in
-abbrev pub invariant-loop-change : goal.invariant-loop-change
-invariant-loop-change l =
-    (p : ℕ) → row_in l.input l.rows p ≡ row_after (row_in l.input l.initial.rows l.pid) l.pid p (row_in l.input l.initial.rows p) (take l.change-index l.changes)

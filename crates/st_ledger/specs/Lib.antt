@@ -1,5 +1,0 @@
-pub mod AuditText
-pub mod How
-pub mod Ledger
-pub mod Rows
-pub mod Told

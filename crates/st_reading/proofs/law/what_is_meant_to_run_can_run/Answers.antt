@@ -1,0 +1,5 @@
+use Rattle.st_reading.proofs.Runnable.{runnable}
+use Rattle.st_reading.proofs.law.what_is_meant_to_run_can_run.Goals as goal
+
+pub returns : goal.returns
+returns c = runnable

@@ -1,0 +1,42 @@
+-- What is read of a text is what its lines say, and these have no fault.
+use Rattle.std.proofs.Common.{◌≡◌, ℕ, false, List, Option, Some, None, Result, Ok, Err, refl, subst}
+use Rattle.std.specs.Prelude.{IfOk, is_some}
+use Rattle.st_law.specs.declared.input.Options.{Options}
+use Rattle.st_lex.specs.Tokens.{lexed_text}
+use Rattle.st_lex.specs.declared.token.LexFault.{LexFault}
+use Rattle.st_script_faults.specs.Faults.{Whole, first_fault, first_of, lexical, script_fault, whole_of}
+use Rattle.st_script_faults.specs.Names.{no_names}
+use Rattle.st_script_faults.specs.declared.fault.ScriptFault.{ScriptFault}
+use Rattle.st_statements.specs.Statements.{lines_in}
+use Rattle.st_script.specs.Reading.{script_in, script_with, unless_faulty}
+use Rattle.st_script.specs.declared.reading.ReadScript.{ReadScript}
+
+no_first : (a b : Option ScriptFault) → first_of a b ≡ None → (a ≡ None) × (b ≡ None)
+no_first (Some fault) b e = absurd (cc)
+no_first None b e = (refl, e)
+
+not_cut : (broken : Option LexFault) → lexical broken ≡ None → is_some broken ≡ false
+not_cut (Some fault) e = absurd (cc)
+not_cut None e = refl
+
+-- what the rows of a text are read with
+abbrev pub whole_in : List ℕ → Options → Whole
+whole_in text options = whole_of (is_some (lexed_text text).fault) options (lines_in text)
+
+module _ (P : ReadScript → Type 0) (text : List ℕ) (options : Options)
+    (faultless : (whole_in text options).is_cut ≡ false → first_fault (whole_in text options) no_names (lines_in text) ≡ None → P (script_with (whole_in text options).env (lines_in text))) where
+  by_fault : (o : Option ScriptFault) → script_fault options (lexed_text text).fault (lines_in text) ≡ o → (script : ReadScript) → unless_faulty o (script_with (whole_in text options).env (lines_in text)) ≡ Ok script → P script
+  by_fault (Some fault) here script is = absurd (cc)
+  by_fault None here script is =
+      let none = no_first (first_fault (whole_in text options) no_names (lines_in text)) (lexical (lexed_text text).fault) here in
+      let same : script_with (whole_in text options).env (lines_in text) ≡ script = cc in
+      subst P same (faultless (not_cut (lexed_text text).fault none.1) none.0)
+
+  -- it holds of what is read, if it holds of what lines without a fault say, which no lexical fault cuts off
+  pub read_has : (script : ReadScript) → script_in text options ≡ Ok script → P script
+  read_has script is = by_fault (script_fault options (lexed_text text).fault (lines_in text)) refl script is
+
+-- the same of a result
+pub result_has : {E : Type 0} (P : ReadScript → Type 0) (text : List ℕ) (options : Options) → ((script : ReadScript) → script_in text options ≡ Ok script → P script) → (r : Result ReadScript E) → IfOk r (λ script. script_in text options ≡ Ok script) → IfOk r P
+result_has P text options has (Ok script) is = has script is
+result_has P text options has (Err error) is = tt

@@ -1,0 +1,153 @@
+-- What a script's text is read as: where a run starts, and what the operator replies.
+use Rattle.std.specs.Prelude.{ℕ, ◌+◌, if◌then◌else◌, List, [], ◌∷◌, ◌++◌, drop, map, slice_index, Option, Some, None, option_map, Result, Ok, Err}
+use Rattle.std.specs.List.{filter_map, range_with_len}
+use Rattle.st_filter.specs.declared.set.Reply.{Reply}
+use Rattle.st_law.specs.declared.input.Options.{Options}
+use Rattle.st_lex.specs.Tokens.{lexed_text}
+use Rattle.st_lex.specs.declared.token.LexFault.{LexFault}
+use Rattle.st_model.specs.Memory.{word_of}
+use Rattle.st_names.specs.Name.{Components, components_of, split_at_slashes}
+use Rattle.st_policy.specs.declared.env.Env.{Env}
+use Rattle.st_script_faults.specs.Environment.{environment_of, process_of}
+use Rattle.st_script_faults.specs.Faults.{ends_body, reply_in, script_fault, threads_behind}
+use Rattle.st_statements.specs.Lines.{saturated}
+use Rattle.st_script_faults.specs.Names.{Name, number_of, store_count, with_name}
+use Rattle.st_statements.specs.Statements.{lines_in}
+use Rattle.st_script_faults.specs.declared.fault.ScriptFault.{ScriptFault}
+use Rattle.st_script.specs.declared.reading.ReadScript.{ReadScript}
+use Rattle.st_statements.specs.declared.statement.ScriptLine.{ScriptLine}
+use Rattle.st_statements.specs.declared.statement.ScriptProcess.{ScriptProcess}
+use Rattle.st_statements.specs.declared.statement.Statement.{Statement}
+use Rattle.st_statements.specs.declared.statement.Statement.TheVariants as says
+use Rattle.st_trace.specs.declared.start.GroupRow.{GroupRow}
+use Rattle.st_trace.specs.declared.start.Instr.{Instr}
+use Rattle.st_trace.specs.declared.start.Instr.TheVariants.{Store, Call, Fork}
+use Rattle.st_trace.specs.declared.start.ProcessRow.{ProcessRow}
+use Rattle.st_trace.specs.declared.start.Start.{Start}
+use Rattle.st_trace.specs.declared.start.ThreadRow.{ThreadRow}
+use Rattle.st_trace.specs.declared.start.TreeRow.{TreeRow}
+use Rattle.st_trace.specs.declared.start.UserRow.{UserRow}
+
+-- ---- accounts, objects and processes
+
+-- the user of a line, if it says one
+abbrev pub user_said : Option Statement → Option UserRow
+user_said (Some (says.User user)) = Some user
+user_said _ = None
+
+-- the group of a line
+abbrev pub group_said : Option Statement → Option GroupRow
+group_said (Some (says.Group group)) = Some group
+group_said _ = None
+
+-- the components of an object's path
+abbrev pub object_name : List ℕ → Components
+object_name path = split_at_slashes (drop 1 path)
+
+-- the object of a line
+abbrev pub object_said : Option Statement → Option TreeRow
+object_said (Some (says.Object path new)) = Some (record { name = object_name path; new = new })
+object_said _ = None
+
+-- a process as a run starts it
+abbrev pub started_process : ScriptProcess → ProcessRow
+started_process process = record {
+  traced = process.traced;
+  binary = process.binary;
+  uid = process.uid;
+  gid = process.gid;
+  cwd = components_of process.cwd;
+}
+
+-- the process of a line
+abbrev pub process_said : Option Statement → Option ProcessRow
+process_said statement = option_map started_process (process_of statement)
+
+-- ---- threads
+
+-- the store of word i of a text that zeros follow, where the text begins at this place
+abbrev pub store_of : ℕ → List ℕ → ℕ → Instr
+store_of first bytes i = Store (saturated (first + i)) (word_of (slice_index bytes) i)
+
+-- the stores of a text and a zero byte, filled with zeros to whole words
+abbrev pub stores : ℕ → List ℕ → List Instr
+stores first bytes = map (store_of first bytes) (range_with_len 0 (store_count bytes))
+
+-- the instructions of a line, where these are the threads of the script
+abbrev pub instructions_said : List Name → Option Statement → List Instr
+instructions_said threads (Some (says.Store place word)) = Store place word ∷ []
+instructions_said threads (Some (says.Put place bytes)) = stores place bytes
+instructions_said threads (Some (says.Call call regs)) = Call call regs ∷ []
+instructions_said threads (Some (says.Fork name)) = Fork (number_of threads name) ∷ []
+instructions_said threads _ = []
+
+-- the body of a thread, which are the lines up to the next `end`
+abbrev pub body_in : List Name → List ScriptLine → List Instr
+body_in threads [] = []
+body_in threads (line ∷ lines) = if ends_body line then [] else instructions_said threads line.says ++ body_in threads lines
+
+-- where a thread starts, if a line says one: in the process of this name, or nowhere
+abbrev pub thread_said : Option Statement → Option (Option Name)
+thread_said (Some (says.Thread name process)) = Some process
+thread_said _ = None
+
+-- a thread in one of these processes, with this body
+abbrev pub thread_with : List Name → Option Name → List Instr → ThreadRow
+thread_with processes process body = record { process = option_map (number_of processes) process; body = body }
+
+-- the threads of lines, where these are the processes and threads of the script
+abbrev pub threads_in : List Name → List Name → List ScriptLine → List ThreadRow
+threads_in processes threads [] = []
+threads_in processes threads (line ∷ lines) =
+    elim (thread_said line.says) [
+      | Some process ↦ thread_with processes process (body_in threads lines) ∷ threads_in processes threads lines
+      | None ↦ threads_in processes threads lines
+    ]
+
+-- names with that of a process, if a row is one
+abbrev pub with_process : List Name → Option Statement → List Name
+with_process names (Some (says.Process process)) = with_name names process.name
+with_process names _ = names
+
+-- the processes of lines, behind these
+abbrev pub processes_behind : List Name → List ScriptLine → List Name
+processes_behind names [] = names
+processes_behind names (line ∷ lines) = processes_behind (with_process names line.says) lines
+
+-- ---- scripts
+
+-- where the run of a script starts
+abbrev pub start_of : List ScriptLine → Start
+start_of lines = record {
+  users = filter_map (λ line. user_said line.says) lines;
+  groups = filter_map (λ line. group_said line.says) lines;
+  tree = filter_map (λ line. object_said line.says) lines;
+  processes = filter_map (λ line. process_said line.says) lines;
+  threads = threads_in (processes_behind [] lines) (threads_behind [] lines) lines;
+}
+
+-- the reply of a line
+abbrev pub reply_said : Env → Option Statement → Option Reply
+reply_said env (Some (says.Reply binary filter)) = reply_in env binary filter
+reply_said env _ = None
+
+-- what lines without a fault say, read with this environment
+abbrev pub script_with : Env → List ScriptLine → ReadScript
+script_with env lines = record {
+  start = start_of lines;
+  env = env;
+  replies = filter_map (λ line. reply_said env line.says) lines;
+}
+
+-- what is read, unless there is a fault
+abbrev pub unless_faulty : Option ScriptFault → ReadScript → Result ReadScript ScriptFault
+unless_faulty (Some fault) script = Err fault
+unless_faulty None script = Ok script
+
+-- what lines are read as, which a lexical fault may follow
+abbrev pub read_lines : Options → Option LexFault → List ScriptLine → Result ReadScript ScriptFault
+read_lines options broken lines = unless_faulty (script_fault options broken lines) (script_with (environment_of options lines) lines)
+
+-- what the text of a script is read as
+abbrev pub script_in : List ℕ → Options → Result ReadScript ScriptFault
+script_in text options = read_lines options (lexed_text text).fault (lines_in text)

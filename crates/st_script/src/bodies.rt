@@ -1,0 +1,158 @@
+ghost use Rattle.std.specs.Prelude.{◌≡◌, ◌^◌, ◌<◌, ◌++◌, [], slice_index, option_map, option_copied, IfOk, OnOk};
+ghost use Rattle.st_model.specs.Memory.{word_of};
+ghost use Rattle.st_script_faults.specs.Faults.{threads_behind};
+ghost use Rattle.st_script.specs.Reading.{stores, instructions_said, body_in, thread_said, thread_with, with_process, processes_behind, threads_in};
+
+use st_base::{Sequence, Text};
+use st_script_faults::faults::{ends_body, threads_of};
+use st_script_faults::names::{NameIndex, store_count};
+use st_statements::lines::saturated;
+use st_statements::{ScriptLine, Statement};
+use st_trace::{Instr, ThreadRow};
+use std::alloc::{AllocError, Global};
+
+fn byte_at(bytes: &[u8], at: usize) -> u8
+    ensures { result ≡ slice_index bytes.now at }
+{
+    if at < bytes.len() { bytes[at] } else { 0 }
+}
+
+// A word of a text that zeros follow.
+fn word_at(bytes: &[u8], place: usize) -> u64
+    requires { place < 2 ^ 60 }
+    ensures { result ≡ word_of (slice_index bytes.now) place }
+{
+    let at = 8 * place;
+    u64::from_le_bytes([
+        byte_at(bytes, at),
+        byte_at(bytes, at + 1),
+        byte_at(bytes, at + 2),
+        byte_at(bytes, at + 3),
+        byte_at(bytes, at + 4),
+        byte_at(bytes, at + 5),
+        byte_at(bytes, at + 6),
+        byte_at(bytes, at + 7),
+    ])
+}
+
+// Adds the stores of a text and a zero byte, filled with zeros to whole words.
+fn push_stores(body: &mut Sequence<Instr>, first: u32, bytes: &[u8]) -> Result<(), AllocError>
+    ensures { OnOk result (body.new ≡ body.old ++ stores first bytes.now) }
+{
+    for i in 0..store_count(bytes) {
+        let place = saturated(u64::from(first) + i);
+        body.push(Instr::Store(place, word_at(bytes, i as usize)))?;
+    }
+    Ok(())
+}
+
+// Adds the instructions of a line.
+fn push_said(
+    body: &mut Sequence<Instr>,
+    threads: &NameIndex,
+    says: &Option<Statement>,
+) -> Result<(), AllocError>
+    ensures { OnOk result (body.new ≡ body.old ++ instructions_said threads.now says.now) }
+{
+    match says {
+        Some(Statement::Store(place, word)) => body.push(Instr::Store(*place, *word)),
+        Some(Statement::Put(first, bytes)) => push_stores(body, *first, bytes.bytes()),
+        Some(Statement::Call(call, regs)) => body.push(Instr::Call(*call, *regs)),
+        Some(Statement::Fork(name)) => body.push(Instr::Fork(threads.number_of(name.bytes()))),
+        _ => Ok(()),
+    }
+}
+
+// The body of a thread: the lines below it up to the next `end`.
+fn body_in(
+    alloc: Global,
+    threads: &NameIndex,
+    lines: &[ScriptLine],
+) -> Result<Sequence<Instr>, AllocError>
+    ensures { IfOk result (λ body. body ≡ body_in threads.now lines.now) }
+{
+    let mut body = Sequence::new(alloc);
+    for line in lines {
+        if ends_body(line) {
+            return Ok(body);
+        }
+        push_said(&mut body, threads, &line.says)?;
+    }
+    Ok(body)
+}
+
+// The process of the thread that a line says, if it says one.
+fn thread_said(says: &Option<Statement>) -> Option<Option<&Text>>
+    ensures { option_map option_copied result ≡ thread_said says.now }
+{
+    match says {
+        Some(Statement::Thread { process, .. }) => Some(process.as_ref()),
+        _ => None,
+    }
+}
+
+// A thread in one of these processes, with this body.
+fn thread_with(processes: &NameIndex, process: Option<&Text>, body: Sequence<Instr>) -> ThreadRow
+    ensures { result ≡ thread_with processes.now (option_copied process.entry) body }
+{
+    match process {
+        Some(process) => ThreadRow {
+            process: Some(processes.number_of(process.bytes())),
+            body,
+        },
+        None => ThreadRow {
+            process: None,
+            body,
+        },
+    }
+}
+
+fn add_process<'a>(names: &mut NameIndex<'a>, says: &'a Option<Statement>) -> Result<(), AllocError>
+    ensures { OnOk result (names.new ≡ with_process names.old says.now) }
+{
+    match says {
+        Some(Statement::Process(process)) => names.add(process.name.bytes()),
+        _ => Ok(()),
+    }
+}
+
+// The processes of lines, in order.
+fn processes_of<'a>(alloc: Global, lines: &'a [ScriptLine]) -> Result<NameIndex<'a>, AllocError>
+    ensures { IfOk result (λ names. names ≡ processes_behind [] lines.now) }
+{
+    let mut names = NameIndex::new(alloc);
+    for line in lines {
+        add_process(&mut names, &line.says)?;
+    }
+    Ok(names)
+}
+
+// The threads of lines, by the script's processes and threads.
+fn threads_among(
+    alloc: Global,
+    processes: &NameIndex,
+    threads: &NameIndex,
+    lines: &[ScriptLine],
+) -> Result<Sequence<ThreadRow>, AllocError>
+    ensures { IfOk result (λ rows. rows ≡ threads_in processes.now threads.now lines.now) }
+{
+    let mut rows = Sequence::new(alloc);
+    let mut rest = lines;
+    while let Some((line, below)) = rest.split_first() {
+        if let Some(process) = thread_said(&line.says) {
+            let body = body_in(alloc, threads, below)?;
+            rows.push(thread_with(processes, process, body))?;
+        }
+        rest = below;
+    }
+    Ok(rows)
+}
+
+/// The threads of a script's lines, each with its body.
+pub fn threads_in(alloc: Global, lines: &[ScriptLine]) -> Result<Sequence<ThreadRow>, AllocError>
+    ensures { IfOk result (λ rows. rows ≡ threads_in (processes_behind [] lines.now) (threads_behind [] lines.now) lines.now) }
+{
+    let processes = processes_of(alloc, lines)?;
+    let threads = threads_of(alloc, lines)?;
+    threads_among(alloc, &processes, &threads, lines)
+}

@@ -1,0 +1,280 @@
+ghost use Rattle.std.specs.Prelude.{◌≡◌, ◌≢◌, ◌^◌, ◌<◌, ℕ, List, None, Ok, Err, length, IfOk, IfErr};
+ghost use Rattle.std.specs.List.{filter_map};
+ghost use Rattle.st_law.specs.declared.input.Options.{Options};
+ghost use Rattle.st_reached.specs.Scripts.{IsBounded};
+ghost use Rattle.st_script.specs.Bounds.{IsWithinBounds};
+ghost use Rattle.st_script.specs.Startable.{CanStart};
+ghost use Rattle.st_script.specs.declared.reading.ReadScript.{ReadScript};
+ghost use Rattle.st_script_faults.specs.Faults.{first_fault};
+ghost use Rattle.st_script_faults.specs.Names.{no_names};
+ghost use Rattle.st_script.specs.Reading.{user_said, group_said, object_name, object_said, started_process, process_said, reply_said, start_of, script_with, read_lines, script_in};
+
+use crate::bodies::threads_in;
+use st_base::{Sequence, Text};
+use st_filter::Reply;
+use st_law::Options;
+use st_lex::{LexFault, tokens};
+use st_names::AbsName;
+use st_policy::Env;
+use st_script_faults::ScriptFault;
+use st_script_faults::environment::process_of;
+use st_script_faults::faults::{Whole, first_fault, reply_in, whole_of};
+use st_statements::lines::looked_at;
+use st_statements::{ScriptLine, ScriptProcess, Statement, lines_of_tokens};
+use st_trace::{GroupRow, NewKind, NewNode, ProcessRow, Start, TreeRow, UserRow};
+use std::alloc::{AllocError, Global};
+
+/// A script that was read.
+#[derive(Debug, Drop)]
+pub struct ReadScript {
+    /// Where its run starts.
+    pub start: Start,
+    /// What policies are read with.
+    pub env: Env,
+    /// What the operator replies, in order.
+    pub replies: Sequence<Reply>,
+}
+
+fn user_said(alloc: Global, says: &Option<Statement>) -> Result<Option<UserRow>, AllocError>
+    ensures { IfOk result (λ found. found ≡ user_said says.now) }
+{
+    match says {
+        Some(Statement::User(user)) => Ok(Some(UserRow {
+            name: user.name.copy(alloc)?,
+            uid: user.uid,
+            gid: user.gid,
+            home: user.home.copy(alloc)?,
+        })),
+        _ => Ok(None),
+    }
+}
+
+fn users_in(alloc: Global, lines: &[ScriptLine]) -> Result<Sequence<UserRow>, AllocError>
+    ensures { IfOk result (λ users. users ≡ filter_map (λ line. user_said line.says) lines.now) }
+{
+    let mut users = Sequence::new(alloc);
+    for line in lines {
+        if let Some(user) = user_said(alloc, &line.says)? {
+            users.push(user)?;
+        }
+    }
+    Ok(users)
+}
+
+fn group_said(alloc: Global, says: &Option<Statement>) -> Result<Option<GroupRow>, AllocError>
+    ensures { IfOk result (λ found. found ≡ group_said says.now) }
+{
+    match says {
+        Some(Statement::Group(group)) => Ok(Some(GroupRow {
+            name: group.name.copy(alloc)?,
+            gid: group.gid,
+        })),
+        _ => Ok(None),
+    }
+}
+
+fn groups_in(alloc: Global, lines: &[ScriptLine]) -> Result<Sequence<GroupRow>, AllocError>
+    ensures { IfOk result (λ groups. groups ≡ filter_map (λ line. group_said line.says) lines.now) }
+{
+    let mut groups = Sequence::new(alloc);
+    for line in lines {
+        if let Some(group) = group_said(alloc, &line.says)? {
+            groups.push(group)?;
+        }
+    }
+    Ok(groups)
+}
+
+fn copied_kind(alloc: Global, kind: &NewKind) -> Result<NewKind, AllocError>
+    ensures { IfOk result (λ copied. copied ≡ kind.now) }
+{
+    Ok(match kind {
+        NewKind::Dir => NewKind::Dir,
+        NewKind::File(content) => NewKind::File(content.copy(alloc)?),
+        NewKind::Link(target) => NewKind::Link(target.copy(alloc)?),
+    })
+}
+
+fn copied_node(alloc: Global, node: &NewNode) -> Result<NewNode, AllocError>
+    ensures { IfOk result (λ copied. copied ≡ node.now) }
+{
+    Ok(NewNode {
+        kind: copied_kind(alloc, &node.kind)?,
+        uid: node.uid,
+        gid: node.gid,
+        mode: node.mode,
+    })
+}
+
+// The name that a path spells; the root's where the path is empty.
+fn name_of_path(alloc: Global, path: &Text) -> Result<AbsName, AllocError>
+    ensures { IfOk result (λ name. name ≡ object_name path.now) }
+{
+    AbsName::of_parts(alloc, &path.bytes()[path.len().min(1)..])
+}
+
+fn object_said(alloc: Global, says: &Option<Statement>) -> Result<Option<TreeRow>, AllocError>
+    ensures { IfOk result (λ found. found ≡ object_said says.now) }
+{
+    match says {
+        Some(Statement::Object { path, new }) => Ok(Some(TreeRow {
+            name: name_of_path(alloc, path)?,
+            new: copied_node(alloc, new)?,
+        })),
+        _ => Ok(None),
+    }
+}
+
+fn tree_in(alloc: Global, lines: &[ScriptLine]) -> Result<Sequence<TreeRow>, AllocError>
+    ensures { IfOk result (λ rows. rows ≡ filter_map (λ line. object_said line.says) lines.now) }
+{
+    let mut rows = Sequence::new(alloc);
+    for line in lines {
+        if let Some(row) = object_said(alloc, &line.says)? {
+            rows.push(row)?;
+        }
+    }
+    Ok(rows)
+}
+
+fn started_process(alloc: Global, process: &ScriptProcess) -> Result<ProcessRow, AllocError>
+    ensures { IfOk result (λ row. row ≡ started_process process.now) }
+{
+    Ok(ProcessRow {
+        traced: process.traced,
+        binary: process.binary.copy(alloc)?,
+        uid: process.uid,
+        gid: process.gid,
+        cwd: AbsName::of(alloc, process.cwd.bytes())?,
+    })
+}
+
+fn process_said(alloc: Global, says: &Option<Statement>) -> Result<Option<ProcessRow>, AllocError>
+    ensures { IfOk result (λ found. found ≡ process_said says.now) }
+{
+    match process_of(says) {
+        Some(process) => Ok(Some(started_process(alloc, process)?)),
+        None => Ok(None),
+    }
+}
+
+fn processes_in(alloc: Global, lines: &[ScriptLine]) -> Result<Sequence<ProcessRow>, AllocError>
+    ensures { IfOk result (λ rows. rows ≡ filter_map (λ line. process_said line.says) lines.now) }
+{
+    let mut rows = Sequence::new(alloc);
+    for line in lines {
+        if let Some(row) = process_said(alloc, &line.says)? {
+            rows.push(row)?;
+        }
+    }
+    Ok(rows)
+}
+
+// Where the run of a script starts.
+fn start_of(alloc: Global, lines: &[ScriptLine]) -> Result<Start, AllocError>
+    ensures { IfOk result (λ start. start ≡ start_of lines.now) }
+{
+    Ok(Start {
+        users: users_in(alloc, lines)?,
+        groups: groups_in(alloc, lines)?,
+        tree: tree_in(alloc, lines)?,
+        processes: processes_in(alloc, lines)?,
+        threads: threads_in(alloc, lines)?,
+    })
+}
+
+fn reply_said(
+    alloc: Global,
+    env: &Env,
+    says: &Option<Statement>,
+) -> Result<Option<Reply>, AllocError>
+    ensures { IfOk result (λ found. found ≡ reply_said env.now says.now) }
+{
+    match says {
+        Some(Statement::Reply { binary, filter }) => reply_in(alloc, env, binary, filter),
+        _ => Ok(None),
+    }
+}
+
+fn replies_in(alloc: Global, env: &Env, lines: &[ScriptLine]) -> Result<Sequence<Reply>, AllocError>
+    ensures { IfOk result (λ replies. replies ≡ filter_map (λ line. reply_said env.now line.says) lines.now) }
+{
+    let mut replies = Sequence::new(alloc);
+    for line in lines {
+        if let Some(reply) = reply_said(alloc, env, &line.says)? {
+            replies.push(reply)?;
+        }
+    }
+    Ok(replies)
+}
+
+// What lines without a fault say.
+fn script_with(alloc: Global, env: Env, lines: &[ScriptLine]) -> Result<ReadScript, AllocError>
+    ensures { IfOk result (λ script. script ≡ script_with env lines.now) }
+{
+    Ok(ReadScript {
+        start: start_of(alloc, lines)?,
+        replies: replies_in(alloc, &env, lines)?,
+        env,
+    })
+}
+
+// The same of lines without a fault, which are within the bounds of a script.
+fn faultless_script(
+    alloc: Global,
+    whole: Whole,
+    lines: &[ScriptLine],
+) -> Result<ReadScript, AllocError>
+    requires { first_fault whole no_names lines.now ≡ None }
+    ensures is { IfOk result (λ script. script ≡ script_with whole.entry.env lines.now) }
+    ensures bounds { IfOk result IsWithinBounds }
+{
+    let Whole { env, .. } = whole;
+    script_with(alloc, env, lines)
+}
+
+// What lines are read as, which a lexical fault may follow.
+fn read_lines(
+    alloc: Global,
+    options: &Options,
+    broken: Option<LexFault>,
+    lines: &[ScriptLine],
+) -> Result<ReadScript, ScriptFault>
+    ensures ok { IfOk result (λ script. read_lines options.now broken lines.now ≡ Ok script) }
+    ensures fault { IfErr result (λ f. f ≢ ScriptFault.NoMemory → read_lines options.now broken lines.now ≡ Err f) }
+    ensures bounds { IfOk result IsWithinBounds }
+{
+    let whole = whole_of(alloc, broken.is_some(), options, lines)?;
+    match first_fault(alloc, &whole, lines)? {
+        Some(fault) => Err(fault),
+        None => match broken {
+            Some(fault) => Err(ScriptFault::Lex(fault)),
+            None => Ok(faultless_script(alloc, whole, lines)?),
+        },
+    }
+}
+
+/// Reads a script: where its run starts, what its policies are read with, and the operator's replies. Else the fault is that of the
+/// first line that has one, and on it the first of its kinds, a lexical fault before all of them.
+pub fn read_script(alloc: Global, text: &[u8], options: &Options) -> Result<ReadScript, ScriptFault>
+    requires { length text.now < 2 ^ 32 }
+    ensures ok { IfOk result (λ script. script_in text.now options.now ≡ Ok script) }
+    ensures fault { IfErr result (λ f. f ≢ ScriptFault.NoMemory → script_in text.now options.now ≡ Err f) }
+    ensures bounds { IfOk result IsWithinBounds }
+    ensures can_start { IfOk result CanStart }
+    ensures bounded { IfOk result (λ script. IsBounded script.start) }
+{
+    let lexed = tokens(alloc, text)?;
+    let lines = lines_of_tokens(alloc, text, looked_at(&lexed))?;
+    read_lines(alloc, options, lexed.fault, lines.as_slice())
+}
+
+/// A run can start with what is read, under any policies and with one to eight workers.
+pub fn what_is_read_can_start()
+    ensures { (text : List ℕ) (options : Options) (script : ReadScript) → script_in text options ≡ Ok script → CanStart script }
+{}
+
+/// What is read isn't too long, stores into memory only, and starts each thread in one way at most.
+pub fn what_is_read_is_bounded()
+    ensures { (text : List ℕ) (options : Options) (script : ReadScript) → script_in text options ≡ Ok script → IsBounded script.start }
+{}

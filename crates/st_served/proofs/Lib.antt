@@ -1,6 +1,0 @@
-pub mod Held
-pub mod Laws
-pub mod Rows
-pub mod Steps
-pub mod Ties
-pub mod Works

@@ -1,4 +1,0 @@
-pub mod History
-pub mod Lawful
-pub mod Machine
-pub mod Served

@@ -1,0 +1,103 @@
+-- What words come to is one thing, and the end of a command is what its words come to.
+use Rattle.std.proofs.Common.{◌≡◌, ◌⊎◌, ℕ, inl, inr, Bool, true, false, List, [], Option, Some, None, refl, sym, ap, ◌∙◌, subst}
+use Rattle.st_outside.specs.Count.{HasRisen}
+use Rattle.st_outside.specs.Sink.{Appends}
+use Rattle.st_law.specs.declared.input.Input.{Input}
+use Rattle.st_law.specs.Schedules.{ScheduleOutcome, BadLine, Choices, played}
+use Rattle.st_command.specs.Words.{Word}
+use Rattle.st_command.specs.declared.command.Command.{Command}
+use Rattle.st_command.specs.declared.command.Command.TheVariants.{Step, Check}
+use Rattle.st_command.specs.declared.given.Print.{Print}
+use Rattle.st_reading.specs.Meaning as meaning
+use Rattle.st_reading.specs.Meaning.{AreTold, Held, Meaning, Means, names_of}
+use Rattle.st_reading.specs.declared.refusal.Refusal.TheVariants as refusal
+use Rattle.st_reading.proofs.Meanings.{one_meaning, some_meaning}
+use Rattle.st_top.specs.Ends.{Ends, EndsAs, IsMeant, names_asked}
+use Rattle.st_top.specs.Outcome.{Outcome, ComesTo, Refuses, Stops, WordsComeTo, Writes, is_stop, outcome_of, outcome_of_play, print_of, printed}
+use Rattle.st_top.specs.Served.{served_in}
+use Rattle.st_top.specs.declared.status.Status.{Status}
+use Rattle.st_top.specs.declared.status.Status.TheVariants as status
+
+-- ---- stops
+
+play_goes_on : (print : Print) (i : Input) (o : ScheduleOutcome) → is_stop (outcome_of_play print i o) ≡ false
+play_goes_on print i (Choices choices) = refl
+play_goes_on print i (BadLine line) = refl
+
+-- a command comes to a stop exactly where it means one
+stops : (print : Print) (m : Meaning) → is_stop (outcome_of print m) ≡ meaning.is_stop m
+stops print (meaning.Stops w) = refl
+stops print (meaning.Refuses r) = refl
+stops print (meaning.Runs i schedule) = play_goes_on print i (played i schedule)
+stops print (meaning.Prints text) = refl
+
+goes_on : (print : Print) (m : Meaning) (o : Outcome) → is_stop o ≡ false → o ≡ outcome_of print m → meaning.is_stop m ≡ false
+goes_on print m o go is = sym (stops print m) ∙ ap is_stop (sym is) ∙ go
+
+-- ---- one outcome
+
+module _ (held : Held) where
+  one_of : (spelled : Option Command) (a b : Outcome) → AreTold held (names_asked spelled) → is_stop a ≡ false → is_stop b ≡ false → ComesTo held spelled a → ComesTo held spelled b → a ≡ b
+  one_of None a b told u v p q = p ∙ sym q
+  one_of (Some c) a b told u v p q =
+      p.2 ∙ ap (outcome_of (print_of c)) (one_meaning held c told p.0 q.0 (goes_on (print_of c) p.0 a u p.2) (goes_on (print_of c) q.0 b v q.2) p.1 q.1) ∙ sym q.2
+
+  some_of : (spelled : Option Command) → AreTold held (names_asked spelled) → (o : Outcome) × (is_stop o ≡ false) × ComesTo held spelled o
+  some_of None told = (Refuses status.Usage, refl, refl)
+  some_of (Some c) told =
+      let x = some_meaning held c told in
+      (outcome_of (print_of c) x.0, stops (print_of c) x.0 ∙ x.1, (x.0, x.2, refl))
+
+pub one_outcome : (words : List Word) (held : Held) (a b : Outcome) → AreTold held (names_asked (served_in words)) → is_stop a ≡ false → is_stop b ≡ false → WordsComeTo words held a → WordsComeTo words held b → a ≡ b
+one_outcome words held a b told u v p q = one_of held (served_in words) a b told u v p q
+
+pub some_outcome : (words : List Word) (held : Held) → AreTold held (names_asked (served_in words)) → (o : Outcome) × (is_stop o ≡ false) × WordsComeTo words held o
+some_outcome words held told = some_of held (served_in words) told
+
+-- ---- the end of a command
+
+module _ (held : Held) (faults faults_after : ℕ) (asked asked_after : List Word) (sink sink_after : ℕ) (old new : Option (List ℕ)) where
+  written : (c : Command) (text : List ℕ) → IsMeant held c text → Appends old new text → (m : Meaning) × (meaning.is_stop m ≡ false) × Means held c m × EndsAs (outcome_of (print_of c) m) old new status.Done
+  written (Step step) text meant appends = (
+    meaning.Runs meant.input meant.schedule,
+    refl,
+    meant.meant,
+    subst (λ (o : ScheduleOutcome). EndsAs (outcome_of_play step.print meant.input o) old new status.Done) (sym meant.played_to) (refl, subst (Appends old new) meant.text_is appends),
+  )
+  written (Check check) text meant appends = (meaning.Prints text, refl, meant, (refl, appends))
+
+  settled : (c : Command) (end : Status) → Ends held c faults faults_after asked asked_after sink sink_after old new end → (HasRisen faults faults_after → ⊥) → (HasRisen sink sink_after → ⊥) →
+      (end ≡ status.NoMemory) ⊎ ((m : Meaning) × (meaning.is_stop m ≡ false) × Means held c m × EndsAs (outcome_of (print_of c) m) old new end)
+  settled c status.Done x quiet sink_quiet = inr (written c x.0.0 x.0.1 x.0.2)
+  settled c (status.Missing w) x quiet sink_quiet = inr (meaning.Refuses (refusal.Missing w), refl, x.0.0, refl)
+  settled c status.Usage x quiet sink_quiet = absurd x.0
+  settled c (status.Policy n fault) x quiet sink_quiet = inr (meaning.Refuses (refusal.Policy n fault), refl, x.0.0, refl)
+  settled c (status.Script fault) x quiet sink_quiet = inr (meaning.Refuses (refusal.Script fault), refl, x.0.0, refl)
+  settled c status.ReadFault x quiet sink_quiet = absurd (quiet x.0.0)
+  settled c status.WriteFault x quiet sink_quiet = absurd (sink_quiet x.0)
+  settled c status.NoMemory x quiet sink_quiet = inl refl
+  settled c (status.Schedule line) x quiet sink_quiet =
+      inr (
+        meaning.Runs x.0.0.input x.0.0.schedule,
+        refl,
+        x.0.0.meant,
+        subst (λ (o : ScheduleOutcome). EndsAs (outcome_of_play (print_of c) x.0.0.input o) old new (status.Schedule line)) (sym x.0.0.bad) refl,
+      )
+  settled c (status.TooLong w) x quiet sink_quiet = inr (meaning.Refuses (refusal.TooLong w), refl, x.0.0, refl)
+
+  -- so it ended as its words come to, unless memory was wanting
+  pub ended_as : (c : Command) (end : Status) → Ends held c faults faults_after asked asked_after sink sink_after old new end → (HasRisen faults faults_after → ⊥) → (HasRisen sink sink_after → ⊥) →
+      (words : List Word) → served_in words ≡ Some c → AreTold held (names_asked (served_in words)) → (outcome : Outcome) → is_stop outcome ≡ false → WordsComeTo words held outcome →
+      (end ≡ status.NoMemory) ⊎ EndsAs outcome old new end
+  ended_as c end x quiet sink_quiet words spelled told outcome go comes = by (settled c end x quiet sink_quiet)
+    where
+      by : (end ≡ status.NoMemory) ⊎ ((m : Meaning) × (meaning.is_stop m ≡ false) × Means held c m × EndsAs (outcome_of (print_of c) m) old new end) → (end ≡ status.NoMemory) ⊎ EndsAs outcome old new end
+      by (inl none) = inl none
+      by (inr p) =
+          let one : outcome_of (print_of c) p.0 ≡ outcome = one_of held (Some c) (outcome_of (print_of c) p.0) outcome (subst (λ (o : Option Command). AreTold held (names_asked o)) spelled told) (stops (print_of c) p.0 ∙ p.1) go (p.0, p.2, refl) (subst (λ (o : Option Command). ComesTo held o outcome) spelled comes) in
+          inr (subst (λ (o : Outcome). EndsAs o old new end) one p.3)
+
+-- words that spell no command come to wrong usage, and that is the end
+pub ended_unserved : (words : List Word) (held : Held) (old new : Option (List ℕ)) (outcome : Outcome) → served_in words ≡ None → WordsComeTo words held outcome → EndsAs outcome old new status.Usage
+ended_unserved words held old new outcome none comes =
+    subst (λ (o : Outcome). EndsAs o old new status.Usage) (sym (subst (λ (o : Option Command). ComesTo held o outcome) none comes)) refl

@@ -1,0 +1,136 @@
+-- What is ready before anything is written, by what was read and shown.
+use native.Mathlib.Omega.{arith}
+use Rattle.std.proofs.Common.{◌≡◌, ◌≤◌, ◌<◌, ◌^◌, ◌⊎◌, ℕ, inl, inr, Bool, true, false, ◌&&◌, List, length, Option, Some, None, Result, Ok, Err, refl, sym, ap, ◌∙◌, subst}
+use Rattle.std.proofs.lemmas.Option.{none-some, same_Some}
+use Rattle.std.specs.Prelude.{if◌then◌else◌}
+use Rattle.st_filter.specs.declared.set.BinaryPolicy.{BinaryPolicy}
+use Rattle.st_law.specs.Inputs.{IsStartable}
+use Rattle.st_law.specs.declared.input.Input.{Input}
+use Rattle.st_law.specs.declared.input.Mode.{Mode}
+use Rattle.st_law.specs.declared.input.Mode.TheVariants.{Enforce, Learn, AskText}
+use Rattle.st_law.specs.declared.input.ReadSchedule.{ReadSchedule}
+use Rattle.st_law.proofs.Laws.{run_lawful}
+use Rattle.st_reached.specs.Grants.{SetIdsUngranted}
+use Rattle.st_reached.specs.Scripts.{IsBounded}
+use Rattle.st_script.specs.Startable.{input_with}
+use Rattle.st_system.specs.Start.{CanStart}
+use Rattle.st_command.specs.Words.{Word}
+use Rattle.st_command.specs.Command.{StepWords, CheckWords}
+use Rattle.st_command.specs.Reading.{IsWithinLimits}
+use Rattle.st_command.specs.declared.command.Command.{Command}
+use Rattle.st_command.specs.declared.command.Command.TheVariants.{Step, Check}
+use Rattle.st_reading.specs.Ends as reading
+use Rattle.st_reading.specs.Ends.{AskedTo, as_meaning}
+use Rattle.st_reading.specs.Meaning.{Held, Means, Prints, Runs, last_file}
+use Rattle.st_reading.specs.Runnable.{IsRunnable}
+use Rattle.st_reading.specs.declared.reading.Reading.{Reading}
+use Rattle.st_reading.specs.declared.reading.Reading.TheVariants as reading_is
+use Rattle.st_reading.specs.declared.refusal.Refusal.{Refusal}
+use Rattle.st_reading.specs.declared.refusal.Refusal.TheVariants as refusal
+use Rattle.st_reading.proofs.Runnable.{check_runs_nothing, runnable, step_prints_nothing}
+use Rattle.st_top.specs.Ends.{IsMeant, Prepares, Refused, RunShown}
+use Rattle.st_top.specs.Outcome.{print_of, status_of}
+use Rattle.st_top.specs.Served.{if_served, is_served, is_served_mode, is_served_print}
+use Rattle.st_top.specs.declared.status.Status.{Status}
+use Rattle.st_top.specs.declared.status.Status.TheVariants as status
+
+-- ---- what was refused
+
+-- a refusal of the reader refuses
+pub refused_as : (held : Held) (c : Command) (faults faults_after : ℕ) (old new : List Word) (refused : Refusal) → reading.Refused held c faults faults_after old new refused → Refused held c faults faults_after old new (status_of refused)
+refused_as held c faults faults_after old new (refusal.Missing w) x = x
+refused_as held c faults faults_after old new (refusal.TooLong w) x = x
+refused_as held c faults faults_after old new refusal.ReadFault x = x
+refused_as held c faults faults_after old new (refusal.Script fault) x = x
+refused_as held c faults faults_after old new (refusal.Policy n fault) x = x
+refused_as held c faults faults_after old new refusal.NoMemory x = inl x
+
+-- ---- what is served
+
+served_of : (b : Bool) (d c : Command) → is_served d ≡ b → (if b then Some d else None) ≡ Some c → is_served c ≡ true
+served_of true d c served is = subst (λ (x : Command). is_served x ≡ true) (same_Some d c is) served
+served_of false d c served is = absurd (none-some c is)
+
+-- a command that words spell and that is served is served
+pub spelled_is_served : (spelled : Option Command) (c : Command) → if_served spelled ≡ Some c → is_served c ≡ true
+spelled_is_served None c is = absurd (none-some c is)
+spelled_is_served (Some d) c is = served_of (is_served d) d c refl is
+
+-- ---- what can be run
+
+-- what the kernel asks of an input
+pub record CanRun (i : Input) : Type 0 where
+  pub startable : IsStartable i
+  pub system : CanStart i
+  pub bounded : IsBounded i.start
+  pub ungranted : SetIdsUngranted i.policies
+  pub enforces : i.options.mode ≡ Enforce
+
+served_mode : (m : Mode) (rest : Bool) → (is_served_mode m && rest) ≡ true → m ≡ Enforce
+served_mode Enforce rest e = refl
+served_mode Learn rest e = cc
+served_mode AskText rest e = cc
+
+-- a run of a served command can be run
+runs_of_step : (held : Held) (step : StepWords) (i : Input) (schedule : ReadSchedule) → IsWithinLimits (Step step) → is_served (Step step) ≡ true → Means held (Step step) (Runs i schedule) → CanRun i
+runs_of_step held step i schedule limits served meant =
+    let x = runnable held step i schedule meant in
+    let startable : IsStartable (input_with x.policies step.options x.script) = x.can_start.startable x.policies step.options limits.1 limits.2 in
+    let few = startable.few_threads in
+    let short = x.bounded.few_processes in
+    subst CanRun (sym x.input_is) (record {
+      startable = startable;
+      system = record {
+        tree = x.can_start.tree;
+        few_processes = omega (arith, short);
+        few_threads = omega (arith, few);
+        owners = x.can_start.owners;
+        short = x.can_start.directories;
+      };
+      bounded = x.bounded;
+      ungranted = x.ungranted;
+      enforces = served_mode step.options.mode (is_served_print step.print) served;
+    })
+
+pub can_run : (held : Held) (c : Command) (i : Input) (schedule : ReadSchedule) → IsWithinLimits c → is_served c ≡ true → Means held c (Runs i schedule) → CanRun i
+can_run held (Step step) i schedule limits served meant = runs_of_step held step i schedule limits served meant
+can_run held (Check check) i schedule limits served meant = absurd (check_runs_nothing held check check.script i schedule meant)
+
+-- ---- what was read
+
+-- a command was read to be run
+module _ (held : Held) (c : Command) (old new : List Word) (read : Reading) (meant : Means held c (as_meaning read) × AskedTo c (last_file c) old new) (i : Input) (schedule : ReadSchedule) (is : read ≡ reading_is.Run i schedule) where
+  pub run_meant : Means held c (Runs i schedule)
+  run_meant = subst (λ (other : Reading). Means held c (as_meaning other)) is meant.0
+
+  pub ready : IsWithinLimits c → is_served c ≡ true → CanRun i
+  ready limits served = can_run held c i schedule limits served run_meant
+
+-- ---- what is ready
+
+module _ (held : Held) (faults faults_after : ℕ) (old new : List Word) where
+  -- what is shown of the run that is meant
+  shown_of_step : (step : StepWords) (i : Input) (schedule : ReadSchedule) → IsStartable i → Means held (Step step) (Runs i schedule) → AskedTo (Step step) (last_file (Step step)) old new →
+      (result : Result (List ℕ) Status) → RunShown step.print i schedule result → Prepares held (Step step) faults faults_after old new result
+  shown_of_step step i schedule startable meant asked (Ok text) x =
+      (record { input = i; schedule = schedule; choices = x.0; meant = meant; played_to = x.1; lawful = run_lawful i startable x.0; text_is = x.2 }, asked)
+  shown_of_step step i schedule startable meant asked (Err (status.Schedule line)) x = (record { input = i; schedule = schedule; meant = meant; bad = x }, asked)
+  shown_of_step step i schedule startable meant asked (Err status.NoMemory) x = inr asked
+  shown_of_step step i schedule startable meant asked (Err status.Done) x = absurd x
+  shown_of_step step i schedule startable meant asked (Err (status.Missing w)) x = absurd x
+  shown_of_step step i schedule startable meant asked (Err status.Usage) x = absurd x
+  shown_of_step step i schedule startable meant asked (Err (status.Policy n fault)) x = absurd x
+  shown_of_step step i schedule startable meant asked (Err (status.Script fault)) x = absurd x
+  shown_of_step step i schedule startable meant asked (Err status.ReadFault) x = absurd x
+  shown_of_step step i schedule startable meant asked (Err status.WriteFault) x = absurd x
+  shown_of_step step i schedule startable meant asked (Err (status.TooLong w)) x = absurd x
+
+  pub shown_ready : (c : Command) (i : Input) (schedule : ReadSchedule) → IsStartable i → Means held c (Runs i schedule) → AskedTo c (last_file c) old new →
+      (result : Result (List ℕ) Status) → RunShown (print_of c) i schedule result → Prepares held c faults faults_after old new result
+  shown_ready (Step step) i schedule startable meant asked result x = shown_of_step step i schedule startable meant asked result x
+  shown_ready (Check check) i schedule startable meant asked result x = absurd (check_runs_nothing held check check.script i schedule meant)
+
+  -- a text of no run
+  pub printed_ready : (c : Command) (text : List ℕ) → Means held c (Prints text) → AskedTo c (last_file c) old new → Prepares held c faults faults_after old new (Ok text)
+  printed_ready (Step step) text meant asked = absurd (step_prints_nothing held step text meant)
+  printed_ready (Check check) text meant asked = (meant, asked)

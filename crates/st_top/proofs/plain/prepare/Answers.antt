@@ -1,0 +1,48 @@
+use Rattle.std.proofs.Common.{subst}
+use Rattle.st_command.specs.declared.given.Print.{Print}
+use Rattle.st_reading.specs.Ends.{as_meaning}
+use Rattle.st_reading.specs.Meaning.{Means}
+use Rattle.st_reading.specs.declared.reading.Reading.{Reading}
+use Rattle.st_top.specs.Ends.{RunShown}
+use Rattle.st_top.proofs.Preparing.{printed_ready, ready, run_meant, shown_ready}
+use Rattle.st_top.proofs.plain.prepare.Goals as goal
+
+pub text_of_run-requires-clause-startable : goal.text_of_run-requires-clause-startable
+text_of_run-requires-clause-startable g c =
+    (ready (g.F.Files.held c.args.files.now) c.args.command.now (g.F.Files.asked c.args.files.now) (g.F.Files.asked c.read_command.new.files) c.in_ok-input.field-0 c.in_ok-input.ensures.ends c.in-Run.input c.in-Run.schedule c.in-Run.is
+    c.requires.limits c.requires.served).startable
+
+pub text_of_run-requires-clause-system : goal.text_of_run-requires-clause-system
+text_of_run-requires-clause-system g c =
+    (ready (g.F.Files.held c.args.files.now) c.args.command.now (g.F.Files.asked c.args.files.now) (g.F.Files.asked c.read_command.new.files) c.in_ok-input.field-0 c.in_ok-input.ensures.ends c.in-Run.input c.in-Run.schedule c.in-Run.is
+    c.requires.limits c.requires.served).system
+
+pub text_of_run-requires-clause-bounded : goal.text_of_run-requires-clause-bounded
+text_of_run-requires-clause-bounded g c =
+    (ready (g.F.Files.held c.args.files.now) c.args.command.now (g.F.Files.asked c.args.files.now) (g.F.Files.asked c.read_command.new.files) c.in_ok-input.field-0 c.in_ok-input.ensures.ends c.in-Run.input c.in-Run.schedule c.in-Run.is
+    c.requires.limits c.requires.served).bounded
+
+pub text_of_run-requires-clause-ungranted : goal.text_of_run-requires-clause-ungranted
+text_of_run-requires-clause-ungranted g c =
+    (ready (g.F.Files.held c.args.files.now) c.args.command.now (g.F.Files.asked c.args.files.now) (g.F.Files.asked c.read_command.new.files) c.in_ok-input.field-0 c.in_ok-input.ensures.ends c.in-Run.input c.in-Run.schedule c.in-Run.is
+    c.requires.limits c.requires.served).ungranted
+
+pub text_of_run-requires-clause-enforces : goal.text_of_run-requires-clause-enforces
+text_of_run-requires-clause-enforces g c =
+    (ready (g.F.Files.held c.args.files.now) c.args.command.now (g.F.Files.asked c.args.files.now) (g.F.Files.asked c.read_command.new.files) c.in_ok-input.field-0 c.in_ok-input.ensures.ends c.in-Run.input c.in-Run.schedule c.in-Run.is
+    c.requires.limits c.requires.served).enforces
+
+pub returns-in-Run-clause-prepares : goal.returns-in-Run-clause-prepares
+returns-in-Run-clause-prepares g c =
+    shown_ready (g.F.Files.held c.args.files.now) (g.F.Files.faults c.args.files.now) (g.F.Files.faults c.read_command.new.files) (g.F.Files.asked c.args.files.now) (g.F.Files.asked c.read_command.new.files)
+    c.args.command.now c.in-Run.input c.in-Run.schedule
+    (ready (g.F.Files.held c.args.files.now) c.args.command.now (g.F.Files.asked c.args.files.now) (g.F.Files.asked c.read_command.new.files) c.in_ok-input.field-0 c.in_ok-input.ensures.ends c.in-Run.input c.in-Run.schedule c.in-Run.is
+    c.requires.limits c.requires.served).startable
+    (run_meant (g.F.Files.held c.args.files.now) c.args.command.now (g.F.Files.asked c.args.files.now) (g.F.Files.asked c.read_command.new.files) c.in_ok-input.field-0 c.in_ok-input.ensures.ends c.in-Run.input c.in-Run.schedule c.in-Run.is)
+    c.in_ok-input.ensures.ends.1 c.text_of_run.result
+    (subst (λ (print : Print). RunShown print c.in-Run.input c.in-Run.schedule c.text_of_run.result) c.print_of.ensures c.text_of_run.ensures)
+
+pub returns-in-Text-clause-prepares : goal.returns-in-Text-clause-prepares
+returns-in-Text-clause-prepares g c =
+    printed_ready (g.F.Files.held c.args.files.now) (g.F.Files.faults c.args.files.now) (g.F.Files.faults c.read_command.new.files) (g.F.Files.asked c.args.files.now) (g.F.Files.asked c.read_command.new.files)
+    c.args.command.now c.in-Text.text (subst (λ (read : Reading). Means (g.F.Files.held c.args.files.now) c.args.command.now (as_meaning read)) c.in-Text.is c.in_ok-input.ensures.ends.0) c.in_ok-input.ensures.ends.1

@@ -1,0 +1,89 @@
+-- What words and files come to: a refusal, or a text that is written.
+use Rattle.std.specs.Prelude.{◌≡◌, ℕ, Bool, true, false, List, [], Option, Some, None}
+use Rattle.st_trace.specs.declared.entry.Choice.{Choice}
+use Rattle.st_law.specs.declared.input.Input.{Input}
+use Rattle.st_law.specs.Machine.{run}
+use Rattle.st_law.specs.Schedules.{ScheduleOutcome, Choices, BadLine, played}
+use Rattle.st_report.specs.TraceText.{trace_text}
+use Rattle.st_report.specs.ScheduleText.{schedule_text}
+use Rattle.st_audit.specs.AuditText.{audit}
+use Rattle.st_command.specs.Words.{Word}
+use Rattle.st_command.specs.declared.command.Command.{Command}
+use Rattle.st_command.specs.declared.command.Command.TheVariants as command
+use Rattle.st_command.specs.declared.given.Print.{Print}
+use Rattle.st_command.specs.declared.given.Print.TheVariants as print
+use Rattle.st_kernel.specs.declared.play.PlayFault.{PlayFault}
+use Rattle.st_kernel.specs.declared.play.PlayFault.TheVariants as play
+use Rattle.st_reading.specs.Meaning as meaning
+use Rattle.st_reading.specs.Meaning.{Held, Meaning, Means}
+use Rattle.st_reading.specs.declared.refusal.Refusal.{Refusal}
+use Rattle.st_reading.specs.declared.refusal.Refusal.TheVariants as refusal
+use Rattle.st_reading.specs.declared.refusal.Which.{Which}
+use Rattle.st_top.specs.Served.{served_in}
+use Rattle.st_top.specs.declared.status.Status.{Status}
+use Rattle.st_top.specs.declared.status.Status.TheVariants.{Missing, Usage, Policy, Script, ReadFault, NoMemory, Schedule, TooLong}
+
+-- ---- statuses
+
+-- a refusal, as a status
+abbrev pub status_of : Refusal → Status
+status_of (refusal.Missing which) = Missing which
+status_of (refusal.TooLong which) = TooLong which
+status_of refusal.ReadFault = ReadFault
+status_of (refusal.Script fault) = Script fault
+status_of (refusal.Policy file fault) = Policy file fault
+status_of refusal.NoMemory = NoMemory
+
+-- why a schedule isn't played, as a status
+abbrev pub status_of_play : PlayFault → Status
+status_of_play (play.BadLine line) = Schedule line
+status_of_play play.NoMemory = NoMemory
+
+-- ---- what is printed of a run
+
+-- the text that is asked for of the run by these choices; the policies with what was learnt aren't served yet
+abbrev pub printed : Print → Input → List Choice → List ℕ
+printed print.Audit i choices = audit i (run i choices)
+printed print.Trace i choices = trace_text (run i choices)
+printed print.Schedule i choices = schedule_text choices
+printed print.Policy i choices = []
+
+-- what a command asks to be printed of its run
+abbrev pub print_of : Command → Print
+print_of (command.Step step) = step.print
+print_of (command.Check check) = print.Audit
+
+-- ---- outcomes
+
+-- what a call of the program comes to: it stops at a file that can't be read, it refuses, or it writes a text
+pub data Outcome : Type 0 where
+  Stops : Which → Outcome
+  Refuses : Status → Outcome
+  Writes : List ℕ → Outcome
+
+-- whether an outcome is a stop, which any file that is come to can cause
+abbrev pub is_stop : Outcome → Bool
+is_stop (Stops which) = true
+is_stop (Refuses status) = false
+is_stop (Writes text) = false
+
+-- a schedule that is played has the text of its run written; one with a bad line is refused
+abbrev pub outcome_of_play : Print → Input → ScheduleOutcome → Outcome
+outcome_of_play print i (Choices choices) = Writes (printed print i choices)
+outcome_of_play print i (BadLine line) = Refuses (Schedule line)
+
+-- what a command comes to, by what it and its files mean
+abbrev pub outcome_of : Print → Meaning → Outcome
+outcome_of print (meaning.Stops which) = Stops which
+outcome_of print (meaning.Refuses refusal) = Refuses (status_of refusal)
+outcome_of print (meaning.Runs i schedule) = outcome_of_play print i (played i schedule)
+outcome_of print (meaning.Prints text) = Writes text
+
+-- what words come to, by the command that they spell: wrong usage where they spell none
+abbrev pub ComesTo : Held → Option Command → Outcome → Type 0
+ComesTo held None outcome = outcome ≡ Refuses Usage
+ComesTo held (Some c) outcome = (m : Meaning) × Means held c m × (outcome ≡ outcome_of (print_of c) m)
+
+-- what words come to over files of which this much is told
+abbrev pub WordsComeTo : List Word → Held → Outcome → Type 0
+WordsComeTo words held outcome = ComesTo held (served_in words) outcome

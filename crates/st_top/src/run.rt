@@ -1,0 +1,50 @@
+// A run, and what is shown of it.
+ghost use Rattle.std.specs.Prelude.{◌≡◌, IfOk};
+ghost use Rattle.st_law.specs.Inputs.{IsStartable};
+ghost use Rattle.st_law.specs.declared.input.Mode.TheVariants.{Enforce};
+ghost use Rattle.st_reached.specs.Grants.{SetIdsUngranted};
+ghost use Rattle.st_reached.specs.Scripts.{IsBounded};
+ghost use Rattle.st_system.specs.Start.{CanStart};
+ghost use Rattle.st_top.specs.Ends.{RunShown};
+ghost use Rattle.st_top.specs.Outcome.{printed};
+
+use crate::status::Status;
+use st_audit::audit_text;
+use st_base::Text;
+use st_command::Print;
+use st_kernel::Kernel;
+use st_law::{Input, ReadSchedule};
+use st_report::{render_trace, schedule_text};
+use std::alloc::{AllocError, Global};
+
+// The text that is asked for of a run.
+fn shown(alloc: Global, print: Print, kernel: &Kernel<'_>) -> Result<Text, AllocError>
+    requires startable { IsStartable kernel.now.input }
+    ensures { IfOk result (λ text. text ≡ printed print kernel.now.input kernel.now.choices) }
+{
+    match print {
+        Print::Audit => audit_text(alloc, kernel.trace(), kernel.input()),
+        Print::Trace => render_trace(alloc, kernel.trace()),
+        Print::Schedule => schedule_text(alloc, kernel.schedule()),
+        Print::Policy => Ok(Text::new(alloc)),
+    }
+}
+
+/// Plays a schedule, and gives the text that is asked for of its run.
+pub fn text_of_run(
+    alloc: Global,
+    print: Print,
+    input: &Input,
+    schedule: &ReadSchedule,
+) -> Result<Text, Status>
+    requires startable { IsStartable input.now }
+    requires system { CanStart input.now }
+    requires bounded { IsBounded input.now.start }
+    requires ungranted { SetIdsUngranted input.now.policies }
+    requires enforces { input.now.options.mode ≡ Enforce }
+    ensures { RunShown print input.now schedule.now result }
+{
+    let mut kernel = Kernel::start(alloc, input)?;
+    kernel.play(alloc, schedule)?;
+    Ok(shown(alloc, print, &kernel)?)
+}

@@ -1,5 +1,0 @@
-use Rattle.st_whole_script.proofs.Startable.{script_can_start}
-use Rattle.st_whole_script.proofs.reading.what_is_read_can_start.Goals as goal
-
-pub returns : goal.returns
-returns c = script_can_start

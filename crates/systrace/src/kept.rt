@@ -1,0 +1,65 @@
+//! Files that keep what they gave, so that a refusal is told from the very bytes that were refused.
+
+ghost use Rattle.std.specs.Prelude.{◌≡◌, ◌≢◌, ◌≤◌, [], ◌∷◌, ◌++◌, length, IfOk};
+ghost use Rattle.st_outside.specs.Count.{HasRisen};
+ghost use Rattle.st_outside.specs.Files.{CanHold, CanLack, CanExceed, CanFit};
+ghost use Rattle.st_outside.specs.declared.files.TheConstants.{FILE_LIMIT};
+
+use st_base::Text;
+use st_outside::{FetchFault, Files, MemoryFiles};
+use std::alloc::{AllocError, Global};
+
+/// Files, with a copy of each that was fetched.
+#[derive(Drop)]
+pub struct KeptFiles<F> {
+    files: F,
+    kept: MemoryFiles,
+}
+
+impl<F: Drop> KeptFiles<F> {
+    /// Files of which none was fetched yet.
+    pub fn new(alloc: Global, files: F) -> Self {
+        KeptFiles {
+            files,
+            kept: MemoryFiles::new(alloc),
+        }
+    }
+
+    /// The copies of the files that were fetched.
+    pub fn into_kept(self) -> MemoryFiles {
+        self.kept
+    }
+}
+
+// Keeps a copy of a file.
+fn keep(alloc: Global, kept: &mut MemoryFiles, name: &Text, text: &Text) -> Result<(), AllocError> {
+    kept.add(
+        Text::of(alloc, name.bytes())?,
+        Text::of(alloc, text.bytes())?,
+    )
+}
+
+impl<F: Files> Files for KeptFiles<F> {
+    ghost held = { λ k. F.held k.files };
+
+    ghost asked = { λ k. F.asked k.files };
+
+    ghost faults = { λ k. F.faults k.files };
+
+    fn fetch(&mut self, alloc: Global, name: &Text) -> Result<Text, FetchFault>
+        ensures held { F.held self.new.files ≡ F.held self.old.files }
+        ensures asked { F.asked self.new.files ≡ F.asked self.old.files ++ name.now ∷ [] }
+        ensures content { IfOk result (λ text. CanHold (F.held self.old.files name.now) text) }
+        ensures within { IfOk result (λ text. length text ≤ FILE_LIMIT) }
+        ensures missing { result ≡ Err FetchFault.Missing → CanLack (F.held self.old.files name.now) }
+        ensures too_long { result ≡ Err FetchFault.TooLong → CanExceed (F.held self.old.files name.now) }
+        ensures no_memory { result ≡ Err FetchFault.NoMemory → CanFit (F.held self.old.files name.now) }
+        ensures failed { result ≡ Err FetchFault.Failed → HasRisen (F.faults self.old.files) (F.faults self.new.files) }
+        ensures quiet { result ≢ Err FetchFault.Failed → F.faults self.new.files ≡ F.faults self.old.files }
+    {
+        let text = self.files.fetch(alloc, name)?;
+        // A file that can't be kept for want of memory is read all the same; only why it is refused can't be told then.
+        let _ = keep(alloc, &mut self.kept, name, &text);
+        Ok(text)
+    }
+}

@@ -1,0 +1,491 @@
+ghost use Rattle.std.specs.Prelude.{◌≤◌, length};
+ghost use Rattle.st_outside.specs.declared.files.TheConstants.{FILE_LIMIT};
+
+use crate::expected::expected_of;
+use crate::position::{before_in_line, position_in, rest_of_line};
+use crate::shown::{append_shown, broken, found_at, place_of};
+use st_base::Text;
+use st_calls::{ArgSpec, Rule, args_of};
+use st_lex::{TokenKind, tokens};
+use st_policy::{Env, PolicyFault, PolicySet, place_of_fault};
+use std::alloc::{AllocError, Global};
+
+// The byte at which a fault stands.
+fn byte_of(fault: PolicyFault) -> usize {
+    let at = match fault {
+        PolicyFault::Lex(fault) => return place_of(fault),
+        PolicyFault::Expected(at) => at,
+        PolicyFault::UnknownCall(at) => at,
+        PolicyFault::UnknownArgument(at) => at,
+        PolicyFault::UnknownError(at) => at,
+        PolicyFault::UnknownUser(at) => at,
+        PolicyFault::DuplicatePolicy(at) => at,
+        PolicyFault::ElevateWithoutIds(at) => at,
+        PolicyFault::ElevateOnSetId(at) => at,
+        PolicyFault::NotSupported(at, _) => at,
+        PolicyFault::AskWithLearn(at) => at,
+        PolicyFault::TooMany(at) => at,
+        PolicyFault::NoMemory => 0,
+    };
+    at as usize
+}
+
+// Appends what is no token, as far as the line goes.
+fn append_broken(line: &mut Text, rest: &[u8], fault: PolicyFault) -> Result<(), AllocError> {
+    match fault {
+        PolicyFault::Lex(fault) => append_shown(line, broken(rest, fault)),
+        _ => append_shown(line, rest),
+    }
+}
+
+fn append_found(
+    alloc: Global,
+    line: &mut Text,
+    text: &[u8],
+    fault: PolicyFault,
+) -> Result<(), AllocError>
+    requires { length text.now ≤ FILE_LIMIT }
+{
+    let at = byte_of(fault);
+    let lexed = tokens(alloc, text)?;
+    match lexed
+        .tokens
+        .as_slice()
+        .iter()
+        .find(|token| token.at as usize == at)
+    {
+        Some(token) => match token.kind {
+            TokenKind::Line => line.append(b"the end of the line"),
+            _ => append_shown(line, token.text(text)),
+        },
+        None if at >= text.len() => line.append(b"the end of the file"),
+        None => append_broken(line, rest_of_line(text, at), fault),
+    }
+}
+
+// The rule of the filter whose name begins a line; none where its call isn't in the model.
+fn rule_of(row: &[u8]) -> Option<Rule> {
+    let blanks = row
+        .iter()
+        .take_while(|byte| matches!(**byte, b' ' | b'\t' | b'\r'))
+        .count();
+    let name = &row[blanks.min(row.len())..];
+    if !name.starts_with(b"native-") {
+        return None;
+    }
+    let name = &name[7..];
+    let len = name
+        .iter()
+        .take_while(|byte| !matches!(**byte, b':' | b' ' | b'\t' | b'\r'))
+        .count();
+    Rule::of_word(&name[..len.min(name.len())])
+}
+
+// Appends an argument as a policy names it: an index that is 0 isn't written.
+fn append_argument(line: &mut Text, argument: &ArgSpec) -> Result<(), AllocError> {
+    line.append(argument.label.word())?;
+    if argument.index > 0 {
+        line.push(b'[')?;
+        line.append_number(u64::from(argument.index))?;
+        line.push(b']')?;
+    }
+    Ok(())
+}
+
+// Appends which arguments there are.
+fn append_arguments(line: &mut Text, arguments: &[ArgSpec]) -> Result<(), AllocError> {
+    if arguments.is_empty() {
+        return line.append(b", which has none");
+    }
+    let mut between = b": ".as_slice();
+    for argument in arguments {
+        line.append(between)?;
+        append_argument(line, argument)?;
+        between = b", ";
+    }
+    Ok(())
+}
+
+/// The line that tells a person why a policy file is refused behind the policies of those before it, without its newline; none where
+/// its text has no fault there.
+pub fn policy_message(
+    alloc: Global,
+    name: &[u8],
+    text: &[u8],
+    env: &Env,
+    before: &PolicySet,
+    fault: PolicyFault,
+) -> Result<Option<Text>, AllocError>
+    requires { length text.now ≤ FILE_LIMIT }
+{
+    let Some(place) = place_of_fault(alloc, text, env, before)? else {
+        return Ok(None);
+    };
+    let at = byte_of(fault);
+    let mut line = found_at(alloc, name, position_in(text, at))?;
+    append_found(alloc, &mut line, text, fault)?;
+    line.append(b", expected ")?;
+    line.append(expected_of(fault, place).as_bytes())?;
+    if let PolicyFault::UnknownArgument(_) = fault
+        && let Some(rule) = rule_of(before_in_line(text, at))
+    {
+        append_arguments(&mut line, args_of(rule))?;
+    }
+    Ok(Some(line))
+}
+
+#[cfg(test)]
+mod tests {
+    use super::*;
+    use st_policy::read_policies;
+    use st_reading::bare_env;
+    use std::process::Abort;
+    use std::test::Fail;
+
+    const HEADER: &[u8] = b"Policy: /bin/a, Emulation: native\n";
+
+    // A front, and so many pieces.
+    fn repeated(alloc: Global, front: &[u8], count: u32, piece: &[u8]) -> Result<Text, AllocError> {
+        let mut text = Text::of(alloc, front)?;
+        for _ in 0..count {
+            text.append(piece)?;
+        }
+        Ok(text)
+    }
+
+    // The line for a text that is refused.
+    fn told<R: Abort + AllocGlobal>(rt: &R, env: &Env, text: &[u8]) -> Result<Text, Fail> {
+        assert!(rt; text.len() < 100_000);
+        let alloc = rt.alloc();
+        let mut set = PolicySet::new(alloc);
+        let refused = read_policies(alloc, text, env, &mut set).err();
+        let fault = refused.ok_or("no fault")?;
+        let line = policy_message(alloc, b"f", text, env, &PolicySet::new(alloc), fault)?;
+        Ok(line.ok_or("no line")?)
+    }
+
+    // A front and so many pieces, and the line.
+    #[test]
+    fn tells_of_texts(rt: HostRuntime) -> Result<(), Fail> {
+        let cases: [(&[u8], u32, &[u8], &[u8]); 13] = [
+            (
+                b"native-read: permit",
+                0,
+                b"",
+                b"systrace: f:1:1: found 'native-read', expected a header 'Policy: BINARY, Emulation: native'",
+            ),
+            (
+                b"Policy /a",
+                0,
+                b"",
+                b"systrace: f:1:8: found '/a', expected ':'",
+            ),
+            (
+                b"Policy: a, Emulation: native",
+                0,
+                b"",
+                b"systrace: f:1:9: found 'a', expected a binary that begins with '/'",
+            ),
+            (
+                b"Policy: /a Emulation",
+                0,
+                b"",
+                b"systrace: f:1:12: found 'Emulation', expected ','",
+            ),
+            (
+                b"Policy: /a, emulation",
+                0,
+                b"",
+                b"systrace: f:1:13: found 'emulation', expected 'Emulation'",
+            ),
+            (
+                b"Policy: /a, Emulation\n",
+                0,
+                b"",
+                b"systrace: f:1:22: found the end of the line, expected ':'",
+            ),
+            (
+                b"Policy: /a, Emulation:",
+                0,
+                b"",
+                b"systrace: f:1:23: found the end of the file, expected 'native'",
+            ),
+            (
+                b"Policy: /a, Emulation: linux",
+                0,
+                b"",
+                b"systrace: f:1:24: found 'linux', expected 'native', the only emulation that is supported",
+            ),
+            (
+                b"Policy: /a, Emulation: native native-read: permit",
+                0,
+                b"",
+                b"systrace: f:1:31: found 'native-read', expected the end of the line",
+            ),
+            (
+                b"Policy: /a, Emulation: native\nPolicy: \"/a\", Emulation: native",
+                0,
+                b"",
+                b"systrace: f:2:9: found '\"/a\"', expected a binary that has no policy yet",
+            ),
+            (
+                b"Policy: \"0123456789abcdefghijklmnopqrstuvwxyzABCDEFGHIJKLMNOPQRSTUVWXYZ\", Emulation",
+                0,
+                b"",
+                b"systrace: f:1:9: found '\"0123456789abcdefghijklmnopqrstuvwxyzABCDEFGHIJKLMNOPQRSTUVW', expected a binary that begins with '/'",
+            ),
+            (
+                HEADER,
+                4097,
+                b"native-read: permit\n",
+                b"systrace: f:4098:1: found 'native-read', expected at most 4096 filters in all",
+            ),
+            (
+                b"Policy: /bin/a, Emulation: native\nnative-read: ",
+                65,
+                b"not ",
+                b"systrace: f:2:270: found 'not', expected at most 64 of 'not', 'and', 'or' and '(' in a filter",
+            ),
+        ];
+        let env = bare_env(rt.alloc(), false)?;
+        for (front, count, piece, wanted) in cases {
+            let text = repeated(rt.alloc(), front, count, piece)?;
+            assert_eq!(rt; told(&rt, &env, text.bytes())?.bytes(), wanted);
+        }
+        Ok(())
+    }
+
+    // Whether ids are given, a row behind the header, and the line where policies are learnt.
+    #[test]
+    fn tells_of_rows(rt: HostRuntime) -> Result<(), Fail> {
+        let cases: [(bool, &[u8], &[u8]); 44] = [
+            (
+                false,
+                b": permit",
+                b"systrace: f:2:1: found ':', expected a filter 'native-CALL: ...' or a header 'Policy: BINARY, Emulation: native'",
+            ),
+            (
+                false,
+                b"linux-read: permit",
+                b"systrace: f:2:1: found 'linux-read', expected 'native-' and letters, digits or '_'",
+            ),
+            (
+                false,
+                b"\nnative-read permit",
+                b"systrace: f:3:13: found 'permit', expected ':'",
+            ),
+            (
+                false,
+                b"native-read: and",
+                b"systrace: f:2:14: found 'and', expected 'permit', 'deny', 'ask', 'not', 'true', '(' or a label",
+            ),
+            (
+                false,
+                b"native-read: not permit",
+                b"systrace: f:2:18: found 'permit', expected 'not', 'true', '(' or a label",
+            ),
+            (
+                false,
+                b"native-mmap: prot \"x\"",
+                b"systrace: f:2:19: found '\"x\"', expected '[' or one of match, eq, neq, sub, nsub, inpath",
+            ),
+            (
+                false,
+                b"native-mmap: prot[x]",
+                b"systrace: f:2:19: found 'x', expected an index below 4294967296",
+            ),
+            (
+                false,
+                b"native-mmap: prot[1 eq",
+                b"systrace: f:2:21: found 'eq', expected ']'",
+            ),
+            (
+                false,
+                b"native-mmap: prot[1] is",
+                b"systrace: f:2:22: found 'is', expected one of match, eq, neq, sub, nsub, inpath",
+            ),
+            (
+                false,
+                b"native-mmap: prot re \"x\"",
+                b"systrace: f:2:19: found 're', expected one of match, eq, neq, sub, nsub, inpath; 're' is not supported",
+            ),
+            (
+                false,
+                b"native-mmap: prot eq x",
+                b"systrace: f:2:22: found 'x', expected a quoted text",
+            ),
+            (
+                false,
+                b"native-read: true permit",
+                b"systrace: f:2:19: found 'permit', expected 'and', 'or', 'then', or ')' behind its '('",
+            ),
+            (
+                false,
+                b"native-read: true then log",
+                b"systrace: f:2:24: found 'log', expected 'permit', 'deny' or 'ask'",
+            ),
+            (
+                false,
+                b"native-fsread: uid eq \"0\" then permit",
+                b"systrace: f:2:16: found 'uid', expected an argument of the call: filename",
+            ),
+            (
+                false,
+                b"native-rename: filename[2] eq \"/a\" then permit",
+                b"systrace: f:2:16: found 'filename', expected an argument of the call: filename, filename[1]",
+            ),
+            (
+                false,
+                b"native-getpid: pid eq \"1\" then permit",
+                b"systrace: f:2:16: found 'pid', expected an argument of the call, which has none",
+            ),
+            (
+                false,
+                b"native-chown: mode[x]",
+                b"systrace: f:2:15: found 'mode', expected an argument of the call: filename, uid, gid",
+            ),
+            (
+                false,
+                b"native-read: deny as root",
+                b"systrace: f:2:19: found 'as', expected '[', 'log', ',' or the end of the line",
+            ),
+            (
+                false,
+                b"native-read: deny[:",
+                b"systrace: f:2:19: found ':', expected the name of an error in small letters, such as eacces",
+            ),
+            (
+                false,
+                b"native-read: deny[EPERM]",
+                b"systrace: f:2:19: found 'EPERM', expected the name of an error in small letters, such as eacces",
+            ),
+            (
+                false,
+                b"native-read: deny[eacces",
+                b"systrace: f:2:25: found the end of the file, expected ']'",
+            ),
+            (
+                false,
+                b"native-read: deny[eacces] if",
+                b"systrace: f:2:27: found 'if', expected 'log', ',' or the end of the line",
+            ),
+            (
+                false,
+                b"native-read: deny log log",
+                b"systrace: f:2:23: found 'log', expected ',' or the end of the line",
+            ),
+            (
+                false,
+                b"native-read: permit if",
+                b"systrace: f:2:21: found 'if', expected 'as', 'log', ',' or the end of the line",
+            ),
+            (
+                false,
+                b"native-read: permit log log",
+                b"systrace: f:2:25: found 'log', expected 'as', ',' or the end of the line",
+            ),
+            (
+                false,
+                b"native-read: ask",
+                b"systrace: f:2:14: found 'ask', expected no 'ask' where policies are learnt",
+            ),
+            (
+                true,
+                b"native-bind: permit as ,",
+                b"systrace: f:2:24: found ',', expected ':' or the id of a user",
+            ),
+            (
+                true,
+                b"native-bind: permit as 1 2",
+                b"systrace: f:2:26: found '2', expected ':', 'log', ',' or the end of the line",
+            ),
+            (
+                true,
+                b"native-bind: permit log as 1 log",
+                b"systrace: f:2:30: found 'log', expected ':', ',' or the end of the line",
+            ),
+            (
+                true,
+                b"native-bind: permit as :,",
+                b"systrace: f:2:25: found ',', expected the id of a group",
+            ),
+            (
+                true,
+                b"native-setuid: permit as root",
+                b"systrace: f:2:23: found 'as', expected no 'as' on a call that sets ids",
+            ),
+            (
+                false,
+                b"native-bind: permit as root",
+                b"systrace: f:2:21: found 'as', expected no 'as' where no ids are given by '-c U:G'",
+            ),
+            (
+                false,
+                b"native-read: permit, user",
+                b"systrace: f:2:22: found 'user', expected 'if'",
+            ),
+            (
+                false,
+                b"native-read: permit, if root",
+                b"systrace: f:2:25: found 'root', expected 'user' or 'group'",
+            ),
+            (
+                false,
+                b"native-read: permit, if user 0",
+                b"systrace: f:2:30: found '0', expected '=', '!=', '<' or '>'",
+            ),
+            (
+                false,
+                b"native-read: permit, if user = \"root\"",
+                b"systrace: f:2:32: found '\"root\"', expected the id of a user",
+            ),
+            (
+                false,
+                b"native-read: permit, if group = (",
+                b"systrace: f:2:33: found '(', expected the id of a group",
+            ),
+            (
+                false,
+                b"native-read: permit, if user = www",
+                b"systrace: f:2:32: found 'www', expected an id below 4294967296, or the name of a known user or group",
+            ),
+            (
+                false,
+                b"native-read: permit, if user = 0 log",
+                b"systrace: f:2:34: found 'log', expected the end of the line",
+            ),
+            (
+                false,
+                b"native-read; permit",
+                b"systrace: f:2:12: found ';', expected a token",
+            ),
+            (
+                false,
+                b"native-read: \xff",
+                b"systrace: f:2:14: found '\\xff', expected a token",
+            ),
+            (
+                false,
+                b"native-mmap: prot eq \"/a then permit\n",
+                b"systrace: f:2:22: found '\"/a then permit', expected a text that is closed on its line",
+            ),
+            (
+                false,
+                b"native-mmap: prot eq \"/a\\x0\" then permit",
+                b"systrace: f:2:25: found '\\x0', expected '\\x' and two hexadecimal digits that aren't 00",
+            ),
+            (
+                false,
+                b"native-mmap: prot eq \"\\x00a\"",
+                b"systrace: f:2:23: found '\\x00', expected '\\x' and two hexadecimal digits that aren't 00",
+            ),
+        ];
+        for (elevate, row, wanted) in cases {
+            let mut env = bare_env(rt.alloc(), elevate)?;
+            env.learn = true;
+            let text = repeated(rt.alloc(), HEADER, 1, row)?;
+            assert_eq!(rt; told(&rt, &env, text.bytes())?.bytes(), wanted);
+        }
+        Ok(())
+    }
+}

@@ -1,0 +1,95 @@
+use crate::position::{Position, position_in, rest_of_line};
+use st_base::Text;
+use st_lex::{LexFault, hex_digit};
+use std::alloc::{AllocError, Global};
+
+// How much of a file a message shows, in bytes.
+const SHOWN: usize = 60;
+
+/// Appends bytes between quotes, each that doesn't print by its number.
+pub fn append_shown(line: &mut Text, bytes: &[u8]) -> Result<(), AllocError> {
+    line.push(b'\'')?;
+    for &byte in &bytes[..bytes.len().min(SHOWN)] {
+        match byte {
+            0x20..=0x7e => line.push(byte)?,
+            _ => line.append(&[b'\\', b'x', hex_digit(byte / 16), hex_digit(byte % 16)])?,
+        }
+    }
+    line.push(b'\'')
+}
+
+// A message about a file, as far as the line of the file that it is about.
+fn at_line(alloc: Global, name: &[u8], number: u64) -> Result<Text, AllocError> {
+    let mut line = Text::of(alloc, b"systrace: ")?;
+    line.append(name)?;
+    line.push(b':')?;
+    line.append_number(number)?;
+    Ok(line)
+}
+
+/// A message about a place in a file, up to what was found there.
+pub fn found_at(alloc: Global, name: &[u8], position: Position) -> Result<Text, AllocError> {
+    let mut line = at_line(alloc, name, position.line as u64)?;
+    line.push(b':')?;
+    line.append_number(position.column as u64)?;
+    line.append(b": found ")?;
+    Ok(line)
+}
+
+/// The line for a row of a file that can't stand there, by the number of its line.
+pub fn row_message(
+    alloc: Global,
+    name: &[u8],
+    number: u32,
+    row: &[u8],
+    expected: &str,
+) -> Result<Text, AllocError> {
+    let mut line = at_line(alloc, name, u64::from(number))?;
+    line.append(b": found ")?;
+    append_shown(&mut line, row)?;
+    line.append(b", expected ")?;
+    line.append(expected.as_bytes())?;
+    Ok(line)
+}
+
+/// The byte at which a lexical fault stands.
+pub fn place_of(fault: LexFault) -> usize {
+    let at = match fault {
+        LexFault::BadByte(at) | LexFault::OpenQuote(at) | LexFault::BadEscape(at) => at,
+    };
+    at as usize
+}
+
+/// What is no token, of what stands in its line from there on: one byte, an escape, or a text that isn't closed.
+pub fn broken(rest: &[u8], fault: LexFault) -> &[u8] {
+    let len = match fault {
+        LexFault::BadByte(_) => 1,
+        LexFault::BadEscape(_) => rest.iter().take_while(|byte| **byte != b'"').count().min(4),
+        LexFault::OpenQuote(_) => rest.len(),
+    };
+    &rest[..len.min(rest.len())]
+}
+
+/// What was expected in the place of what is no token.
+pub fn token_for(fault: LexFault) -> &'static str {
+    match fault {
+        LexFault::BadByte(_) => "a token",
+        LexFault::OpenQuote(_) => "a text that is closed on its line",
+        LexFault::BadEscape(_) => "'\\x' and two hexadecimal digits that aren't 00",
+    }
+}
+
+/// The line for a text that has a lexical fault.
+pub fn lexical_message(
+    alloc: Global,
+    name: &[u8],
+    text: &[u8],
+    fault: LexFault,
+) -> Result<Text, AllocError> {
+    let at = place_of(fault);
+    let mut line = found_at(alloc, name, position_in(text, at))?;
+    append_shown(&mut line, broken(rest_of_line(text, at), fault))?;
+    line.append(b", expected ")?;
+    line.append(token_for(fault).as_bytes())?;
+    Ok(line)
+}

@@ -1,0 +1,95 @@
+use crate::message::message;
+use crate::names::file_in;
+use crate::policy_fault::policy_message;
+use crate::schedule_fault::schedule_message;
+use crate::script_fault::script_message;
+use crate::sources::{env_of, policies_before, text_of};
+use st_base::Text;
+use st_command::{Command, read_words};
+use st_outside::Files;
+use st_policy::PolicyFault;
+use st_script_faults::ScriptFault;
+use st_top::{Status, Which};
+use std::alloc::{AllocError, Global};
+
+// Why a policy file is refused.
+fn policy_line<F: Files>(
+    alloc: Global,
+    files: &mut F,
+    command: &Command<'_>,
+    number: u32,
+    fault: PolicyFault,
+) -> Result<Option<Text>, AllocError> {
+    if let Some(name) = file_in(command, Which::Policy(number))
+        && let Some(env) = env_of(alloc, files, command)?
+        && let Some(before) = policies_before(alloc, files, command, number, &env)?
+        && let Some(text) = text_of(alloc, files, name)?
+    {
+        return policy_message(alloc, name.bytes(), text.bytes(), &env, &before, fault);
+    }
+    Ok(None)
+}
+
+// Why the script is refused.
+fn script_line<F: Files>(
+    alloc: Global,
+    files: &mut F,
+    command: &Command<'_>,
+    fault: ScriptFault,
+) -> Result<Option<Text>, AllocError> {
+    if let Some(name) = file_in(command, Which::Script)
+        && let Some(text) = text_of(alloc, files, name)?
+    {
+        let line = script_message(alloc, name.bytes(), text.bytes(), fault)?;
+        return Ok(Some(line));
+    }
+    Ok(None)
+}
+
+// Why the schedule is refused at a line.
+fn schedule_line<F: Files>(
+    alloc: Global,
+    files: &mut F,
+    command: &Command<'_>,
+    number: u32,
+) -> Result<Option<Text>, AllocError> {
+    if let Some(name) = file_in(command, Which::Schedule)
+        && let Some(text) = text_of(alloc, files, name)?
+    {
+        let line = schedule_message(alloc, name.bytes(), text.bytes(), number)?;
+        return Ok(Some(line));
+    }
+    Ok(None)
+}
+
+// What a refused file tells of a status.
+fn told_of_file<F: Files>(
+    alloc: Global,
+    files: &mut F,
+    command: &Command<'_>,
+    status: Status,
+) -> Result<Option<Text>, AllocError> {
+    match status {
+        Status::Policy(number, fault) => policy_line(alloc, files, command, number, fault),
+        Status::Script(fault) => script_line(alloc, files, command, fault),
+        Status::Schedule(number) => schedule_line(alloc, files, command, number),
+        _ => Ok(None),
+    }
+}
+
+/// The line that tells a person how a call with these words ended, over the files that it read, without its newline. Where a file is
+/// refused, the line says what stands there.
+pub fn line_of<F: Files>(
+    alloc: Global,
+    files: &mut F,
+    words: &[Text],
+    status: Status,
+) -> Result<Text, AllocError> {
+    let command = read_words(alloc, words)?;
+    if let Some(command) = &command
+        && let Some(line) = told_of_file(alloc, files, command, status)?
+    {
+        return Ok(line);
+    }
+    message(alloc, command.as_ref(), status)
+}

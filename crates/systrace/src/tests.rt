@@ -1,0 +1,371 @@
+use crate::telling::line_of;
+use st_base::Text;
+use st_outside::{MemoryFiles, MemorySink};
+use st_policy::PolicyFault;
+use st_script_faults::ScriptFault;
+use st_top::{Status, Which, systrace_plain};
+use std::alloc::Global;
+use std::test::Fail;
+
+fn words_of(alloc: Global, line: &str) -> Result<Vec<Text>, Fail> {
+    let mut words = Vec::new(alloc);
+    for word in line.split(' ') {
+        words.push(Text::of(alloc, word.as_bytes())?)?;
+    }
+    Ok(words)
+}
+
+fn files_of(alloc: Global, held: &[(&[u8], &[u8])]) -> Result<MemoryFiles, Fail> {
+    let mut files = MemoryFiles::new(alloc);
+    for (name, content) in held {
+        files.add(Text::of(alloc, name)?, Text::of(alloc, content)?)?;
+    }
+    Ok(files)
+}
+
+// What is told of these words over these files.
+fn told(alloc: Global, line: &str, held: &[(&[u8], &[u8])]) -> Result<Text, Fail> {
+    let words = words_of(alloc, line)?;
+    let mut files = files_of(alloc, held)?;
+    let mut out = MemorySink::new(alloc, 1000)?;
+    let status = systrace_plain(alloc, words.as_slice(), &mut files, &mut out);
+    Ok(line_of(alloc, &mut files, words.as_slice(), status)?)
+}
+
+const STEP: &str = "step -f p -f q s c";
+
+const USAGE: &[u8] =
+    b"usage: systrace step [-f POLICY]... [-a] [-i] [-u] [-c U:G] [-w N] [--print audit|trace|schedule] SCRIPT SCHEDULE
+       systrace check [-c U:G] POLICY [SCRIPT]";
+
+const NOT_BUILT: &[u8] =
+    b"systrace: '-A', '-t' and '--print policy' are not built yet: nothing is learnt, and nobody is asked";
+
+// Words, how they end where no file can be read any more, and the line.
+#[test]
+fn tells_a_status(rt: HostRuntime) -> Result<(), Fail> {
+    let cases: [(&str, Status, &[u8]); 17] = [
+        (STEP, Status::Done, b""),
+        ("step", Status::Usage, USAGE),
+        ("step -A s c", Status::Usage, NOT_BUILT),
+        (
+            STEP,
+            Status::ReadFault,
+            b"systrace: a file could not be read",
+        ),
+        (
+            STEP,
+            Status::WriteFault,
+            b"systrace: standard output could not be written",
+        ),
+        (STEP, Status::NoMemory, b"systrace: out of memory"),
+        (
+            STEP,
+            Status::Missing(Which::Policy(1)),
+            b"systrace: p: no such file",
+        ),
+        (
+            STEP,
+            Status::Missing(Which::Policy(2)),
+            b"systrace: q: no such file",
+        ),
+        (
+            STEP,
+            Status::Missing(Which::Script),
+            b"systrace: s: no such file",
+        ),
+        (
+            STEP,
+            Status::TooLong(Which::Schedule),
+            b"systrace: c: holds more than 1048576 bytes",
+        ),
+        (
+            STEP,
+            Status::Policy(2, PolicyFault::Expected(0)),
+            b"systrace: q: refused, and no memory was left to tell why",
+        ),
+        (
+            STEP,
+            Status::Script(ScriptFault::Expected(1)),
+            b"systrace: s: refused, and no memory was left to tell why",
+        ),
+        (
+            STEP,
+            Status::Schedule(1),
+            b"systrace: c: refused, and no memory was left to tell why",
+        ),
+        (
+            "check -c 67:67 p",
+            Status::Missing(Which::Policy(1)),
+            b"systrace: p: no such file",
+        ),
+        (
+            "check p s",
+            Status::Missing(Which::Script),
+            b"systrace: s: no such file",
+        ),
+        (
+            "check p",
+            Status::Policy(1, PolicyFault::Expected(0)),
+            b"systrace: p: refused, and no memory was left to tell why",
+        ),
+        (
+            "check p s",
+            Status::Script(ScriptFault::Expected(1)),
+            b"systrace: s: refused, and no memory was left to tell why",
+        ),
+    ];
+    for (line, status, wanted) in cases {
+        let words = words_of(rt.alloc(), line)?;
+        let mut files = MemoryFiles::new(rt.alloc());
+        let found = line_of(rt.alloc(), &mut files, words.as_slice(), status)?;
+        assert_eq!(rt; found.bytes(), wanted);
+    }
+    Ok(())
+}
+
+// Rows of a script, and the line.
+#[test]
+fn tells_of_scripts(rt: HostRuntime) -> Result<(), Fail> {
+    let cases: [(&[u8], &[u8]); 31] = [
+        (
+            b"user root 0\n",
+            b"systrace: s:1: found 'user root 0', expected 'user NAME UID GID \"HOME\"', outside a thread",
+        ),
+        (
+            b"group wheel 0 0",
+            b"systrace: s:1: found 'group wheel 0 0', expected 'group NAME GID', outside a thread",
+        ),
+        (
+            b"dir \"/d/\" 0 0 755",
+            b"systrace: s:1: found 'dir \"/d/\" 0 0 755', expected 'dir \"/PATH\" UID GID MODE', outside a thread",
+        ),
+        (
+            b"\n\n file \"/f\" 0 0 644 \r\n",
+            b"systrace: s:3: found 'file \"/f\" 0 0 644 ', expected 'file \"/PATH\" UID GID MODE \"CONTENT\"', outside a thread",
+        ),
+        (
+            b"link \"/l\" 0 0 \"\"",
+            b"systrace: s:1: found 'link \"/l\" 0 0 \"\"', expected 'link \"/PATH\" UID GID \"TARGET\"', outside a thread",
+        ),
+        (
+            b"process p \"/a\" 0 0 \"/\"",
+            b"systrace: s:1: found 'process p \"/a\" 0 0 \"/\"', expected 'process NAME traced \"/BINARY\" UID GID \"/DIRECTORY\"', or 'untraced' in it, outside a thread",
+        ),
+        (
+            b"thread a\ncall exit\n",
+            b"systrace: s:1: found 'thread a', expected 'thread NAME' or 'thread NAME in PROCESS', outside a thread, and a line 'end' below it",
+        ),
+        (
+            b"reply \"/a\" native-read: ask",
+            b"systrace: s:1: found 'reply \"/a\" native-read: ask', expected 'reply \"/BINARY\" FILTER', a filter as in a policy that doesn't ask, outside a thread",
+        ),
+        (
+            b"thread a\nstore 8192 1\nend",
+            b"systrace: s:2: found 'store 8192 1', expected 'store PLACE WORD', PLACE below 8192, in a thread",
+        ),
+        (
+            b"thread a\nput 4 \"/f\"\nend",
+            b"systrace: s:2: found 'put 4 \"/f\"', expected 'put AT \"TEXT\"', AT a multiple of 8, and the text and a zero byte within 65536 bytes, in a thread",
+        ),
+        (
+            b"call getpid",
+            b"systrace: s:1: found 'call getpid', expected 'call NAME' with up to six numbers, NAME a call of the model but fork, in a thread",
+        ),
+        (
+            b"fork a",
+            b"systrace: s:1: found 'fork a', expected 'fork THREAD', in a thread",
+        ),
+        (
+            b"end",
+            b"systrace: s:1: found 'end', expected 'end', at the end of a thread",
+        ),
+        (
+            b"threads a",
+            b"systrace: s:1: found 'threads a', expected user, group, dir, file, link, process, thread or reply; or in a thread store, put, call, fork or end",
+        ),
+        (
+            b"thread a\ndir \"/d\" 0 0 755\nend",
+            b"systrace: s:2: found 'dir \"/d\" 0 0 755', expected 'dir \"/PATH\" UID GID MODE', outside a thread",
+        ),
+        (
+            b"file \"/d/f\" 0 0 644 \"f\"",
+            b"systrace: s:1: found 'file \"/d/f\" 0 0 644 \"f\"', expected a path in the root, or in a directory of a row above",
+        ),
+        (
+            b"thread a in p\nend",
+            b"systrace: s:1: found 'thread a in p', expected the name of a process of a row above",
+        ),
+        (
+            b"thread a\nfork b\nend",
+            b"systrace: s:2: found 'fork b', expected the name of a thread of the script",
+        ),
+        (
+            b"user a 0 0 \"/\"\nuser a 1 1 \"/\"",
+            b"systrace: s:2: found 'user a 1 1 \"/\"', expected a name that no user above has",
+        ),
+        (
+            b"group a 0\ngroup a 1",
+            b"systrace: s:2: found 'group a 1', expected a name that no group above has",
+        ),
+        (
+            b"dir \"/d\" 0 0 755\nlink \"/d\" 0 0 \"/\"",
+            b"systrace: s:2: found 'link \"/d\" 0 0 \"/\"', expected a path that no row above has",
+        ),
+        (
+            b"process p traced \"/a\" 0 0 \"/\"\nprocess p traced \"/a\" 0 0 \"/\"",
+            b"systrace: s:2: found 'process p traced \"/a\" 0 0 \"/\"', expected a name that no process above has",
+        ),
+        (
+            b"thread a\nend\nthread a\nend",
+            b"systrace: s:3: found 'thread a', expected a name that no thread above has",
+        ),
+        (
+            b"thread a\nfork a\nfork a\nend",
+            b"systrace: s:3: found 'fork a', expected a thread that starts in no process, and that no fork above starts",
+        ),
+        (
+            b"thread a\nput 0 \"a;\nend",
+            b"systrace: s:2:7: found '\"a;', expected a text that is closed on its line",
+        ),
+        (
+            b"user a; 0 0 \"/\"",
+            b"systrace: s:1:7: found ';', expected a token",
+        ),
+        (
+            b"user a 0 0 \"/\\xg0\"",
+            b"systrace: s:1:14: found '\\xg0', expected '\\x' and two hexadecimal digits that aren't 00",
+        ),
+        (
+            b"user a 0 0 \"/\\x00b\"",
+            b"systrace: s:1:14: found '\\x00', expected '\\x' and two hexadecimal digits that aren't 00",
+        ),
+        (
+            b"user a\xff 0 0 \"/\"",
+            b"systrace: s:1:7: found '\\xff', expected a token",
+        ),
+        (b"", b"systrace: p: no such file"),
+        (b"# nothing", b"systrace: p: no such file"),
+    ];
+    for (script, wanted) in cases {
+        let found = told(rt.alloc(), "check p s", &[(b"s", script)])?;
+        assert_eq!(rt; found.bytes(), wanted);
+    }
+    Ok(())
+}
+
+// A front, so many pieces, and what stands behind them, and the line.
+#[test]
+fn tells_of_too_much(rt: HostRuntime) -> Result<(), Fail> {
+    let cases: [(&[u8], u32, &[u8], &[u8], &[u8]); 4] = [
+        (
+            b"dir \"/",
+            256,
+            b"d",
+            b"\" 0 0 755",
+            b"systrace: s:1: found 'dir \"/dddddddddddddddddddddddddddddddddddddddddddddddddddddd', expected at most 4095 objects, 255 bytes in a part of a path, 1024 in a path, 255 in a target, 65536 in a content",
+        ),
+        (
+            b"process p traced \"/",
+            256,
+            b"p",
+            b"\" 0 0 \"/\"",
+            b"systrace: s:1: found 'process p traced \"/ppppppppppppppppppppppppppppppppppppppppp', expected at most 64 processes, 255 bytes in a part of a name, 1024 in a binary or a directory",
+        ),
+        (
+            b"reply \"/",
+            256,
+            b"r",
+            b"\" native-read: permit",
+            b"systrace: s:1: found 'reply \"/rrrrrrrrrrrrrrrrrrrrrrrrrrrrrrrrrrrrrrrrrrrrrrrrrrrr', expected at most 255 bytes in a part of a name, 1024 in a binary",
+        ),
+        (
+            b"thread a\n",
+            4097,
+            b"call getpid\n",
+            b"end",
+            b"systrace: s:4098: found 'call getpid', expected at most 4096 instructions in all, each word of a text that is put counted",
+        ),
+    ];
+    for (front, count, piece, back, wanted) in cases {
+        let mut script = Text::of(rt.alloc(), front)?;
+        for _ in 0..count {
+            script.append(piece)?;
+        }
+        script.append(back)?;
+        let found = told(rt.alloc(), "check p s", &[(b"s", script.bytes())])?;
+        assert_eq!(rt; found.bytes(), wanted);
+    }
+    Ok(())
+}
+
+const SCRIPT: &[u8] = b"process p traced \"/a\" 0 0 \"/\"\nthread a in p\ncall getpid\nend\n";
+
+// A schedule, and the line.
+#[test]
+fn tells_of_schedules(rt: HostRuntime) -> Result<(), Fail> {
+    let cases: [(&[u8], &[u8]); 7] = [
+        (
+            b"rest\n thread 1\n",
+            b"systrace: c:2: found 'thread 1', expected a thread that can move at each turn: it has started, hasn't ended, and waits for no worker",
+        ),
+        (
+            b"thread 1 1\nthread 1 2",
+            b"systrace: c:2: found 'thread 1 2', expected a thread that can move at each turn: it has started, hasn't ended, and waits for no worker",
+        ),
+        (
+            b"worker 1",
+            b"systrace: c:1: found 'worker 1', expected a worker that can move at each turn: one of those of '-w N', with a call to serve",
+        ),
+        (
+            b"operator",
+            b"systrace: c:1: found 'operator', expected a question for the operator at each turn: there is none without '-A' or '-t'",
+        ),
+        (
+            b"thread 1 0",
+            b"systrace: c:1: found 'thread 1 0', expected 'thread N', 'worker N' or 'operator', behind which a count from 1 to 1000000 may stand, or 'rest'",
+        ),
+        (
+            b"rest # all\nrest !",
+            b"systrace: c:2: found 'rest !', expected 'thread N', 'worker N' or 'operator', behind which a count from 1 to 1000000 may stand, or 'rest'",
+        ),
+        (b"rest", b""),
+    ];
+    for (schedule, wanted) in cases {
+        let found = told(rt.alloc(), "step s c", &[(b"s", SCRIPT), (b"c", schedule)])?;
+        assert_eq!(rt; found.bytes(), wanted);
+    }
+    Ok(())
+}
+
+const POLICY: &[u8] = b"Policy: /a, Emulation: native\nnative-read: permit, if user = www\n";
+
+// A policy is told of with the names of the script, and behind the policies of the files before it.
+#[test]
+fn tells_of_policies(rt: HostRuntime) -> Result<(), Fail> {
+    let named: &[u8] = b"user www 67 67 \"/\"";
+    let cases: [(&str, &[u8], &[u8]); 4] = [
+        (
+            "check p",
+            b"",
+            b"systrace: p:2:32: found 'www', expected an id below 4294967296, or the name of a known user or group",
+        ),
+        (
+            "check p s",
+            b"",
+            b"systrace: p:2:32: found 'www', expected an id below 4294967296, or the name of a known user or group",
+        ),
+        (
+            "step -f p -f q s c",
+            named,
+            b"systrace: q:1:9: found '/a', expected a binary that has no policy yet",
+        ),
+        ("check p s", named, b""),
+    ];
+    for (line, script, wanted) in cases {
+        let held: [(&[u8], &[u8]); 3] = [(b"p", POLICY), (b"q", POLICY), (b"s", script)];
+        let found = told(rt.alloc(), line, &held)?;
+        assert_eq!(rt; found.bytes(), wanted);
+    }
+    Ok(())
+}
