@@ -1,0 +1,471 @@
+//! The machine: threads, messages and workers, one step at a time.
+use crate::args::{Gathering, Need};
+use crate::calls::{self, Arg, ArgKind, Call, Errno, Ids, Regs, Rule};
+use crate::policy::{Action, Policies, Policy, Verdict};
+use crate::print::{Audit, Cause, Choice, Entry, How, Judged, Printer, Used, Way};
+use crate::script::{Instr, Script};
+use crate::system::{Change, System};
+use crate::tree;
+use std::collections::BTreeSet;
+use std::rc::Rc;
+
+pub struct Options {
+    pub inherit: bool,
+    pub aliasing: bool,
+    pub ids: Option<(u32, u32)>,
+    pub workers: usize,
+}
+
+struct Thread {
+    body: Vec<Instr>,
+    next: usize,
+    pid: Option<usize>,
+    dying: bool,
+    ended: bool,
+    pending: Option<Pending>,
+}
+
+/// A call that was entered.
+#[derive(Clone, Copy)]
+struct Pending {
+    call: Call,
+    regs: Regs,
+    child: Option<usize>,
+    way: Way,
+}
+
+/// What a message keeps of its call.
+#[derive(Clone)]
+struct Head {
+    pid: usize,
+    ids: Ids,
+    cwd: Vec<u8>,
+    policy: Rc<Policy>,
+    rule: Rule,
+    call: Call,
+    regs: Regs,
+}
+
+struct Message {
+    head: Rc<Head>,
+    answer: Option<Answer>,
+}
+
+/// All messages, by their numbers, which count from 1.
+#[derive(Default)]
+struct Messages {
+    /// Those that live no more are none.
+    all: Vec<Option<Message>>,
+    /// The live ones that no worker has claimed.
+    waiting: BTreeSet<u64>,
+}
+
+impl Messages {
+    fn next_seq(&self) -> u64 {
+        self.all.len() as u64 + 1
+    }
+
+    fn post(&mut self, head: Head) -> u64 {
+        let seq = self.next_seq();
+        self.all.push(Some(Message { head: Rc::new(head), answer: None }));
+        self.waiting.insert(seq);
+        seq
+    }
+
+    fn get(&self, seq: u64) -> Option<&Message> {
+        self.all.get(seq as usize - 1)?.as_ref()
+    }
+
+    /// Answers a message, if it lives.
+    fn answer(&mut self, seq: u64, answer: Answer) -> bool {
+        match self.all.get_mut(seq as usize - 1) {
+            Some(Some(message)) => {
+                message.answer = Some(answer);
+                true
+            }
+            _ => false,
+        }
+    }
+
+    fn remove(&mut self, seq: u64) -> Option<Message> {
+        self.waiting.remove(&seq);
+        self.all.get_mut(seq as usize - 1)?.take()
+    }
+}
+
+enum Answer {
+    Fault(Errno),
+    Verdict(Verdict, Rc<[Arg]>),
+}
+
+/// What a worker has at hand.
+struct Turn {
+    seq: u64,
+    head: Rc<Head>,
+    gathering: Gathering,
+}
+
+pub struct Kernel {
+    system: System,
+    threads: Vec<Thread>,
+    messages: Messages,
+    workers: Vec<Option<Turn>>,
+    aliasing: bool,
+    printer: Printer,
+}
+
+impl Kernel {
+    pub fn start(script: Script, policies: Policies, options: &Options, printer: Printer) -> Kernel {
+        let mut system = System::new(script.tree, policies, options.inherit);
+        for row in script.processes {
+            let given = options.ids.filter(|_| row.traced);
+            let (uid, gid) = given.unwrap_or((row.uid, row.gid));
+            system.start(row.traced, &row.binary, Ids { ruid: uid, euid: uid, rgid: gid, egid: gid }, row.cwd);
+        }
+        let mut threads = Vec::new();
+        for row in script.threads {
+            if let Some(pid) = row.process {
+                system.processes[pid].threads += 1;
+            }
+            let (body, pid) = (row.body, row.process);
+            threads.push(Thread { body, next: 0, pid, dying: false, ended: false, pending: None });
+        }
+        Kernel {
+            system,
+            threads,
+            messages: Messages::default(),
+            workers: (0..options.workers).map(|_| None).collect(),
+            aliasing: options.aliasing,
+            printer,
+        }
+    }
+
+    /// The text of the run.
+    pub fn finish(self) -> String {
+        self.printer.finish()
+    }
+
+    fn is_enabled(&self, choice: Choice) -> bool {
+        match choice {
+            Choice::Thread(tid) => self.threads.get(tid).is_some_and(|thread| self.can_move(thread)),
+            Choice::Worker(worker) => match self.workers.get(worker) {
+                None => false,
+                Some(None) => !self.messages.waiting.is_empty(),
+                Some(Some(_)) => true,
+            },
+            Choice::Operator => false,
+        }
+    }
+
+    fn can_move(&self, thread: &Thread) -> bool {
+        if thread.pid.is_none() || thread.ended {
+            return false;
+        }
+        match thread.pending {
+            Some(Pending { way: Way::Held(seq), .. }) if !thread.dying => {
+                self.messages.get(seq).is_some_and(|message| message.answer.is_some())
+            }
+            _ => true,
+        }
+    }
+
+    /// Makes a choice, if it is enabled.
+    pub fn advance(&mut self, choice: Choice) -> bool {
+        if !self.is_enabled(choice) {
+            return false;
+        }
+        match choice {
+            Choice::Thread(tid) => self.thread_step(tid),
+            Choice::Worker(worker) => self.worker_step(worker),
+            Choice::Operator => {}
+        }
+        self.printer.choice(choice);
+        true
+    }
+
+    /// Goes on with the first enabled choice until there is none.
+    pub fn rest(&mut self) {
+        loop {
+            let threads = (0..self.threads.len()).map(Choice::Thread);
+            let workers = (0..self.workers.len()).map(Choice::Worker);
+            let Some(choice) = threads.chain(workers).find(|&choice| self.is_enabled(choice)) else { return };
+            self.advance(choice);
+        }
+    }
+
+    fn thread_step(&mut self, tid: usize) {
+        let thread = &mut self.threads[tid];
+        let Some(pid) = thread.pid else { return };
+        if thread.dying {
+            return self.end(tid, pid);
+        }
+        if let Some(pending) = thread.pending.take() {
+            return self.go_on(tid, pid, pending);
+        }
+        let Some(&instr) = thread.body.get(thread.next) else { return self.end(tid, pid) };
+        thread.next += 1;
+        match instr {
+            Instr::Store(place, word) => {
+                self.system.store(pid, place, word);
+                self.printer.entry(Entry::Stored { tid, place, word });
+            }
+            Instr::Call(call, regs) => self.enter(tid, pid, call, regs, None),
+            Instr::Fork(child) => self.enter(tid, pid, Call::Fork, [0; 6], Some(child)),
+        }
+    }
+
+    fn end(&mut self, tid: usize, pid: usize) {
+        self.threads[tid].ended = true;
+        self.system.end_thread(pid);
+        self.printer.entry(Entry::Ended { tid });
+    }
+
+    fn enter(&mut self, tid: usize, pid: usize, call: Call, regs: Regs, child: Option<usize>) {
+        let process = &self.system.processes[pid];
+        let rule = Rule::of_call(call, &regs, self.aliasing);
+        let way = match process.policy.filters(rule).first() {
+            _ if !process.traced => Way::Untraced,
+            Some(filter) if filter.is_plain() => match filter.action {
+                Action::Permit => Way::Fast,
+                Action::Deny(errno) => Way::Barred(errno),
+                Action::Ask => Way::Held(self.messages.next_seq()),
+            },
+            _ => Way::Held(self.messages.next_seq()),
+        };
+        if matches!(way, Way::Held(_)) {
+            let (cwd, policy) = (process.cwd.clone(), Rc::clone(&process.policy));
+            self.messages.post(Head { pid, ids: process.ids, cwd, policy, rule, call, regs });
+        }
+        self.threads[tid].pending = Some(Pending { call, regs, child, way });
+        self.printer.entry(Entry::Entered { tid, call, regs: &regs, way });
+    }
+
+    /// Ends a message's life. A worker that still copies for it is idle then.
+    fn close(&mut self, seq: u64) -> Option<Message> {
+        for worker in &mut self.workers {
+            let is_at_it = |turn: &Turn| turn.seq == seq && !matches!(turn.gathering.need(), Need::Ready);
+            if worker.as_ref().is_some_and(is_at_it) {
+                *worker = None;
+            }
+        }
+        self.messages.remove(seq)
+    }
+
+    // Workers.
+
+    fn worker_step(&mut self, worker: usize) {
+        let Some(turn) = &mut self.workers[worker] else { return self.claim(worker) };
+        let (seq, part) = (turn.seq, turn.gathering.part());
+        match turn.gathering.need() {
+            Need::Word(place) => {
+                let word = self.system.word(turn.head.pid, place);
+                turn.gathering.take_word(word);
+                self.printer.entry(Entry::Copied { seq, part, place, word });
+            }
+            Need::Look => {
+                let name = turn.gathering.look_name();
+                let seen = self.system.tree.look(&name);
+                turn.gathering.take_look(&seen);
+                self.printer.entry(Entry::Looked { seq, part, name: &name, seen: &seen });
+            }
+            Need::Fault(errno) => {
+                self.workers[worker] = None;
+                self.messages.answer(seq, Answer::Fault(errno));
+                self.printer.entry(Entry::Faulted { seq, errno });
+            }
+            Need::Ready => self.answer(worker),
+        }
+    }
+
+    fn claim(&mut self, worker: usize) {
+        let Some(seq) = self.messages.waiting.pop_first() else { return };
+        let Some(head) = self.messages.get(seq).map(|message| Rc::clone(&message.head)) else { return };
+        let gathering = Gathering::new(head.call, head.regs, head.cwd.clone());
+        self.workers[worker] = Some(Turn { seq, head, gathering });
+        self.printer.entry(Entry::Claimed { worker, seq });
+    }
+
+    fn answer(&mut self, worker: usize) {
+        let Some(Turn { seq, head, gathering }) = self.workers[worker].take() else { return };
+        let args: Rc<[Arg]> = gathering.args.into();
+        let verdict = head.policy.decide(head.rule, &args, head.ids);
+        let judged = Judged {
+            pid: head.pid,
+            ids: head.ids,
+            policy: &head.policy.binary,
+            rule: head.rule,
+            call: head.call,
+            regs: &head.regs,
+            args: &args,
+        };
+        let applied = self.messages.answer(seq, Answer::Verdict(verdict, Rc::clone(&args)));
+        self.printer.entry(Entry::Answered { worker, seq, judged: &judged, verdict, applied });
+    }
+
+    // Threads with a call.
+
+    fn go_on(&mut self, tid: usize, pid: usize, pending: Pending) {
+        match pending.way {
+            Way::Fast | Way::Untraced => self.use_at_once(tid, pid, pending),
+            Way::Barred(errno) => {
+                let policy = Rc::clone(&self.system.processes[pid].policy);
+                let rule = Rule::of_call(pending.call, &pending.regs, self.aliasing);
+                self.printer.entry(Entry::Denied { tid, seq: None, errno, cause: Cause::Filter(1) });
+                let (policy, how, result) = (&policy.binary, How::Barred, Err(errno));
+                self.printer.audit(Audit { pid, tid, policy, rule, args: &[], how, result, log: false });
+            }
+            Way::Held(seq) => self.use_held(tid, seq, pending),
+        }
+    }
+
+    /// Makes a call that is not held, with its arguments as they are now.
+    fn use_at_once(&mut self, tid: usize, pid: usize, pending: Pending) {
+        let Pending { call, regs, child, way } = pending;
+        let process = &self.system.processes[pid];
+        let (ids, policy) = (process.ids, Rc::clone(&process.policy));
+        let gathered = self.gather(pid, call, regs, process.cwd.clone());
+        let (args, outcome) = match gathered {
+            Err(errno) => (Vec::new(), Err(errno)),
+            Ok(args) => {
+                let outcome = self.system.execute(pid, call, &regs, &args, ids, child);
+                (args, outcome)
+            }
+        };
+        let (result, mut changes) = match outcome {
+            Ok(done) => (Ok(done.value), done.changes),
+            Err(errno) => (Err(errno), Vec::new()),
+        };
+        if result.is_ok() {
+            changes.extend(self.follow_up(tid, pid, call, &regs, child));
+        }
+        let used = Used { call, regs: &regs, ids, args: &args, result, changes: &changes };
+        self.printer.entry(Entry::Used { tid, seq: None, used: &used });
+        if matches!(way, Way::Fast) {
+            let rule = Rule::of_call(call, &regs, self.aliasing);
+            let (policy, how) = (&policy.binary, How::Fast);
+            self.printer.audit(Audit { pid, tid, policy, rule, args: &[], how, result, log: false });
+        }
+    }
+
+    fn gather(&self, pid: usize, call: Call, regs: Regs, cwd: Vec<u8>) -> Result<Vec<Arg>, Errno> {
+        let mut gathering = Gathering::new(call, regs, cwd);
+        loop {
+            match gathering.need() {
+                Need::Word(place) => gathering.take_word(self.system.word(pid, place)),
+                Need::Look => {
+                    let name = gathering.look_name();
+                    gathering.take_look(&self.system.tree.look(&name));
+                }
+                Need::Fault(errno) => return Err(errno),
+                Need::Ready if self.link_met(call, &regs, &gathering.args).is_some() => return Err(Errno::Loop),
+                Need::Ready => return Ok(gathering.args),
+            }
+        }
+    }
+
+    /// The first link on the way to a name of the call.
+    fn link_met<'a>(&self, call: Call, regs: &Regs, args: &'a [Arg]) -> Option<&'a [u8]> {
+        for (spec, arg) in calls::args_of(call).iter().zip(args).filter(|(spec, _)| spec.kind == ArgKind::Name) {
+            let own = calls::follows(call, regs, spec.register).then_some(&arg.text[..]);
+            let met = tree::proper_prefixes(&arg.text).chain(own).find(|name| self.system.tree.is_link(name));
+            if met.is_some() {
+                return met;
+            }
+        }
+        None
+    }
+
+    fn use_held(&mut self, tid: usize, seq: u64, pending: Pending) {
+        let Some(Message { head, answer: Some(answer) }) = self.close(seq) else { return };
+        let (verdict, args) = match answer {
+            Answer::Fault(errno) => return self.deny(tid, seq, &head, &[], errno, Cause::Fault, false),
+            Answer::Verdict(verdict, args) => (verdict, args),
+        };
+        let filter = |number: usize| &head.policy.filters(head.rule)[number - 1];
+        let (number, ids) = match verdict {
+            Verdict::Unmatched => return self.deny(tid, seq, &head, &args, Errno::Perm, Cause::NoFilter, false),
+            Verdict::Refuse(number, errno) => {
+                return self.deny(tid, seq, &head, &args, errno, Cause::Filter(number), filter(number).log);
+            }
+            Verdict::Permit(number, ids) => (number, ids),
+        };
+        let log = filter(number).log;
+        if let Some(name) = self.link_met(head.call, &head.regs, &args) {
+            return self.deny(tid, seq, &head, &args, Errno::Loop, Cause::Link(name), log);
+        }
+        let (result, mut changes) =
+            match self.system.execute(head.pid, head.call, &head.regs, &args, ids, pending.child) {
+                Ok(done) => (Ok(done.value), done.changes),
+                Err(errno) => (Err(errno), Vec::new()),
+            };
+        if result.is_ok() {
+            changes.extend(self.follow_up(tid, head.pid, head.call, &head.regs, pending.child));
+        }
+        let used = Used { call: head.call, regs: &head.regs, ids, args: &args, result, changes: &changes };
+        self.printer.entry(Entry::Used { tid, seq: Some(seq), used: &used });
+        let how = How::Permit { number, granted: filter(number).grant.map(|_| ids) };
+        let (pid, policy, rule) = (head.pid, &head.policy.binary, head.rule);
+        self.printer.audit(Audit { pid, tid, policy, rule, args: &args, how, result, log });
+    }
+
+    #[allow(clippy::too_many_arguments)]
+    fn deny(&mut self, tid: usize, seq: u64, head: &Head, args: &[Arg], errno: Errno, cause: Cause, log: bool) {
+        self.printer.entry(Entry::Denied { tid, seq: Some(seq), errno, cause });
+        let (pid, policy, rule) = (head.pid, &head.policy.binary, head.rule);
+        self.printer.audit(Audit { pid, tid, policy, rule, args, how: How::Denied(cause), result: Err(errno), log });
+    }
+
+    /// What a call that went well does to threads and messages.
+    fn follow_up(&mut self, tid: usize, pid: usize, call: Call, regs: &Regs, child: Option<usize>) -> Vec<Change> {
+        match call {
+            Call::Exit => self.end_threads(pid, None),
+            Call::Kill if regs[1] == 9 => self.end_threads(regs[0] as usize - 1, None),
+            Call::Execve => self.end_threads(pid, Some(tid)),
+            Call::Fork => self.start_child(child),
+            Call::Setuid | Call::Seteuid | Call::Setgid | Call::Setegid => return self.renew(tid, pid),
+            _ => {}
+        }
+        Vec::new()
+    }
+
+    fn start_child(&mut self, child: Option<usize>) {
+        let pid = self.system.processes.len() - 1;
+        if let Some(thread) = child.map(|tid| &mut self.threads[tid]).filter(|thread| thread.pid.is_none()) {
+            thread.pid = Some(pid);
+            self.system.processes[pid].threads = 1;
+        }
+    }
+
+    fn end_threads(&mut self, pid: usize, but: Option<usize>) {
+        for tid in 0..self.threads.len() {
+            let thread = &mut self.threads[tid];
+            if thread.pid == Some(pid) && !thread.ended && Some(tid) != but {
+                thread.dying = true;
+                if let Some(Pending { way: Way::Held(seq), .. }) = thread.pending.take() {
+                    self.close(seq);
+                }
+            }
+        }
+    }
+
+    /// Gives each other held call of the process a new number.
+    fn renew(&mut self, caller: usize, pid: usize) -> Vec<Change> {
+        let mut changes = Vec::new();
+        for tid in 0..self.threads.len() {
+            let thread = &self.threads[tid];
+            if thread.pid != Some(pid) || thread.dying || tid == caller {
+                continue;
+            }
+            let Some(Pending { way: Way::Held(old), .. }) = thread.pending else { continue };
+            let Some(message) = self.close(old) else { continue };
+            let process = &self.system.processes[pid];
+            let new =
+                self.messages.post(Head { ids: process.ids, cwd: process.cwd.clone(), ..(*message.head).clone() });
+            if let Some(pending) = &mut self.threads[tid].pending {
+                pending.way = Way::Held(new);
+            }
+            changes.push(Change::Renewed(old, new));
+        }
+        changes
+    }
+}
