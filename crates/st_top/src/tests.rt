@@ -31,6 +31,55 @@ pub const REST: &[u8] = b"rest\n";
 pub const CAT_POLICY: &[u8] =
     b"Policy: /bin/cat, Emulation: native\nnative-fsread: filename eq \"/etc/passwd\" then permit\n";
 
+/// The policy of a program of two calls that the kernel permits by itself.
+pub const POLICY: &[u8] = b"Policy: /bin/a, Emulation: native
+native-getpid: permit
+native-exit: permit
+";
+
+/// The script of that program.
+pub const SCRIPT: &[u8] = b"process p traced \"/bin/a\" 0 0 \"/\"
+thread a in p
+call getpid
+call exit 0
+end
+";
+
+/// What its run writes.
+pub const WRITTEN: &[u8] = b"1.1 \"/bin/a\" native-getpid fast = 1
+1.1 \"/bin/a\" native-exit fast = 0
+";
+
+/// The script of a thread that opens that file.
+pub const CAT_SCRIPT: &[u8] = b"dir \"/etc\" 0 0 755
+file \"/etc/passwd\" 0 0 644 \"root\"
+file \"/etc/spwd\" 0 0 600 \"s\"
+process p traced \"/bin/cat\" 1000 1000 \"/\"
+thread a in p
+put 0 \"/etc/passwd\"
+call open 0 0
+end
+";
+
+/// The same with a second thread, which writes another name over the first.
+pub const RACE_SCRIPT: &[u8] = b"dir \"/etc\" 0 0 755
+file \"/etc/passwd\" 0 0 644 \"root\"
+file \"/etc/spwd\" 0 0 600 \"s\"
+process p traced \"/bin/cat\" 1000 1000 \"/\"
+thread a in p
+put 0 \"/etc/passwd\"
+call open 0 0
+end
+thread b in p
+put 0 \"/etc/spwd\"
+end
+";
+
+/// What is written where the file is opened.
+pub const CAT_WRITTEN: &[u8] =
+    b"1.1 \"/bin/cat\" native-fsread filename=\"/etc/passwd\" permit#1 = 3
+";
+
 /// The words that a line has, cut at its blanks.
 pub fn words_of(alloc: Global, line: &str) -> Result<Vec<Text>, Fail> {
     let mut words = Vec::new(alloc);

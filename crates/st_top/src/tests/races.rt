@@ -1,47 +1,24 @@
 use crate::Status;
-use crate::tests::{CAT_POLICY, Case, STEP, run_all};
+use crate::tests::{CAT_POLICY, CAT_SCRIPT, CAT_WRITTEN, Case, RACE_SCRIPT, STEP, run_all};
 use std::test::Fail;
 
 const WHAT_ANOTHER_THREAD_DOES_MEANWHILE: [Case; 6] = [
     Case {
         words: STEP,
         policy: CAT_POLICY,
-        script: b"dir \"/etc\" 0 0 755
-file \"/etc/passwd\" 0 0 644 \"root\"
-file \"/etc/spwd\" 0 0 600 \"s\"
-process p traced \"/bin/cat\" 1000 1000 \"/\"
-thread a in p
-put 0 \"/etc/passwd\"
-call open 0 0
-end
-thread b in p
-put 0 \"/etc/spwd\"
-end
-",
+        script: RACE_SCRIPT,
         schedule: b"thread 1 3
 worker 1 6
 thread 2 2
 rest
 ",
         status: Status::Done,
-        written: b"1.1 \"/bin/cat\" native-fsread filename=\"/etc/passwd\" permit#1 = 3
-",
+        written: CAT_WRITTEN,
     },
     Case {
         words: STEP,
         policy: CAT_POLICY,
-        script: b"dir \"/etc\" 0 0 755
-file \"/etc/passwd\" 0 0 644 \"root\"
-file \"/etc/spwd\" 0 0 600 \"s\"
-process p traced \"/bin/cat\" 1000 1000 \"/\"
-thread a in p
-put 0 \"/etc/passwd\"
-call open 0 0
-end
-thread b in p
-put 0 \"/etc/spwd\"
-end
-",
+        script: RACE_SCRIPT,
         schedule: b"thread 1 3
 worker 1 2
 thread 2 2
@@ -138,15 +115,7 @@ rest
     Case {
         words: STEP,
         policy: CAT_POLICY,
-        script: b"dir \"/etc\" 0 0 755
-file \"/etc/passwd\" 0 0 644 \"root\"
-file \"/etc/spwd\" 0 0 600 \"s\"
-process p traced \"/bin/cat\" 1000 1000 \"/\"
-thread a in p
-put 0 \"/etc/passwd\"
-call open 0 0
-end
-",
+        script: CAT_SCRIPT,
         schedule: b"thread 1 3
 ",
         status: Status::Done,

@@ -1,4 +1,7 @@
-use crate::tests::{CAT_POLICY, Case, REST, STEP, files_of, run, run_all, words_of};
+use crate::tests::{
+    CAT_POLICY, CAT_SCRIPT, Case, POLICY, REST, SCRIPT, STEP, WRITTEN, files_of, run, run_all,
+    words_of,
+};
 use crate::{Status, Which, systrace_plain};
 use st_base::Text;
 use st_lex::LexFault;
@@ -7,35 +10,11 @@ use st_policy::PolicyFault;
 use st_script_faults::ScriptFault;
 use std::test::Fail;
 
-const POLICY: &[u8] = b"Policy: /bin/a, Emulation: native
-native-getpid: permit
-native-exit: permit
-";
-
-const SCRIPT: &[u8] = b"process p traced \"/bin/a\" 0 0 \"/\"
-thread a in p
-call getpid
-call exit 0
-end
-";
-
-const WRITTEN: &[u8] = b"1.1 \"/bin/a\" native-getpid fast = 1
-1.1 \"/bin/a\" native-exit fast = 0
-";
-
 const WHAT_IS_REFUSED: [Case; 18] = [
     Case {
         words: STEP,
         policy: CAT_POLICY,
-        script: b"dir \"/etc\" 0 0 755
-file \"/etc/passwd\" 0 0 644 \"root\"
-file \"/etc/spwd\" 0 0 600 \"s\"
-process p traced \"/bin/cat\" 1000 1000 \"/\"
-thread a in p
-put 0 \"/etc/passwd\"
-call open 0 0
-end
-",
+        script: CAT_SCRIPT,
         schedule: b"worker 1
 rest
 ",
@@ -45,15 +24,7 @@ rest
     Case {
         words: STEP,
         policy: CAT_POLICY,
-        script: b"dir \"/etc\" 0 0 755
-file \"/etc/passwd\" 0 0 644 \"root\"
-file \"/etc/spwd\" 0 0 600 \"s\"
-process p traced \"/bin/cat\" 1000 1000 \"/\"
-thread a in p
-put 0 \"/etc/passwd\"
-call open 0 0
-end
-",
+        script: CAT_SCRIPT,
         schedule: b"thread 1 3
 thread 1
 ",
@@ -62,16 +33,8 @@ thread 1
     },
     Case {
         words: STEP,
-        policy: b"Policy: /bin/a, Emulation: native
-native-getpid: permit
-native-exit: permit
-",
-        script: b"process p traced \"/bin/a\" 0 0 \"/\"
-thread a in p
-call getpid
-call exit 0
-end
-",
+        policy: POLICY,
+        script: SCRIPT,
         schedule: b"rest
 thread 1
 ",
@@ -80,10 +43,7 @@ thread 1
     },
     Case {
         words: STEP,
-        policy: b"Policy: /bin/a, Emulation: native
-native-getpid: permit
-native-exit: permit
-",
+        policy: POLICY,
         script: b"process p traced \"/bin/a\" 0 0 \"/\"
 thread a in p
 call getpid
@@ -97,220 +57,111 @@ call exit 0
         words: STEP,
         policy: b"Policy: /bin/a, Emulation: native
 native-fsread: filename eq \"/etc",
-        script: b"process p traced \"/bin/a\" 0 0 \"/\"
-thread a in p
-call getpid
-call exit 0
-end
-",
+        script: SCRIPT,
         schedule: REST,
         status: Status::Policy(1, PolicyFault::Lex(LexFault::OpenQuote(61))),
         written: b"",
     },
     Case {
         words: "step -f P T C",
-        policy: b"Policy: /bin/a, Emulation: native
-native-getpid: permit
-native-exit: permit
-",
-        script: b"process p traced \"/bin/a\" 0 0 \"/\"
-thread a in p
-call getpid
-call exit 0
-end
-",
+        policy: POLICY,
+        script: SCRIPT,
         schedule: REST,
         status: Status::Missing(Which::Script),
         written: b"",
     },
     Case {
         words: "step -f Q S C",
-        policy: b"Policy: /bin/a, Emulation: native
-native-getpid: permit
-native-exit: permit
-",
-        script: b"process p traced \"/bin/a\" 0 0 \"/\"
-thread a in p
-call getpid
-call exit 0
-end
-",
+        policy: POLICY,
+        script: SCRIPT,
         schedule: REST,
         status: Status::Missing(Which::Policy(1)),
         written: b"",
     },
     Case {
         words: "step -f P -f Q S C",
-        policy: b"Policy: /bin/a, Emulation: native
-native-getpid: permit
-native-exit: permit
-",
-        script: b"process p traced \"/bin/a\" 0 0 \"/\"
-thread a in p
-call getpid
-call exit 0
-end
-",
+        policy: POLICY,
+        script: SCRIPT,
         schedule: REST,
         status: Status::Missing(Which::Policy(2)),
         written: b"",
     },
     Case {
         words: "step -f P S D",
-        policy: b"Policy: /bin/a, Emulation: native
-native-getpid: permit
-native-exit: permit
-",
-        script: b"process p traced \"/bin/a\" 0 0 \"/\"
-thread a in p
-call getpid
-call exit 0
-end
-",
+        policy: POLICY,
+        script: SCRIPT,
         schedule: REST,
         status: Status::Missing(Which::Schedule),
         written: b"",
     },
     Case {
         words: "step",
-        policy: b"Policy: /bin/a, Emulation: native
-native-getpid: permit
-native-exit: permit
-",
-        script: b"process p traced \"/bin/a\" 0 0 \"/\"
-thread a in p
-call getpid
-call exit 0
-end
-",
+        policy: POLICY,
+        script: SCRIPT,
         schedule: REST,
         status: Status::Usage,
         written: b"",
     },
     Case {
         words: "",
-        policy: b"Policy: /bin/a, Emulation: native
-native-getpid: permit
-native-exit: permit
-",
-        script: b"process p traced \"/bin/a\" 0 0 \"/\"
-thread a in p
-call getpid
-call exit 0
-end
-",
+        policy: POLICY,
+        script: SCRIPT,
         schedule: REST,
         status: Status::Usage,
         written: b"",
     },
     Case {
         words: "--help",
-        policy: b"Policy: /bin/a, Emulation: native
-native-getpid: permit
-native-exit: permit
-",
-        script: b"process p traced \"/bin/a\" 0 0 \"/\"
-thread a in p
-call getpid
-call exit 0
-end
-",
+        policy: POLICY,
+        script: SCRIPT,
         schedule: REST,
         status: Status::Usage,
         written: b"",
     },
     Case {
         words: "step -A S C",
-        policy: b"Policy: /bin/a, Emulation: native
-native-getpid: permit
-native-exit: permit
-",
-        script: b"process p traced \"/bin/a\" 0 0 \"/\"
-thread a in p
-call getpid
-call exit 0
-end
-",
+        policy: POLICY,
+        script: SCRIPT,
         schedule: REST,
         status: Status::Usage,
         written: b"",
     },
     Case {
         words: "step -t S C",
-        policy: b"Policy: /bin/a, Emulation: native
-native-getpid: permit
-native-exit: permit
-",
-        script: b"process p traced \"/bin/a\" 0 0 \"/\"
-thread a in p
-call getpid
-call exit 0
-end
-",
+        policy: POLICY,
+        script: SCRIPT,
         schedule: REST,
         status: Status::Usage,
         written: b"",
     },
     Case {
         words: "step --print policy -f P S C",
-        policy: b"Policy: /bin/a, Emulation: native
-native-getpid: permit
-native-exit: permit
-",
-        script: b"process p traced \"/bin/a\" 0 0 \"/\"
-thread a in p
-call getpid
-call exit 0
-end
-",
+        policy: POLICY,
+        script: SCRIPT,
         schedule: REST,
         status: Status::Usage,
         written: b"",
     },
     Case {
         words: "step -w 9 -f P S C",
-        policy: b"Policy: /bin/a, Emulation: native
-native-getpid: permit
-native-exit: permit
-",
-        script: b"process p traced \"/bin/a\" 0 0 \"/\"
-thread a in p
-call getpid
-call exit 0
-end
-",
+        policy: POLICY,
+        script: SCRIPT,
         schedule: REST,
         status: Status::Usage,
         written: b"",
     },
     Case {
         words: "check",
-        policy: b"Policy: /bin/a, Emulation: native
-native-getpid: permit
-native-exit: permit
-",
-        script: b"process p traced \"/bin/a\" 0 0 \"/\"
-thread a in p
-call getpid
-call exit 0
-end
-",
+        policy: POLICY,
+        script: SCRIPT,
         schedule: REST,
         status: Status::Usage,
         written: b"",
     },
     Case {
         words: "check -c 01:1 P",
-        policy: b"Policy: /bin/a, Emulation: native
-native-getpid: permit
-native-exit: permit
-",
-        script: b"process p traced \"/bin/a\" 0 0 \"/\"
-thread a in p
-call getpid
-call exit 0
-end
-",
+        policy: POLICY,
+        script: SCRIPT,
         schedule: REST,
         status: Status::Usage,
         written: b"",

@@ -1,25 +1,17 @@
 use crate::Status;
-use crate::tests::{CAT_POLICY, Case, REST, STEP, run_all};
+use crate::tests::{
+    CAT_POLICY, CAT_SCRIPT, CAT_WRITTEN, Case, POLICY, REST, SCRIPT, STEP, WRITTEN, run_all,
+};
 use std::test::Fail;
 
 const RUNS_TO_THEIR_END: [Case; 22] = [
     Case {
         words: STEP,
-        policy: b"Policy: /bin/a, Emulation: native
-native-getpid: permit
-native-exit: permit
-",
-        script: b"process p traced \"/bin/a\" 0 0 \"/\"
-thread a in p
-call getpid
-call exit 0
-end
-",
+        policy: POLICY,
+        script: SCRIPT,
         schedule: REST,
         status: Status::Done,
-        written: b"1.1 \"/bin/a\" native-getpid fast = 1
-1.1 \"/bin/a\" native-exit fast = 0
-",
+        written: WRITTEN,
     },
     Case {
         words: STEP,
@@ -32,19 +24,10 @@ end
     Case {
         words: STEP,
         policy: CAT_POLICY,
-        script: b"dir \"/etc\" 0 0 755
-file \"/etc/passwd\" 0 0 644 \"root\"
-file \"/etc/spwd\" 0 0 600 \"s\"
-process p traced \"/bin/cat\" 1000 1000 \"/\"
-thread a in p
-put 0 \"/etc/passwd\"
-call open 0 0
-end
-",
+        script: CAT_SCRIPT,
         schedule: REST,
         status: Status::Done,
-        written: b"1.1 \"/bin/cat\" native-fsread filename=\"/etc/passwd\" permit#1 = 3
-",
+        written: CAT_WRITTEN,
     },
     Case {
         words: STEP,
@@ -73,15 +56,7 @@ end
 native-fsread: filename match \"/etc/*\" then deny
 native-fsread: filename eq \"/etc/passwd\" then permit
 ",
-        script: b"dir \"/etc\" 0 0 755
-file \"/etc/passwd\" 0 0 644 \"root\"
-file \"/etc/spwd\" 0 0 600 \"s\"
-process p traced \"/bin/cat\" 1000 1000 \"/\"
-thread a in p
-put 0 \"/etc/passwd\"
-call open 0 0
-end
-",
+        script: CAT_SCRIPT,
         schedule: REST,
         status: Status::Done,
         written: b"1.1 \"/bin/cat\" native-fsread filename=\"/etc/passwd\" deny#1 = EPERM
@@ -93,19 +68,10 @@ end
 native-fsread: filename eq \"/etc/passwd\" then permit
 native-fsread: filename match \"/etc/*\" then deny
 ",
-        script: b"dir \"/etc\" 0 0 755
-file \"/etc/passwd\" 0 0 644 \"root\"
-file \"/etc/spwd\" 0 0 600 \"s\"
-process p traced \"/bin/cat\" 1000 1000 \"/\"
-thread a in p
-put 0 \"/etc/passwd\"
-call open 0 0
-end
-",
+        script: CAT_SCRIPT,
         schedule: REST,
         status: Status::Done,
-        written: b"1.1 \"/bin/cat\" native-fsread filename=\"/etc/passwd\" permit#1 = 3
-",
+        written: CAT_WRITTEN,
     },
     Case {
         words: "step -c 30:30 -f P S C",
@@ -207,8 +173,7 @@ end
 ",
         schedule: REST,
         status: Status::Done,
-        written: b"1.1 \"/bin/cat\" native-fsread filename=\"/etc/passwd\" permit#1 = 3
-",
+        written: CAT_WRITTEN,
     },
     Case {
         words: STEP,
@@ -307,8 +272,7 @@ end
 ",
         schedule: REST,
         status: Status::Done,
-        written: b"1.1 \"/bin/cat\" native-fsread filename=\"/etc/passwd\" permit#1 = 3
-",
+        written: CAT_WRITTEN,
     },
     Case {
         words: STEP,
@@ -471,16 +435,8 @@ end
     },
     Case {
         words: "step --print trace -f P S C",
-        policy: b"Policy: /bin/a, Emulation: native
-native-getpid: permit
-native-exit: permit
-",
-        script: b"process p traced \"/bin/a\" 0 0 \"/\"
-thread a in p
-call getpid
-call exit 0
-end
-",
+        policy: POLICY,
+        script: SCRIPT,
         schedule: REST,
         status: Status::Done,
         written: b"entered 1 getpid 0 0 0 0 0 0 fast
@@ -492,16 +448,8 @@ ended 1
     },
     Case {
         words: "step --print schedule -f P S C",
-        policy: b"Policy: /bin/a, Emulation: native
-native-getpid: permit
-native-exit: permit
-",
-        script: b"process p traced \"/bin/a\" 0 0 \"/\"
-thread a in p
-call getpid
-call exit 0
-end
-",
+        policy: POLICY,
+        script: SCRIPT,
         schedule: REST,
         status: Status::Done,
         written: b"thread 1 5
