@@ -7,6 +7,8 @@ use st_top::{Status, Which, systrace_plain};
 use std::alloc::Global;
 use std::test::Fail;
 
+mod transcripts;
+
 fn words_of(alloc: Global, line: &str) -> Result<Vec<Text>, Fail> {
     let mut words = Vec::new(alloc);
     for word in line.split(' ') {
