@@ -1,0 +1,5 @@
+mod Deciding
+mod Filters
+mod Permitting
+mod Printing
+mod Rows

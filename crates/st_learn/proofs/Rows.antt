@@ -1,0 +1,203 @@
+-- The rows of places, as a map keeps them.
+use Rattle.std.proofs.Common.{◌≡◌, ◌≤◌, ◌<◌, ◌+◌, ◌∙◌, ◌++◌, ℕ, suc, Bool, true, false, cond, not, List, [], ◌∷◌, length, Option, Some, None, Vec, Global, refl, ap, sym, subst, option_map, vec_capacity, vec_len, arith}
+use Rattle.std.proofs.lemmas.Bool.Decides.{Decides-ltb}
+use Rattle.std.proofs.lemmas.Cmp.{nat_list_eq_equiv}
+use Rattle.std.proofs.lemmas.Map.Entries.{length-keys_of}
+use Rattle.std.proofs.lemmas.Option.{same_Some}
+use Rattle.std.proofs.lemmas.Slice.Eq.{bytes_eq-Decides}
+use Rattle.std.specs.List.{position, position_or_len}
+use Rattle.std.specs.Map.{keys_of, lookup, values_of}
+use Rattle.std.specs.Option.{option_or}
+use Rattle.std.specs.Prelude.{is_some, nat_lt, slice_get}
+use Rattle.std.specs.Str.{bytes_eq}
+use Rattle.indexmap.specs.IndexMap.{insert_entry, set_value_at}
+use Rattle.st_learn.specs.Places.{GainsPlace, HasRoom, IsRoomLeft, KeepsPlaces, PlacesEntry, PolicyPlaces, Listing, places_in, places_with, listing_in, shown_listing, shown_rows}
+
+abbrev pub is_key : List ℕ → Vec ℕ Global → Bool
+is_key policy key = bytes_eq policy key.items
+
+abbrev pub same_key : Vec ℕ Global → Vec ℕ Global → Bool
+same_key x y = bytes_eq x.items y.items
+
+abbrev pub shown : Option (Vec ℕ Global) → Option Listing
+shown o = option_map shown_listing o
+
+-- ---- look-ups
+
+chosen : (b : Bool) (v : Vec ℕ Global) (o : Option (Vec ℕ Global)) (other : Option Listing) → shown o ≡ other → shown (cond b (Some v) o) ≡ cond b (Some (shown_listing v)) other
+chosen true v o other e = refl
+chosen false v o other e = e
+
+-- what the map has for a policy
+pub listing_kept : (es : List PlacesEntry) (policy : List ℕ) → shown (lookup (is_key policy) es) ≡ listing_in (shown_rows es) policy
+listing_kept [] policy = refl
+listing_kept (e ∷ es) policy =
+    chosen (bytes_eq policy e.0.items) e.1 (lookup (is_key policy) es) (listing_in (shown_rows es) policy) (listing_kept es policy)
+    ∙ ap (λ b. cond b (Some (shown_listing e.1)) (listing_in (shown_rows es) policy)) (nat_list_eq_equiv.symm policy e.0.items)
+
+none_shown : (o : Option (Vec ℕ Global)) → is_some o ≡ false → shown o ≡ None
+none_shown None e = refl
+none_shown (Some v) e = cc
+
+-- ---- a row that is changed
+
+twice : {X : Type 0} (b : Bool) (x y z : X) → cond b x z ≡ cond b x (cond b y z)
+twice true x y z = refl
+twice false x y z = refl
+
+module _ (policy other : List ℕ) (w : Vec ℕ Global) where
+  abbrev Changed : List PlacesEntry → ℕ → Type 0
+  Changed es i = listing_in (shown_rows (set_value_at es i w)) other ≡ cond (bytes_eq policy other) (Some (shown_listing w)) (listing_in (shown_rows es) other)
+
+  own_row : (e : PlacesEntry) (es : List PlacesEntry) → policy ≡ e.0.items → Changed (e ∷ es) 0
+  own_row e es same =
+      twice (bytes_eq e.0.items other) (Some (shown_listing w)) (Some (shown_listing e.1)) (listing_in (shown_rows es) other)
+      ∙ (λ k. cond (bytes_eq (sym same k) other) (Some (shown_listing w)) (listing_in (shown_rows (e ∷ es)) other))
+
+  later_row : (e : PlacesEntry) (es : List PlacesEntry) (i : ℕ) → bytes_eq policy e.0.items ≡ false → (b : Bool) → bytes_eq e.0.items other ≡ b → Changed es i → Changed (e ∷ es) (suc i)
+  later_row e es i differs true same later =
+      let at : e.0.items ≡ other = (bytes_eq-Decides e.0.items other).0 same in
+      let apart : bytes_eq policy other ≡ false = ap (bytes_eq policy) (sym at) ∙ differs in
+      (λ k. cond (same k) (Some (shown_listing e.1)) (listing_in (shown_rows (set_value_at es i w)) other))
+      ∙ (λ k. cond (sym apart k) (Some (shown_listing w)) (cond (sym same k) (Some (shown_listing e.1)) (listing_in (shown_rows es) other)))
+  later_row e es i differs false same later =
+      (λ k. cond (same k) (Some (shown_listing e.1)) (listing_in (shown_rows (set_value_at es i w)) other))
+      ∙ later
+      ∙ (λ k. cond (bytes_eq policy other) (Some (shown_listing w)) (cond (sym same k) (Some (shown_listing e.1)) (listing_in (shown_rows es) other)))
+
+  changed_by : (b : Bool) (e : PlacesEntry) (es : List PlacesEntry) → bytes_eq policy e.0.items ≡ b → (i : ℕ) → cond (not b) (1 + position_or_len (is_key policy) (keys_of es)) 0 ≡ i
+      → (cond (not b) (1 + position_or_len (is_key policy) (keys_of es)) 0 < suc (length es)) → (position_or_len (is_key policy) (keys_of es) < length es → Changed es (position_or_len (is_key policy) (keys_of es))) → Changed (e ∷ es) i
+  changed_by true e es is i at inside later = subst (Changed (e ∷ es)) at (own_row e es ((bytes_eq-Decides policy e.0.items).0 is))
+  changed_by false e es is i at inside later =
+      let next : suc (position_or_len (is_key policy) (keys_of es)) ≡ 1 + position_or_len (is_key policy) (keys_of es) = omega arith in
+      subst (Changed (e ∷ es)) (next ∙ at) (later_row e es (position_or_len (is_key policy) (keys_of es)) is (bytes_eq e.0.items other) refl (later (omega arith)))
+
+  changed : (es : List PlacesEntry) → position_or_len (is_key policy) (keys_of es) < length es → Changed es (position_or_len (is_key policy) (keys_of es))
+  changed [] inside = absurd (omega arith)
+  changed (e ∷ es) inside = changed_by (bytes_eq policy e.0.items) e es refl _ refl inside (changed es)
+
+found_by : (b : Bool) (a i n : ℕ) → nat_lt a n ≡ b → Some i ≡ cond b (Some a) None → (a ≡ i) × (a < n)
+found_by true a i n is e = (same_Some a i (sym e), (Decides-ltb a n).0 is)
+found_by false a i n is e = absurd (clash e) where
+  clash : Some i ≡ None → ⊥
+  clash f = cc
+
+-- the row at the first place of a policy is changed, and no other
+pub row_changed : (es : List PlacesEntry) (policy : List ℕ) (i : ℕ) (w : Vec ℕ Global) → Some i ≡ position (is_key policy) (keys_of es) → (other : List ℕ)
+    → listing_in (shown_rows (set_value_at es i w)) other ≡ cond (bytes_eq policy other) (Some (shown_listing w)) (listing_in (shown_rows es) other)
+row_changed es policy i w at other =
+    let found : (position_or_len (is_key policy) (keys_of es) ≡ i) × (position_or_len (is_key policy) (keys_of es) < length (keys_of es)) =
+    found_by (nat_lt (position_or_len (is_key policy) (keys_of es)) (length (keys_of es))) (position_or_len (is_key policy) (keys_of es)) i (length (keys_of es)) refl at in
+    let inside : position_or_len (is_key policy) (keys_of es) < length es = subst (λ n. position_or_len (is_key policy) (keys_of es) < n) (length-keys_of es) found.1 in
+    subst (Changed policy other w es) found.0 (changed policy other w es inside)
+
+-- what was there for the policy of that row
+pub row_there : (es : List PlacesEntry) (policy : List ℕ) (i : ℕ) (v : Vec ℕ Global) → slice_get (values_of es) i ≡ lookup (is_key policy) es → slice_get (values_of es) i ≡ Some v → listing_in (shown_rows es) policy ≡ Some (shown_listing v)
+row_there es policy i v at is = sym (listing_kept es policy) ∙ ap shown (sym at ∙ is)
+
+some_shown : (o : Option (Vec ℕ Global)) → is_some o ≡ false → IsRoomLeft (shown o) → ⊥
+some_shown None e left = left
+some_shown (Some v) e left = cc
+
+-- there is no room where there is no row
+pub no_room : (es : List PlacesEntry) (policy : List ℕ) → is_some (lookup (is_key policy) es) ≡ false → HasRoom (shown_rows es) policy → ⊥
+no_room es policy none left = some_shown (lookup (is_key policy) es) none (subst IsRoomLeft (sym (listing_kept es policy)) left)
+
+-- the room of a policy is that of its row
+pub room_there : (rows : List PolicyPlaces) (policy : List ℕ) (v : Vec ℕ Global) → listing_in rows policy ≡ Some (shown_listing v) → HasRoom rows policy → vec_len v < vec_capacity v
+room_there rows policy v is left = let had : length v.items < vec_capacity v = subst IsRoomLeft is left in let same : vec_len v ≡ length v.items = v.ok.0 in omega (arith, had, same)
+
+-- ---- room is made in a row
+
+changed_places : (b : Bool) (policy other : List ℕ) (rows : List PolicyPlaces) (v w : Vec ℕ Global) → bytes_eq policy other ≡ b → listing_in rows policy ≡ Some (shown_listing v) → w.items ≡ v.items
+    → places_with (cond b (Some (shown_listing w)) (listing_in rows other)) ≡ places_in rows other
+changed_places true policy other rows v w is was same =
+    same ∙ ap places_with (sym was) ∙ ap (places_in rows) ((bytes_eq-Decides policy other).0 is)
+changed_places false policy other rows v w is was same = refl
+
+changed_room : (b : Bool) (policy other : List ℕ) (rows : List PolicyPlaces) (v w : Vec ℕ Global) → bytes_eq policy other ≡ b → listing_in rows policy ≡ Some (shown_listing v) → w.items ≡ v.items → vec_capacity v ≤ vec_capacity w
+    → IsRoomLeft (listing_in rows other) → IsRoomLeft (cond b (Some (shown_listing w)) (listing_in rows other))
+changed_room true policy other rows v w is was same more left =
+    let had : length v.items < vec_capacity v = subst IsRoomLeft (ap (listing_in rows) (sym ((bytes_eq-Decides policy other).0 is)) ∙ was) left in
+    let long : length w.items ≡ length v.items = ap length same in
+    omega (arith, had, long, more)
+changed_room false policy other rows v w is was same more left = left
+
+module _ (es : List PlacesEntry) (policy : List ℕ) (i : ℕ) (v w : Vec ℕ Global) (at : Some i ≡ position (is_key policy) (keys_of es)) (was : listing_in (shown_rows es) policy ≡ Some (shown_listing v)) where
+  -- other room for the same places
+  pub row_keeps : w.items ≡ v.items → vec_capacity v ≤ vec_capacity w → KeepsPlaces (shown_rows es) (shown_rows (set_value_at es i w))
+  row_keeps same more = record {
+    places = λ other. ap places_with (row_changed es policy i w at other) ∙ changed_places (bytes_eq policy other) policy other (shown_rows es) v w refl was same;
+    room = λ other left. subst IsRoomLeft (sym (row_changed es policy i w at other)) (changed_room (bytes_eq policy other) policy other (shown_rows es) v w refl was same more left);
+  }
+
+  pub row_has_room : length w.items < vec_capacity w → HasRoom (shown_rows (set_value_at es i w)) policy
+  row_has_room left =
+      subst IsRoomLeft (sym (row_changed es policy i w at policy ∙ ap (λ b. cond b (Some (shown_listing w)) (listing_in (shown_rows es) policy)) ((bytes_eq-Decides policy policy).1 refl))) left
+
+  gained_by : (b : Bool) (other : List ℕ) (place : ℕ) → bytes_eq policy other ≡ b → w.items ≡ v.items ++ place ∷ []
+      → places_with (cond b (Some (shown_listing w)) (listing_in (shown_rows es) other)) ≡ cond b (places_in (shown_rows es) other ++ place ∷ []) (places_in (shown_rows es) other)
+  gained_by true other place is more =
+      more ∙ ap (λ ps. ps ++ place ∷ []) (ap places_with (sym was) ∙ ap (places_in (shown_rows es)) ((bytes_eq-Decides policy other).0 is))
+  gained_by false other place is more = refl
+
+  pub row_gains : (place : ℕ) → w.items ≡ v.items ++ place ∷ [] → GainsPlace (shown_rows es) policy place (shown_rows (set_value_at es i w))
+  row_gains place more other = ap places_with (row_changed es policy i w at other) ∙ gained_by (bytes_eq policy other) other place refl more
+
+-- ---- a row is begun
+
+-- what is behind the first row comes behind it
+behind : (b : Bool) (listing : Listing) (rest more : Option Listing) → cond b (Some listing) (option_or rest more) ≡ option_or (cond b (Some listing) rest) more
+behind true listing rest more = refl
+behind false listing rest more = refl
+
+module _ (key v : Vec ℕ Global) (other : List ℕ) where
+  abbrev begun : Option Listing
+  begun = cond (bytes_eq key.items other) (Some (shown_listing v)) None
+
+  abbrev Begun : List PlacesEntry → List PlacesEntry → Type 0
+  Begun es new = listing_in (shown_rows new) other ≡ option_or (listing_in (shown_rows es) other) begun
+
+  begun_by : (b : Bool) (e : PlacesEntry) (es : List PlacesEntry) → b ≡ bytes_eq e.0.items key.items → listing_in (shown_rows (e ∷ es)) key.items ≡ None → (listing_in (shown_rows es) key.items ≡ None → Begun es (insert_entry same_key es key v))
+      → Begun (e ∷ es) (cond b ((e.0, v) ∷ es) (e ∷ insert_entry same_key es key v))
+  begun_by true e es is none later = absurd (clash ((λ k. cond (is k) (Some (shown_listing e.1)) (listing_in (shown_rows es) key.items)) ∙ none)) where
+    clash : Some (shown_listing e.1) ≡ None → ⊥
+    clash f = cc
+  begun_by false e es is none later =
+      ap (λ o. cond (bytes_eq e.0.items other) (Some (shown_listing e.1)) o) (later ((λ k. cond (is k) (Some (shown_listing e.1)) (listing_in (shown_rows es) key.items)) ∙ none))
+      ∙ behind (bytes_eq e.0.items other) (shown_listing e.1) (listing_in (shown_rows es) other) begun
+
+  row_begun : (es : List PlacesEntry) → listing_in (shown_rows es) key.items ≡ None → Begun es (insert_entry same_key es key v)
+  row_begun [] none = refl
+  row_begun (e ∷ es) none = begun_by (bytes_eq key.items e.0.items) e es (nat_list_eq_equiv.symm key.items e.0.items) none (row_begun es)
+
+no_places : (o : Option Listing) (b : Bool) (v : Vec ℕ Global) → v.items ≡ [] → places_with (option_or o (cond b (Some (shown_listing v)) None)) ≡ places_with o
+no_places (Some listing) b v empty = refl
+no_places None true v empty = empty
+no_places None false v empty = refl
+
+still_room : (o more : Option Listing) → IsRoomLeft o → IsRoomLeft (option_or o more)
+still_room (Some listing) more left = left
+still_room None more left = absurd left
+
+module _ (es : List PlacesEntry) (key v : Vec ℕ Global) (policy : List ℕ) (none : is_some (lookup (is_key policy) es) ≡ false) (key_is : key.items ≡ policy) where
+  absent : listing_in (shown_rows es) policy ≡ None
+  absent = sym (listing_kept es policy) ∙ none_shown (lookup (is_key policy) es) none
+
+  behind_all : (other : List ℕ) → listing_in (shown_rows (insert_entry same_key es key v)) other ≡ option_or (listing_in (shown_rows es) other) (cond (bytes_eq key.items other) (Some (shown_listing v)) None)
+  behind_all other = row_begun key v other es (ap (listing_in (shown_rows es)) key_is ∙ absent)
+
+  -- a row without places
+  pub new_keeps : v.items ≡ [] → KeepsPlaces (shown_rows es) (shown_rows (insert_entry same_key es key v))
+  new_keeps empty = record {
+    places = λ other. ap places_with (behind_all other) ∙ no_places (listing_in (shown_rows es) other) (bytes_eq key.items other) v empty;
+    room = λ other left. subst IsRoomLeft (sym (behind_all other)) (still_room (listing_in (shown_rows es) other) (cond (bytes_eq key.items other) (Some (shown_listing v)) None) left);
+  }
+
+  pub new_has_room : length v.items < vec_capacity v → HasRoom (shown_rows (insert_entry same_key es key v)) policy
+  new_has_room left =
+      subst IsRoomLeft (sym (behind_all policy ∙ (λ k. option_or (absent k) (cond (bytes_eq (key_is k) policy) (Some (shown_listing v)) None)) ∙ ap (λ b. option_or None (cond b (Some (shown_listing v)) None)) ((bytes_eq-Decides policy policy).1 refl))) left
+
+-- nothing was changed
+pub keeps : (rows : List PolicyPlaces) → KeepsPlaces rows rows
+keeps rows = record { places = λ policy. refl; room = λ policy left. left }

@@ -1,0 +1,12 @@
+use Rattle.std.proofs.Common.{◌≡◌, drop}
+use Rattle.st_law.specs.Sessions.{session_filters}
+use Rattle.st_learn.specs.Sessions.{places_of}
+use Rattle.st_learn.proofs.Filters.{filters_at, is_of_rule}
+use Rattle.st_learn.proofs.session.Session.first_answer.Given as goal
+
+-- all are among those that are left
+abbrev pub invariant-loop-place : goal.invariant-loop-place
+invariant-loop-place l = record {
+  items : l.place-items ≡ places_of l.self.filters l.policy;
+  left : filters_at l.self.filters (is_of_rule l.rule) (drop l.place-index l.place-items) ≡ session_filters l.self.filters l.policy l.rule;
+}

@@ -1,0 +1,4 @@
+pub mod Learnt
+pub mod Permitted
+pub mod Places
+pub mod Sessions

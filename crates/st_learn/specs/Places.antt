@@ -1,0 +1,65 @@
+-- The places of each policy's filters in a session.
+use Rattle.std.specs.Prelude.{◌≡◌, ◌<◌, ℕ, List, [], ◌∷◌, ◌++◌, map, length, if◌then◌else◌, Option, Some, None, Vec, vec_capacity}
+use Rattle.std.specs.Str.{bytes_eq}
+use Rattle.std.specs.declared.alloc.Global.{Global}
+
+-- places of filters, with how many there is room for
+pub record Listing : Type 0 where
+  pub places : List ℕ
+  pub capacity : ℕ
+
+-- the places of the filters of one policy
+pub record PolicyPlaces : Type 0 where
+  pub binary : List ℕ
+  pub listing : Listing
+
+-- the first row of a policy
+abbrev pub listing_in : List PolicyPlaces → List ℕ → Option Listing
+listing_in [] policy = None
+listing_in (row ∷ rows) policy = if bytes_eq row.binary policy then Some row.listing else listing_in rows policy
+
+-- the places that a row has, none where there is no row
+abbrev pub places_with : Option Listing → List ℕ
+places_with None = []
+places_with (Some listing) = listing.places
+
+-- the places of the filters of a policy
+abbrev pub places_in : List PolicyPlaces → List ℕ → List ℕ
+places_in rows policy = places_with (listing_in rows policy)
+
+-- there is room for one more
+abbrev pub IsRoomLeft : Option Listing → Type 0
+IsRoomLeft None = ⊥
+IsRoomLeft (Some listing) = length listing.places < listing.capacity
+
+-- there is room for one more place of a policy
+abbrev pub HasRoom : List PolicyPlaces → List ℕ → Type 0
+HasRoom rows policy = IsRoomLeft (listing_in rows policy)
+
+-- each policy has the places that it had, and room where there was some
+pub record KeepsPlaces (old new : List PolicyPlaces) : Type 0 where
+  pub places : (policy : List ℕ) → places_in new policy ≡ places_in old policy
+  pub room : (policy : List ℕ) → HasRoom old policy → HasRoom new policy
+
+-- a policy has one more place, and each other has those that it had
+abbrev pub GainsPlace : List PolicyPlaces → List ℕ → ℕ → List PolicyPlaces → Type 0
+GainsPlace old policy place new =
+    (other : List ℕ) → places_in new other ≡ (if bytes_eq policy other then places_in old other ++ place ∷ [] else places_in old other)
+
+-- ---- as they are kept
+
+-- what the map has for one policy: its places
+abbrev pub PlacesEntry : Type 0
+PlacesEntry = Vec ℕ Global × Vec ℕ Global
+
+-- the places that a vector stands for
+abbrev pub shown_listing : Vec ℕ Global → Listing
+shown_listing v = record { places = v.items; capacity = vec_capacity v }
+
+-- the row that a binary and its places in the map stand for
+abbrev pub shown_row : PlacesEntry → PolicyPlaces
+shown_row e = record { binary = e.0.items; listing = shown_listing e.1 }
+
+-- the rows that the map stands for, in its order
+abbrev pub shown_rows : List PlacesEntry → List PolicyPlaces
+shown_rows entries = map shown_row entries

@@ -1,0 +1,60 @@
+ghost use Rattle.std.specs.Prelude.{◌≡◌};
+
+use st_base::Text;
+use st_calls::Rule;
+use st_filter::Filter;
+use std::marker::Model;
+
+/// A filter of a session, with the policy and the rule that it is for.
+#[derive(Debug, Drop)]
+pub struct Kept {
+    policy: Text,
+    rule: Rule,
+    filter: Filter,
+}
+
+impl Model for Kept {
+    ghost use Rattle.std.specs.Coded.{codes};
+    ghost use Rattle.st_filter.specs.FormulaCode.{formula_code};
+    ghost use Rattle.st_law.specs.Sessions.{SessionFilter};
+
+    ghost Value = { SessionFilter };
+
+    ghost coded = { Prim.hlevel (codes, formula_code) };
+
+    ghost view = { λ k. record { policy = k.policy; rule = k.rule; filter = k.filter } };
+}
+
+impl Kept {
+    /// A filter for this policy and rule.
+    pub fn new(policy: Text, rule: Rule, filter: Filter) -> Self
+        ensures { result ≡ record { policy = policy; rule = rule; filter = filter } }
+    {
+        Kept {
+            policy,
+            rule,
+            filter,
+        }
+    }
+
+    /// The binary of its policy.
+    pub fn policy(&self) -> &[u8]
+        ensures { result.now ≡ self.now.policy }
+    {
+        self.policy.bytes()
+    }
+
+    /// Its rule.
+    pub fn rule(&self) -> Rule
+        ensures { result ≡ self.now.rule }
+    {
+        self.rule
+    }
+
+    /// The filter.
+    pub fn filter(&self) -> &Filter
+        ensures { result.now ≡ self.now.filter }
+    {
+        &self.filter
+    }
+}
