@@ -1,13 +1,13 @@
 -- The kernel's own answer, by the first filter.
 use Rattle.std.proofs.Common.{◌≡◌, List, [], ◌∷◌, ◌++◌, refl}
-use Rattle.std.specs.Prelude.{option_map, unwrap_or, slice_get}
+use Rattle.std.specs.Prelude.{unwrap_or}
 use Rattle.std.specs.Option.{option_or}
 use Rattle.st_calls.specs.declared.rule.FastAnswer.TheVariants.{Ask}
-use Rattle.st_filter.specs.Fast.{fast, fast_answer}
+use Rattle.st_filter.specs.Fast.{fast, first_answer}
 use Rattle.st_filter.specs.Formula.{FilterValue}
 
 -- the answer of two lists of filters is that of the first of either, and none of them asks
-pub fast_of_both : (fs gs : List FilterValue) → unwrap_or (option_or (option_map fast_answer (slice_get fs 0)) (option_map fast_answer (slice_get gs 0))) Ask ≡ fast (fs ++ gs)
+pub fast_of_both : (fs gs : List FilterValue) → unwrap_or (option_or (first_answer fs) (first_answer gs)) Ask ≡ fast (fs ++ gs)
 fast_of_both [] [] = refl
 fast_of_both [] (g ∷ gs) = refl
 fast_of_both (f ∷ fs) gs = refl

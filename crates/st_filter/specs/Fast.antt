@@ -1,4 +1,4 @@
-use Rattle.std.specs.Prelude.{Bool, false, Option, None, List, [], ◌∷◌}
+use Rattle.std.specs.Prelude.{Bool, false, Option, None, option_map, List, [], ◌∷◌, slice_get}
 use Rattle.st_calls.specs.declared.rule.FastAnswer.{FastAnswer}
 use Rattle.st_calls.specs.declared.rule.FastAnswer.TheVariants as answer
 use Rattle.st_filter.specs.declared.filter.Action.{Action}
@@ -16,6 +16,10 @@ answer_by formula action grant log predicate = answer.Ask
 -- what the kernel answers by itself under a first filter
 abbrev pub fast_answer : FilterValue → FastAnswer
 fast_answer f = answer_by f.formula f.action f.grant f.log f.predicate
+
+-- the answer by the first of these filters of one rule, none where there is none
+abbrev pub first_answer : List FilterValue → Option FastAnswer
+first_answer fs = option_map fast_answer (slice_get fs 0)
 
 -- what the kernel answers by itself under these filters of one rule
 abbrev pub fast : List FilterValue → FastAnswer

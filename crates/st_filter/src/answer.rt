@@ -1,12 +1,13 @@
-ghost use Rattle.std.specs.Prelude.{◌≡◌, ◌++◌, option_map, slice_get};
-ghost use Rattle.st_filter.specs.Fast.{fast, fast_answer};
+ghost use Rattle.std.specs.Prelude.{◌≡◌};
+ghost use Rattle.st_filter.specs.Fast.{fast_answer, first_answer};
 ghost use Rattle.st_filter.specs.Policies.{filters_of};
 
 use crate::filter::{Action, Expr, Filter, Policy};
 use st_calls::{FastAnswer, Rule};
 
-// What the kernel answers by itself where this filter is the first of its rule.
-fn fast_answer(filter: &Filter) -> FastAnswer
+/// What the kernel answers by itself where this filter is the first of its rule, as in systrace(4): what it says, where it is a plain permit
+/// without `as`, `log` and `if`, or a plain denial without `log` and `if`; else it asks.
+pub fn fast_answer(filter: &Filter) -> FastAnswer
     ensures { result ≡ fast_answer filter.now }
 {
     if filter.log() || filter.predicate().is_some() {
@@ -22,9 +23,9 @@ fn fast_answer(filter: &Filter) -> FastAnswer
     }
 }
 
-// The answer by the first filter of a rule, none where no filter is for it.
-fn first_answer(policy: &Policy, rule: Rule) -> Option<FastAnswer>
-    ensures { result ≡ option_map fast_answer (slice_get (filters_of rule policy.now) 0) }
+/// What the kernel answers by itself for a rule under these filters, by the first that is for it; none where there is none.
+pub fn first_answer(policy: &Policy, rule: Rule) -> Option<FastAnswer>
+    ensures { result ≡ first_answer (filters_of rule policy.now) }
 {
     for filter in policy.as_slice() {
         if filter.is_for(rule) {
@@ -32,16 +33,4 @@ fn first_answer(policy: &Policy, rule: Rule) -> Option<FastAnswer>
         }
     }
     None
-}
-
-/// What the kernel answers by itself for a rule under the filters that were read for a binary and, behind them, those of the session,
-/// as in systrace(4): what the first filter of that rule says, where that is a plain permit without `as`, `log` and `if`, or a plain
-/// denial without `log` and `if`; else it asks.
-#[tactic(auto, using(crate::proofs::FirstAnswers::fast_of_both))]
-pub fn fast(policy: &Policy, session: &Policy, rule: Rule) -> FastAnswer
-    ensures { result ≡ fast (filters_of rule policy.now ++ filters_of rule session.now) }
-{
-    first_answer(policy, rule)
-        .or(first_answer(session, rule))
-        .unwrap_or(FastAnswer::Ask)
 }

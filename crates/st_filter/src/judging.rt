@@ -86,8 +86,8 @@ fn granted(grant: Option<Grant>, ids: Ids) -> Ids
     }
 }
 
-// What the filter of this number says; one that asks decides nothing.
-fn verdict_of(filter: &Filter, number: u32, ids: Ids) -> Verdict
+/// What the filter of this number says of a call with these ids, where it holds; one that asks decides nothing.
+pub fn verdict_of(filter: &Filter, number: u32, ids: Ids) -> Verdict
     ensures { result ≡ verdict_by number filter.now.grant ids filter.now.action }
 {
     match filter.action() {

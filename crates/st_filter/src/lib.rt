@@ -8,10 +8,7 @@ pub mod filter;
 mod judging;
 pub mod set;
 
-pub use answer::fast;
+pub use answer::{fast_answer, first_answer};
 pub use filter::{Action, Cmp, Expr, Filter, FilterName, Grant, Op, Policy, Predicate, Who};
-pub use judging::{decide, holds};
+pub use judging::{decide, holds, verdict_of};
 pub use set::{BinaryPolicy, MOST_FILTERS, PolicySet, Reply};
-
-#[cfg(test)]
-mod tests;
