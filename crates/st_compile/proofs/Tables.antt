@@ -12,22 +12,21 @@ use Rattle.indexmap.specs.IndexMap.{insert_entry}
 use Rattle.st_calls.specs.Call.{every_rule, index_of_rule}
 use Rattle.st_calls.specs.declared.call.SysCall.TheVariants.{Open}
 use Rattle.st_calls.specs.declared.rule.FastAnswer.{FastAnswer}
-use Rattle.st_calls.specs.declared.rule.FastAnswer.TheVariants as answer
 use Rattle.st_calls.specs.declared.rule.Rule.{Rule}
 use Rattle.st_calls.specs.declared.rule.Rule.TheVariants.{Call, FsRead, FsWrite}
-use Rattle.st_filter.specs.Fast.{fast}
+use Rattle.st_filter.specs.Fast.{first_answer}
 use Rattle.st_filter.specs.Formula.{FilterValue}
 use Rattle.st_filter.specs.Policies.{filters_of, policy_of, read_filters}
 use Rattle.st_filter.specs.declared.set.BinaryPolicy.{BinaryPolicy}
 use Rattle.st_filter.proofs.Entries.{is_key, same_key}
-use Rattle.st_compile.specs.Table.{AnswersEntry, AreTables, BinaryAnswers, Gains, IsTableOf, answers_in, answers_of, fast_answers, shown_entry, shown_table}
+use Rattle.st_compile.specs.Table.{AnswersEntry, AreTables, BinaryAnswers, Gains, IsTableOf, answers_in, answers_of, first_answers, shown_entry, shown_table}
 
 -- ---- look-ups
 
-abbrev pub items_of : Option (Vec FastAnswer Global) → Option (List FastAnswer)
-items_of o = option_map (λ (v : Vec FastAnswer Global). v.items) o
+abbrev pub items_of : Option (Vec (Option FastAnswer) Global) → Option (List (Option FastAnswer))
+items_of o = option_map (λ (v : Vec (Option FastAnswer) Global). v.items) o
 
-chosen : (b : Bool) (v : Vec FastAnswer Global) (o : Option (Vec FastAnswer Global)) (other : Option (List FastAnswer)) → items_of o ≡ other → items_of (cond b (Some v) o) ≡ cond b (Some v.items) other
+chosen : (b : Bool) (v : Vec (Option FastAnswer) Global) (o : Option (Vec (Option FastAnswer) Global)) (other : Option (List (Option FastAnswer))) → items_of o ≡ other → items_of (cond b (Some v) o) ≡ cond b (Some v.items) other
 chosen true v o other e = refl
 chosen false v o other e = e
 
@@ -38,20 +37,20 @@ answers_kept (e ∷ es) binary =
     chosen (bytes_eq binary e.0.items) e.1 (lookup (is_key binary) es) (answers_in (shown_table es) binary) (answers_kept es binary)
     ∙ ap (λ b. cond b (Some e.1.items) (answers_in (shown_table es) binary)) (nat_list_eq_equiv.symm binary e.0.items)
 
-none_kept : (o : Option (Vec FastAnswer Global)) → is_some o ≡ false → items_of o ≡ None
+none_kept : (o : Option (Vec (Option FastAnswer) Global)) → is_some o ≡ false → items_of o ≡ None
 none_kept None e = refl
 none_kept (Some v) e = cc
 
-some_kept : (o : Option (Vec FastAnswer Global)) → is_some o ≡ true → (answers : List FastAnswer) × (items_of o ≡ Some answers)
+some_kept : (o : Option (Vec (Option FastAnswer) Global)) → is_some o ≡ true → (answers : List (Option FastAnswer)) × (items_of o ≡ Some answers)
 some_kept None e = cc
 some_kept (Some v) e = (v.items, refl)
 
-found_length : (b : Bool) (e v : Vec FastAnswer Global) (o : Option (Vec FastAnswer Global)) → length e.items ≡ length every_rule → (o ≡ Some v → length v.items ≡ length every_rule) → cond b (Some e) o ≡ Some v → length v.items ≡ length every_rule
-found_length true e v o whole later is = ap (λ (w : Vec FastAnswer Global). length w.items) (same_Some v e (sym is)) ∙ whole
+found_length : (b : Bool) (e v : Vec (Option FastAnswer) Global) (o : Option (Vec (Option FastAnswer) Global)) → length e.items ≡ length every_rule → (o ≡ Some v → length v.items ≡ length every_rule) → cond b (Some e) o ≡ Some v → length v.items ≡ length every_rule
+found_length true e v o whole later is = ap (λ (w : Vec (Option FastAnswer) Global). length w.items) (same_Some v e (sym is)) ∙ whole
 found_length false e v o whole later is = later is
 
 -- what is found has an answer for each rule
-pub lookup_length : (es : List AnswersEntry) (binary : List ℕ) (v : Vec FastAnswer Global) → AreTables (shown_table es) → lookup (is_key binary) es ≡ Some v → length v.items ≡ length every_rule
+pub lookup_length : (es : List AnswersEntry) (binary : List ℕ) (v : Vec (Option FastAnswer) Global) → AreTables (shown_table es) → lookup (is_key binary) es ≡ Some v → length v.items ≡ length every_rule
 lookup_length [] binary v whole is = cc
 lookup_length (e ∷ es) binary v whole is =
     found_length (bytes_eq binary e.0.items) e.1 v (lookup (is_key binary) es) (All-head (λ row. length row.answers ≡ length every_rule) (shown_entry e) (shown_table es) whole)
@@ -60,23 +59,23 @@ lookup_length (e ∷ es) binary v whole is =
 -- ---- the answer for a rule
 
 -- the table has each rule's answer at the rule's place
-fast_answers-at : (filters : List FilterValue) (rule : Rule) (d : FastAnswer) → get_or (fast_answers filters) (index_of_rule rule) d ≡ fast (filters_of rule filters)
-fast_answers-at filters (Call Open) d = refl
-fast_answers-at filters (Call call) d = refl
-fast_answers-at filters FsRead d = refl
-fast_answers-at filters FsWrite d = refl
+first_answers-at : (filters : List FilterValue) (rule : Rule) (d : Option FastAnswer) → get_or (first_answers filters) (index_of_rule rule) d ≡ first_answer (filters_of rule filters)
+first_answers-at filters (Call Open) d = refl
+first_answers-at filters (Call call) d = refl
+first_answers-at filters FsRead d = refl
+first_answers-at filters FsWrite d = refl
 
 -- the answers of a binary are those under its policy, and it has none where it has no policy
-some_by : (b : Bool) (filters others : List FilterValue) (o : Option (List FastAnswer)) (answers : List FastAnswer) → cond b (Some (fast_answers filters)) o ≡ Some answers → (o ≡ Some answers → answers ≡ fast_answers others) → answers ≡ fast_answers (cond b filters others)
-some_by true filters others o answers e later = same_Some answers (fast_answers filters) (sym e)
+some_by : (b : Bool) (filters others : List FilterValue) (o : Option (List (Option FastAnswer))) (answers : List (Option FastAnswer)) → cond b (Some (first_answers filters)) o ≡ Some answers → (o ≡ Some answers → answers ≡ first_answers others) → answers ≡ first_answers (cond b filters others)
+some_by true filters others o answers e later = same_Some answers (first_answers filters) (sym e)
 some_by false filters others o answers e later = later e
 
-some_answers : (policies : List BinaryPolicy) (binary : List ℕ) (answers : List FastAnswer) → answers_of policies binary ≡ Some answers → answers ≡ fast_answers (policy_of policies binary)
+some_answers : (policies : List BinaryPolicy) (binary : List ℕ) (answers : List (Option FastAnswer)) → answers_of policies binary ≡ Some answers → answers ≡ first_answers (policy_of policies binary)
 some_answers [] binary answers e = cc
 some_answers (policy ∷ policies) binary answers e =
     some_by (bytes_eq policy.binary binary) policy.filters (policy_of policies binary) (answers_of policies binary) answers e (some_answers policies binary answers)
 
-none_by : (b : Bool) (filters others : List FilterValue) (o : Option (List FastAnswer)) → cond b (Some (fast_answers filters)) o ≡ None → (o ≡ None → others ≡ []) → cond b filters others ≡ []
+none_by : (b : Bool) (filters others : List FilterValue) (o : Option (List (Option FastAnswer))) → cond b (Some (first_answers filters)) o ≡ None → (o ≡ None → others ≡ []) → cond b filters others ≡ []
 none_by true filters others o e later = cc
 none_by false filters others o e later = later e
 
@@ -86,24 +85,24 @@ no_answers (policy ∷ policies) binary e =
     none_by (bytes_eq policy.binary binary) policy.filters (policy_of policies binary) (answers_of policies binary) e (no_answers policies binary)
 
 module _ (policies : List BinaryPolicy) (es : List AnswersEntry) (binary : List ℕ) (rule : Rule) (table : IsTableOf policies (shown_table es)) where
-  pub found : (v : Vec FastAnswer Global) (d : FastAnswer) → lookup (is_key binary) es ≡ Some v → get_or v.items (index_of_rule rule) d ≡ fast (read_filters policies binary rule)
+  pub found : (v : Vec (Option FastAnswer) Global) (d : Option FastAnswer) → lookup (is_key binary) es ≡ Some v → get_or v.items (index_of_rule rule) d ≡ first_answer (read_filters policies binary rule)
   found v d e =
       let is : answers_of policies binary ≡ Some v.items = sym (table binary) ∙ sym (answers_kept es binary) ∙ ap items_of e in
-      ap (λ answers. get_or answers (index_of_rule rule) d) (some_answers policies binary v.items is) ∙ fast_answers-at (policy_of policies binary) rule d
+      ap (λ answers. get_or answers (index_of_rule rule) d) (some_answers policies binary v.items is) ∙ first_answers-at (policy_of policies binary) rule d
 
-  pub missing : lookup (is_key binary) es ≡ None → answer.Ask ≡ fast (read_filters policies binary rule)
+  pub missing : lookup (is_key binary) es ≡ None → None ≡ first_answer (read_filters policies binary rule)
   missing e =
       let is : answers_of policies binary ≡ None = sym (table binary) ∙ sym (answers_kept es binary) ∙ ap items_of e in
-      ap (λ filters. fast (filters_of rule filters)) (sym (no_answers policies binary is))
+      ap (λ filters. first_answer (filters_of rule filters)) (sym (no_answers policies binary is))
 
 -- ---- answers that are added
 
 -- what is behind the first row comes behind it
-behind : (b : Bool) (answers : List FastAnswer) (rest more : Option (List FastAnswer)) → cond b (Some answers) (option_or rest more) ≡ option_or (cond b (Some answers) rest) more
+behind : (b : Bool) (answers : List (Option FastAnswer)) (rest more : Option (List (Option FastAnswer))) → cond b (Some answers) (option_or rest more) ≡ option_or (cond b (Some answers) rest) more
 behind true answers rest more = refl
 behind false answers rest more = refl
 
-gained_by : (b : Bool) (e : AnswersEntry) (es : List AnswersEntry) (key : Vec ℕ Global) (v : Vec FastAnswer Global) (other : List ℕ) → b ≡ bytes_eq e.0.items key.items → answers_in (shown_table (e ∷ es)) key.items ≡ None
+gained_by : (b : Bool) (e : AnswersEntry) (es : List AnswersEntry) (key : Vec ℕ Global) (v : Vec (Option FastAnswer) Global) (other : List ℕ) → b ≡ bytes_eq e.0.items key.items → answers_in (shown_table (e ∷ es)) key.items ≡ None
     → (answers_in (shown_table es) key.items ≡ None → answers_in (shown_table (insert_entry same_key es key v)) other ≡ option_or (answers_in (shown_table es) other) (cond (bytes_eq key.items other) (Some v.items) None))
     → answers_in (shown_table (cond b ((e.0, v) ∷ es) (e ∷ insert_entry same_key es key v))) other ≡ option_or (answers_in (shown_table (e ∷ es)) other) (cond (bytes_eq key.items other) (Some v.items) None)
 gained_by true e es key v other is none later = absurd (clash ((λ k. cond (is k) (Some e.1.items) (answers_in (shown_table es) key.items)) ∙ none)) where
@@ -114,40 +113,40 @@ gained_by false e es key v other is none later =
     ∙ behind (bytes_eq e.0.items other) e.1.items (answers_in (shown_table es) other) (cond (bytes_eq key.items other) (Some v.items) None)
 
 -- a binary that has no answers yet gets some
-inserted : (es : List AnswersEntry) (key : Vec ℕ Global) (v : Vec FastAnswer Global) → answers_in (shown_table es) key.items ≡ None → Gains (shown_table es) key.items v.items (shown_table (insert_entry same_key es key v))
+inserted : (es : List AnswersEntry) (key : Vec ℕ Global) (v : Vec (Option FastAnswer) Global) → answers_in (shown_table es) key.items ≡ None → Gains (shown_table es) key.items v.items (shown_table (insert_entry same_key es key v))
 inserted [] key v none other = refl
 inserted (e ∷ es) key v none other =
     gained_by (bytes_eq key.items e.0.items) e es key v other (nat_list_eq_equiv.symm key.items e.0.items) none (λ more. inserted es key v more other)
 
-pub gains : (es : List AnswersEntry) (key : Vec ℕ Global) (v : Vec FastAnswer Global) (binary : List ℕ) (answers : List FastAnswer) → is_some (lookup (is_key binary) es) ≡ false → key.items ≡ binary → v.items ≡ answers
+pub gains : (es : List AnswersEntry) (key : Vec ℕ Global) (v : Vec (Option FastAnswer) Global) (binary : List ℕ) (answers : List (Option FastAnswer)) → is_some (lookup (is_key binary) es) ≡ false → key.items ≡ binary → v.items ≡ answers
     → Gains (shown_table es) binary answers (shown_table (insert_entry same_key es key v))
 gains es key v binary answers none key_is answers_are other =
     inserted es key v (ap (answers_in (shown_table es)) key_is ∙ sym (answers_kept es binary) ∙ none_kept (lookup (is_key binary) es) none) other
     ∙ (λ k. option_or (answers_in (shown_table es) other) (cond (bytes_eq (key_is k) other) (Some (answers_are k)) None))
 
 -- a binary that has answers keeps them
-had_by : (rows : List BinaryAnswers) (binary other : List ℕ) (own answers : List FastAnswer) → answers_in rows binary ≡ Some own → (b : Bool) → bytes_eq binary other ≡ b
+had_by : (rows : List BinaryAnswers) (binary other : List ℕ) (own answers : List (Option FastAnswer)) → answers_in rows binary ≡ Some own → (b : Bool) → bytes_eq binary other ≡ b
     → answers_in rows other ≡ option_or (answers_in rows other) (cond b (Some answers) None)
 had_by rows binary other own answers is true same =
     let there : answers_in rows other ≡ Some own = ap (answers_in rows) (sym ((bytes_eq-Decides binary other).0 same)) ∙ is in
     there ∙ ap (λ o. option_or o (Some answers)) (sym there)
 had_by rows binary other own answers is false same = by (answers_in rows other) where
-  by : (o : Option (List FastAnswer)) → o ≡ option_or o None
+  by : (o : Option (List (Option FastAnswer))) → o ≡ option_or o None
   by None = refl
   by (Some xs) = refl
 
-pub had : (es : List AnswersEntry) (binary : List ℕ) (answers : List FastAnswer) → is_some (lookup (is_key binary) es) ≡ true → Gains (shown_table es) binary answers (shown_table es)
+pub had : (es : List AnswersEntry) (binary : List ℕ) (answers : List (Option FastAnswer)) → is_some (lookup (is_key binary) es) ≡ true → Gains (shown_table es) binary answers (shown_table es)
 had es binary answers some other =
-    let own : (xs : List FastAnswer) × (items_of (lookup (is_key binary) es) ≡ Some xs) = some_kept (lookup (is_key binary) es) some in
+    let own : (xs : List (Option FastAnswer)) × (items_of (lookup (is_key binary) es) ≡ Some xs) = some_kept (lookup (is_key binary) es) some in
     had_by (shown_table es) binary other own.0 answers (sym (answers_kept es binary) ∙ own.1) (bytes_eq binary other) refl
 
 -- each binary has an answer for each rule still
-whole_by : (b : Bool) (e : AnswersEntry) (es : List AnswersEntry) (key : Vec ℕ Global) (v : Vec FastAnswer Global) → length v.items ≡ length every_rule → AreTables (shown_table (e ∷ es)) → AreTables (shown_table (insert_entry same_key es key v))
+whole_by : (b : Bool) (e : AnswersEntry) (es : List AnswersEntry) (key : Vec ℕ Global) (v : Vec (Option FastAnswer) Global) → length v.items ≡ length every_rule → AreTables (shown_table (e ∷ es)) → AreTables (shown_table (insert_entry same_key es key v))
     → AreTables (shown_table (cond b ((e.0, v) ∷ es) (e ∷ insert_entry same_key es key v)))
 whole_by true e es key v whole all later = All-cons (λ row. length row.answers ≡ length every_rule) (shown_entry (e.0, v)) (shown_table es) whole (All-tail (λ row. length row.answers ≡ length every_rule) (shown_entry e) (shown_table es) all)
 whole_by false e es key v whole all later = All-cons (λ row. length row.answers ≡ length every_rule) (shown_entry e) (shown_table (insert_entry same_key es key v)) (All-head (λ row. length row.answers ≡ length every_rule) (shown_entry e) (shown_table es) all) later
 
-pub inserted_whole : (es : List AnswersEntry) (key : Vec ℕ Global) (v : Vec FastAnswer Global) → length v.items ≡ length every_rule → AreTables (shown_table es) → AreTables (shown_table (insert_entry same_key es key v))
+pub inserted_whole : (es : List AnswersEntry) (key : Vec ℕ Global) (v : Vec (Option FastAnswer) Global) → length v.items ≡ length every_rule → AreTables (shown_table es) → AreTables (shown_table (insert_entry same_key es key v))
 inserted_whole [] key v whole all = All-cons (λ row. length row.answers ≡ length every_rule) (shown_entry (key, v)) [] whole (All-nil (λ row. length row.answers ≡ length every_rule))
 inserted_whole (e ∷ es) key v whole all =
     whole_by (bytes_eq key.items e.0.items) e es key v whole all (inserted_whole es key v whole (All-tail (λ row. length row.answers ≡ length every_rule) (shown_entry e) (shown_table es) all))
@@ -155,16 +154,16 @@ inserted_whole (e ∷ es) key v whole all =
 -- ---- one policy after the other
 
 next_of : (policies : List BinaryPolicy) (i : ℕ) (binary : List ℕ) (filters : List FilterValue) → option_map (λ (p : BinaryPolicy). p.binary) (slice_get policies i) ≡ Some binary → option_map (λ (p : BinaryPolicy). p.filters) (slice_get policies i) ≡ Some filters
-    → (other : List ℕ) → answers_of (take (suc i) policies) other ≡ option_or (answers_of (take i policies) other) (cond (bytes_eq binary other) (Some (fast_answers filters)) None)
+    → (other : List ℕ) → answers_of (take (suc i) policies) other ≡ option_or (answers_of (take i policies) other) (cond (bytes_eq binary other) (Some (first_answers filters)) None)
 next_of [] i binary filters is are other = cc
 next_of (policy ∷ policies) zero binary filters is are other =
-    λ k. cond (bytes_eq (same_Some policy.binary binary is k) other) (Some (fast_answers (same_Some policy.filters filters are k))) None
+    λ k. cond (bytes_eq (same_Some policy.binary binary is k) other) (Some (first_answers (same_Some policy.filters filters are k))) None
 next_of (policy ∷ policies) (suc i) binary filters is are other =
-    ap (λ o. cond (bytes_eq policy.binary other) (Some (fast_answers policy.filters)) o) (next_of policies i binary filters is are other)
-    ∙ behind (bytes_eq policy.binary other) (fast_answers policy.filters) (answers_of (take i policies) other) (cond (bytes_eq binary other) (Some (fast_answers filters)) None)
+    ap (λ o. cond (bytes_eq policy.binary other) (Some (first_answers policy.filters)) o) (next_of policies i binary filters is are other)
+    ∙ behind (bytes_eq policy.binary other) (first_answers policy.filters) (answers_of (take i policies) other) (cond (bytes_eq binary other) (Some (first_answers filters)) None)
 
 -- the rows that gain the answers under the next policy are the table of one policy more
 pub table_next : (policies : List BinaryPolicy) (i : ℕ) (binary : List ℕ) (filters : List FilterValue) (old new : List BinaryAnswers) → option_map (λ (p : BinaryPolicy). p.binary) (slice_get policies i) ≡ Some binary → option_map (λ (p : BinaryPolicy). p.filters) (slice_get policies i) ≡ Some filters
-    → IsTableOf (take i policies) old → Gains old binary (fast_answers filters) new → IsTableOf (take (suc i) policies) new
+    → IsTableOf (take i policies) old → Gains old binary (first_answers filters) new → IsTableOf (take (suc i) policies) new
 table_next policies i binary filters old new is are table gained other =
-    gained other ∙ ap (λ o. option_or o (cond (bytes_eq binary other) (Some (fast_answers filters)) None)) (table other) ∙ sym (next_of policies i binary filters is are other)
+    gained other ∙ ap (λ o. option_or o (cond (bytes_eq binary other) (Some (first_answers filters)) None)) (table other) ∙ sym (next_of policies i binary filters is are other)

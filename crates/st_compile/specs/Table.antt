@@ -6,7 +6,7 @@ use Rattle.std.specs.Str.{bytes_eq}
 use Rattle.std.specs.declared.alloc.Global.{Global}
 use Rattle.st_calls.specs.declared.rule.FastAnswer.{FastAnswer}
 use Rattle.st_calls.specs.Call.{every_rule}
-use Rattle.st_filter.specs.Fast.{fast}
+use Rattle.st_filter.specs.Fast.{first_answer}
 use Rattle.st_filter.specs.Formula.{FilterValue}
 use Rattle.st_filter.specs.Policies.{filters_of}
 use Rattle.st_filter.specs.declared.set.BinaryPolicy.{BinaryPolicy}
@@ -14,24 +14,24 @@ use Rattle.st_filter.specs.declared.set.BinaryPolicy.{BinaryPolicy}
 -- the answers under the policy of one binary, in the order of the rules
 pub record BinaryAnswers : Type 0 where
   pub binary : List ℕ
-  pub answers : List FastAnswer
+  pub answers : List (Option FastAnswer)
 
 -- the answers for each rule under these filters, in the order of the rules
-abbrev pub fast_answers : List FilterValue → List FastAnswer
-fast_answers filters = map (λ rule. fast (filters_of rule filters)) every_rule
+abbrev pub first_answers : List FilterValue → List (Option FastAnswer)
+first_answers filters = map (λ rule. first_answer (filters_of rule filters)) every_rule
 
 -- the answers of the first row of a binary
-abbrev pub answers_in : List BinaryAnswers → List ℕ → Option (List FastAnswer)
+abbrev pub answers_in : List BinaryAnswers → List ℕ → Option (List (Option FastAnswer))
 answers_in [] binary = None
 answers_in (row ∷ rows) binary = if bytes_eq row.binary binary then Some row.answers else answers_in rows binary
 
 -- the answers under the first policy of a binary
-abbrev pub answers_of : List BinaryPolicy → List ℕ → Option (List FastAnswer)
+abbrev pub answers_of : List BinaryPolicy → List ℕ → Option (List (Option FastAnswer))
 answers_of [] binary = None
-answers_of (policy ∷ policies) binary = if bytes_eq policy.binary binary then Some (fast_answers policy.filters) else answers_of policies binary
+answers_of (policy ∷ policies) binary = if bytes_eq policy.binary binary then Some (first_answers policy.filters) else answers_of policies binary
 
 -- the rows have these answers too, for a binary that had none
-abbrev pub Gains : List BinaryAnswers → List ℕ → List FastAnswer → List BinaryAnswers → Type 0
+abbrev pub Gains : List BinaryAnswers → List ℕ → List (Option FastAnswer) → List BinaryAnswers → Type 0
 Gains old binary answers new =
     (other : List ℕ) → answers_in new other ≡ option_or (answers_in old other) (if bytes_eq binary other then Some answers else None)
 
@@ -43,7 +43,7 @@ IsTableOf policies rows = (binary : List ℕ) → answers_in rows binary ≡ ans
 
 -- what the map has for one binary: its answers
 abbrev pub AnswersEntry : Type 0
-AnswersEntry = Vec ℕ Global × Vec FastAnswer Global
+AnswersEntry = Vec ℕ Global × Vec (Option FastAnswer) Global
 
 -- the row that a binary and its answers in the map stand for
 abbrev pub shown_entry : AnswersEntry → BinaryAnswers

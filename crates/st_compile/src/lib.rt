@@ -4,6 +4,3 @@
 pub mod table;
 
 pub use table::FastTable;
-
-#[cfg(test)]
-mod tests;

@@ -1,23 +1,23 @@
 ghost use Rattle.std.specs.Prelude.{◌≡◌, List, IfOk, OnOk};
 ghost use Rattle.st_calls.specs.Call.{every_rule};
-ghost use Rattle.st_filter.specs.Fast.{fast};
+ghost use Rattle.st_filter.specs.Fast.{first_answer};
 ghost use Rattle.st_filter.specs.Policies.{read_filters};
 ghost use Rattle.st_filter.specs.declared.set.BinaryPolicy.{BinaryPolicy};
-ghost use Rattle.st_compile.specs.Table.{fast_answers, Gains, IsTableOf};
+ghost use Rattle.st_compile.specs.Table.{first_answers, Gains, IsTableOf};
 
 use indexmap::IndexMap;
 use st_base::Text;
 use st_calls::{FastAnswer, Rule};
-use st_filter::{Policy, PolicySet, fast};
+use st_filter::{Policy, PolicySet, first_answer};
 use std::alloc::{AllocError, Global};
 use std::marker::Model;
 
 /// The kernel's own answers under each policy that was read, by the binary and the rule: an answer is one look-up, however many
-/// filters there are.
+/// filters there are. Where no filter is for a rule there is none.
 #[derive(Debug, Drop)]
 pub struct FastTable {
     // For each binary the answers by the rules' places.
-    tables: IndexMap<Vec<u8>, Vec<FastAnswer>>,
+    tables: IndexMap<Vec<u8>, Vec<Option<FastAnswer>>>,
 }
 
 impl Model for FastTable {
@@ -32,14 +32,12 @@ impl Model for FastTable {
 }
 
 // The answers under the filters of one binary.
-fn answers_under(alloc: Global, policy: &Policy) -> Result<Vec<FastAnswer>, AllocError>
-    ensures { IfOk result (λ answers. answers.items ≡ fast_answers policy.now) }
+fn answers_under(alloc: Global, policy: &Policy) -> Result<Vec<Option<FastAnswer>>, AllocError>
+    ensures { IfOk result (λ answers. answers.items ≡ first_answers policy.now) }
 {
-    // No filter is added to a session yet.
-    let session = Policy::new(alloc);
     Rule::ALL
         .iter()
-        .map(|&rule| fast(policy, &session, rule))
+        .map(|&rule| first_answer(policy, rule))
         .collect(alloc)
 }
 
@@ -59,7 +57,7 @@ impl FastTable {
 
     // Adds the answers under the policy of a binary, unless it has some.
     fn add(&mut self, alloc: Global, binary: &[u8], policy: &Policy) -> Result<(), AllocError>
-        ensures { OnOk result (Gains self.old binary.now (fast_answers policy.now) self.new) }
+        ensures { OnOk result (Gains self.old binary.now (first_answers policy.now) self.new) }
     {
         if self.tables.contains_key(binary) {
             return Ok(());
@@ -70,13 +68,13 @@ impl FastTable {
         Ok(())
     }
 
-    /// The answer for a rule under the policy of a binary.
-    pub fn get(&self, binary: &[u8], rule: Rule) -> FastAnswer
-        ensures { (policies : List BinaryPolicy) → IsTableOf policies self.now → result ≡ fast (read_filters policies binary.now rule) }
+    /// The answer for a rule under the policy of a binary; none where no filter that was read is for it.
+    pub fn get(&self, binary: &[u8], rule: Rule) -> Option<FastAnswer>
+        ensures { (policies : List BinaryPolicy) → IsTableOf policies self.now → result ≡ first_answer (read_filters policies binary.now rule) }
     {
         match self.tables.get(binary) {
             Some(answers) => answers[rule.index()],
-            None => FastAnswer::Ask,
+            None => None,
         }
     }
 }
