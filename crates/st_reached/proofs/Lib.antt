@@ -2,6 +2,7 @@ pub mod Drawn
 pub mod Life
 pub mod LifeByEntry
 pub mod Made
+pub mod Movers
 pub mod NumbersDrawn
 pub mod OwnIds
 pub mod Owning

@@ -1,12 +1,14 @@
--- That a call that sets ids is made under its process's own ids, where no filter for it grants any and nothing is learnt or asked.
+-- That a call that sets ids is made under its process's own ids, where no filter for it grants any.
 use native.Mathlib.Omega.{arith}
-use Rattle.std.proofs.Common.{◌≡◌, ℕ, suc, Bool, true, false, cond, List, [], ◌∷◌, reverse, Option, Some, None, refl, sym, ap, subst, ◌∙◌}
-use Rattle.std.proofs.lemmas.Bool.{true≢false}
+use Rattle.std.proofs.Common.{◌≡◌, ℕ, zero, suc, ◌&&◌, Bool, true, false, cond, not, List, [], ◌∷◌, ◌++◌, length, map, reverse, Option, Some, None, refl, sym, ap, subst, ◌∙◌}
+use Rattle.std.proofs.lemmas.Bool.{and_parts, true≢false}
 use Rattle.std.proofs.lemmas.Option.{same_Some}
-use Rattle.std.specs.List.{All}
+use Rattle.std.specs.List.{All, filter}
 use Rattle.std.specs.Str.{bytes_eq}
+use Rattle.st_base.specs.Numbered.{item_at_number}
 use Rattle.st_base.specs.declared.ids.Ids.{Ids}
 use Rattle.st_calls.specs.Call.{rule_of}
+use Rattle.st_calls.specs.Rules.{same_rule}
 use Rattle.st_calls.specs.declared.argument.ArgText.{ArgText}
 use Rattle.st_calls.specs.declared.call.SysCall.{SysCall}
 use Rattle.st_calls.specs.declared.call.SysCall.TheVariants.{SetUid, SetEuid, SetGid, SetEgid}
@@ -25,28 +27,27 @@ use Rattle.st_filter.specs.declared.filter.FilterName.{FilterName}
 use Rattle.st_filter.specs.declared.filter.FilterName.TheVariants as name
 use Rattle.st_filter.specs.declared.filter.Grant.{Grant}
 use Rattle.st_filter.specs.declared.set.BinaryPolicy.{BinaryPolicy}
+use Rattle.st_filter.specs.declared.set.Reply.{Reply}
 use Rattle.st_trace.specs.declared.entry.CallResult.{CallResult}
 use Rattle.st_trace.specs.declared.entry.Change.{Change}
 use Rattle.st_trace.specs.declared.entry.Choice.{Choice}
 use Rattle.st_trace.specs.declared.entry.Entry.{Entry}
 use Rattle.st_trace.specs.declared.entry.Entry.TheVariants.{Learned, Replied}
 use Rattle.st_law.specs.declared.input.Input.{Input}
-use Rattle.st_law.specs.declared.input.Mode.{Mode}
-use Rattle.st_law.specs.declared.input.Mode.TheVariants.{Enforce, Learn, AskText}
 use Rattle.st_law.specs.History.{looking_back}
 use Rattle.st_law.specs.Inputs.{IsStartable}
 use Rattle.st_law.specs.Lawful.{IsLawful, IsLawfulBack, IsUsed, IsUsedHeld}
 use Rattle.st_law.specs.Machine.{history, state_after, state_of_run}
 use Rattle.st_law.specs.Messages.{Head}
 use Rattle.st_law.specs.Schedules.{sets_ids}
-use Rattle.st_law.specs.Sessions.{decision, session_filters, verdict_or}
-use Rattle.st_law.specs.State.{State, decision_in, process_in, progress_in, read_for, snapshot_of_progress, snapshot_with}
+use Rattle.st_law.specs.Sessions.{SessionFilter, is_kept_for, is_reply_for, learnt_by, replied_by, session_filters, verdict_or}
+use Rattle.st_law.specs.State.{State, decision_in, process_in, progress_in, read_for, snapshot_in, snapshot_of_progress, snapshot_with}
 use Rattle.st_law.specs.Threads.{History}
-use Rattle.st_law.proofs.Laws.{lawful_history}
+use Rattle.st_law.proofs.Laws.{all_at, lawful_history}
 use Rattle.st_law.proofs.ShortArguments.{HasRule}
 use Rattle.st_law.proofs.ShortLinks.{short_of}
 use Rattle.st_law.proofs.Ties.{state-is}
-use Rattle.st_reached.specs.Grants.{IsUngrantedForSetting, SetIdsUngranted, is_for_setting, sets_ids_by}
+use Rattle.st_reached.specs.Grants.{IsUngrantedForSetting, RepliesUngranted, SetIdsUngranted, is_for_setting, sets_ids_by}
 use Rattle.st_reached.specs.Reached.{SetsOwnIds}
 
 -- ---- what filters without a grant permit
@@ -118,56 +119,90 @@ copies_rule i q s (Some head) (Look part name) rule e = cc
 copies_rule i q s (Some head) (Stuck errno) rule e = cc
 copies_rule i q s (Some head) (Ready args) rule e = subst (λ (copies : Snapshot). copies.rule ≡ rule_of copies.call copies.regs i.options.aliasing) (same_Some (snapshot_with q head args) s e) rule
 
--- ---- a session in which nothing is learnt or asked
+-- ---- the filters of a session
 
-no_learning : (mode : Mode) → mode ≡ Enforce → mode ≡ Learn → ⊥
-no_learning mode enforces learns = cc
+-- a filter of the session grants no ids, if it is kept for a rule that sets ids
+abbrev IsOwnFor : SessionFilter → Type 0
+IsOwnFor kept = sets_ids_by kept.rule ≡ true → kept.filter.grant ≡ None
 
-no_asking : (mode : Mode) → mode ≡ Enforce → mode ≡ AskText → ⊥
-no_asking mode enforces asks = cc
+abbrev AreOwnFor : List SessionFilter → Type 0
+AreOwnFor [] = Unit {0}
+AreOwnFor (kept ∷ session) = IsOwnFor kept × AreOwnFor session
 
-module _ (i : Input) (enforces : i.options.mode ≡ Enforce) where
-  none_behind : (st : State) (e : Entry) → IsLawful i st e → st.session ≡ [] → (state_after i st e).session ≡ []
-  none_behind st (Learned q n) y none = absurd (no_learning i.options.mode enforces y.mode)
-  none_behind st (Replied q reply n) y none = absurd (no_asking i.options.mode enforces y.mode)
-  none_behind st _ y none = none
+own_append : (session more : List SessionFilter) → AreOwnFor session → AreOwnFor more → AreOwnFor (session ++ more)
+own_append [] more x y = y
+own_append (kept ∷ session) more x y = (x.0, own_append session more x.1 y)
 
-  none_back : (h : History) → IsLawfulBack i h → (looking_back i h).session ≡ []
-  none_back [] lawful = refl
-  none_back (e ∷ h) lawful = none_behind (looking_back i h) e lawful.0 (none_back h lawful.1)
+-- what is learnt grants none
+learnt_own : (o : Option Snapshot) → AreOwnFor (learnt_by o)
+learnt_own None = tt
+learnt_own (Some s) = (λ sets. refl, tt)
 
--- what decides without a session are the filters that were read
-decided : (v : Verdict) (k : ℕ) (ids : Ids) → verdict_or v Unmatched ≡ Permit k ids → v ≡ Permit k ids
-decided (Permit n own) k ids e = e
-decided (Refuse n errno) k ids e = e
-decided Unmatched k ids e = e
+module _ (i : Input) (ungranted : RepliesUngranted i.replies) where
+  -- a reply is kept for the rule that it is for
+  replied_own : (n : ℕ) (r : Option Reply) → item_at_number i.replies n ≡ r → (policy : List ℕ) (rule : Rule) (left : Bool) → (is_reply_for policy rule r && left) ≡ true → (o : Option Snapshot) → ((s : Snapshot) → o ≡ Some s → s.rule ≡ rule) → AreOwnFor (replied_by r o)
+  replied_own n None e policy rule left for o same = tt
+  replied_own n (Some r) e policy rule left for None same = tt
+  replied_own zero (Some r) e policy rule left for (Some s) same = cc
+  replied_own (suc k) (Some r) e policy rule left for (Some s) same =
+      let is : is_for rule r.filter.name ≡ true = (and_parts (bytes_eq r.binary policy) (is_for rule r.filter.name) (and_parts (bytes_eq r.binary policy && is_for rule r.filter.name) left for).0).1 in
+      (λ sets. all_at (λ each. IsUngrantedForSetting each.filter) i.replies k r ungranted e (for_setting rule r.filter.name (sym (ap sets_ids_by (same s refl)) ∙ sets) is), tt)
+
+  own_behind : (st : State) (e : Entry) → IsLawful i st e → AreOwnFor st.session → AreOwnFor (state_after i st e).session
+  own_behind st (Learned q n) y own = own_append st.session (learnt_by (snapshot_in st q)) own (learnt_own (snapshot_in st q))
+  own_behind st (Replied q reply n) y own = own_append st.session (replied_by (item_at_number i.replies reply) (snapshot_in st q)) own
+      (replied_own reply (item_at_number i.replies reply) refl y.copies.policy y.copies.rule (not (st.replied reply)) y.there (snapshot_in st q) (λ s e. ap (λ (copies : Snapshot). copies.rule) (same_Some s y.copies (sym e ∙ y.asked.copies))))
+  own_behind st _ y own = own
+
+  session_own : (h : History) → IsLawfulBack i h → AreOwnFor (looking_back i h).session
+  session_own [] lawful = tt
+  session_own (e ∷ h) lawful = own_behind (looking_back i h) e lawful.0 (session_own h lawful.1)
+
+module _ (s : Snapshot) (policy : List ℕ) (rule : Rule) (sets : sets_ids_by rule ≡ true) where
+  kept_by : (kept : SessionFilter) (more : List SessionFilter) → IsOwnFor kept → ((n k : ℕ) (ids : Ids) → verdict_from n (session_filters more policy rule) s ≡ Permit k ids → ids ≡ s.ids) → (b : Bool) → is_kept_for policy rule kept ≡ b
+      → (n k : ℕ) (ids : Ids) → verdict_from n (map (λ each. each.filter) (cond b (kept ∷ filter (is_kept_for policy rule) more) (filter (is_kept_for policy rule) more))) s ≡ Permit k ids → ids ≡ s.ids
+  kept_by kept more own rest true is n k ids e =
+      let same : kept.rule ≡ rule = (same_rule-Decides kept.rule rule).0 (and_parts (bytes_eq kept.policy policy) (same_rule kept.rule rule) is).1 in
+      first_owns s rule sets kept.filter (session_filters more policy rule) (own (ap sets_ids_by same ∙ sets)) rest n k ids (holds kept.filter s) e
+  kept_by kept more own rest false is n k ids e = rest n k ids e
+
+  -- the session's filters of such a rule permit under the ids of the copies
+  session_permits : (session : List SessionFilter) → AreOwnFor session → (n k : ℕ) (ids : Ids) → verdict_from n (session_filters session policy rule) s ≡ Permit k ids → ids ≡ s.ids
+  session_permits [] own n k ids e = cc
+  session_permits (kept ∷ more) own n k ids e = kept_by kept more own.0 (session_permits more own.1) (is_kept_for policy rule kept) refl n k ids e
+
+-- what is decided is decided by the filters that were read, or else by those of the session
+either_permits : (v w : Verdict) (k : ℕ) (ids own : Ids) → (v ≡ Permit k ids → ids ≡ own) → (w ≡ Permit k ids → ids ≡ own) → verdict_or v w ≡ Permit k ids → ids ≡ own
+either_permits (Permit n read) w k ids own by_read by_session e = by_read e
+either_permits (Refuse n errno) w k ids own by_read by_session e = cc
+either_permits Unmatched w k ids own by_read by_session e = by_session e
 
 -- ---- a call that is made
 
-module _ (i : Input) (ungranted : SetIdsUngranted i.policies) (st : State) (none : st.session ≡ []) where
+module _ (i : Input) (ungranted : SetIdsUngranted i.policies) (st : State) (session : AreOwnFor st.session) where
   -- what decides of copies by a rule that sets ids permits under the ids of the copies
-  pub copies_own : (s : Snapshot) (k : ℕ) (ids : Ids) → sets_ids_by s.rule ≡ true → decision_in i st s ≡ Permit k ids → ids ≡ s.ids
+  copies_own : (s : Snapshot) (k : ℕ) (ids : Ids) → sets_ids_by s.rule ≡ true → decision_in i st s ≡ Permit k ids → ids ≡ s.ids
   copies_own s k ids sets e =
-      let read : verdict (read_for i s.policy s.rule) s ≡ Permit k ids = decided (verdict (read_for i s.policy s.rule) s) k ids
-      (subst (λ session. decision (read_for i s.policy s.rule) (session_filters session s.policy s.rule) s ≡ Permit k ids) none e) in
-      filters_own s s.rule sets (policy_of i.policies s.policy) (policy_ungranted i.policies s.policy ungranted) 1 k ids read
+      either_permits (verdict (read_for i s.policy s.rule) s) (verdict_from (suc (length (read_for i s.policy s.rule))) (session_filters st.session s.policy s.rule) s) k ids s.ids
+      (λ is. filters_own s s.rule sets (policy_of i.policies s.policy) (policy_ungranted i.policies s.policy ungranted) 1 k ids is)
+      (λ is. session_permits s s.policy s.rule sets st.session session (suc (length (read_for i s.policy s.rule))) k ids is) e
 
-module _ (i : Input) (ungranted : SetIdsUngranted i.policies) (st : State) (none : st.session ≡ []) (rules : (q : ℕ) → HasRule i (st.messages q).head) where
-  held_own : (t q : ℕ) (call : SysCall) (regs : List ℕ) (args : List ArgText) (ids : Ids) (result : CallResult) (changes : List Change) → IsUsedHeld i st t q call regs args ids result changes → sets_ids call ≡ true → ids ≡ (process_in st t).ids
-  held_own t q call regs args ids result changes y sets =
-      let s : Snapshot = y.copies in
-      let rule : s.rule ≡ rule_of s.call s.regs i.options.aliasing = copies_rule i q s (st.messages q).head (progress_in st q) (rules q) y.permitted.judged.copies in
-      copies_own i ungranted st none s y.permitted.filter ids (ap sets_ids_by rule ∙ rule_sets s.call s.regs i.options.aliasing (ap sets_ids y.call_is ∙ sets)) y.permitted.permitted ∙ y.permitted.identity
+  module _ (rules : (q : ℕ) → HasRule i (st.messages q).head) where
+    held_own : (t q : ℕ) (call : SysCall) (regs : List ℕ) (args : List ArgText) (ids : Ids) (result : CallResult) (changes : List Change) → IsUsedHeld i st t q call regs args ids result changes → sets_ids call ≡ true → ids ≡ (process_in st t).ids
+    held_own t q call regs args ids result changes y sets =
+        let s : Snapshot = y.copies in
+        let rule : s.rule ≡ rule_of s.call s.regs i.options.aliasing = copies_rule i q s (st.messages q).head (progress_in st q) (rules q) y.permitted.judged.copies in
+        copies_own s y.permitted.filter ids (ap sets_ids_by rule ∙ rule_sets s.call s.regs i.options.aliasing (ap sets_ids y.call_is ∙ sets)) y.permitted.permitted ∙ y.permitted.identity
 
-  used_own : (t : ℕ) (seq : Option ℕ) (call : SysCall) (regs : List ℕ) (args : List ArgText) (ids : Ids) (result : CallResult) (changes : List Change) → IsUsed i st t seq call regs args ids result changes → sets_ids call ≡ true → ids ≡ (process_in st t).ids
-  used_own t None call regs args ids result changes y sets = y.identity
-  used_own t (Some q) call regs args ids result changes y sets = held_own t q call regs args ids result changes y sets
+    used_own : (t : ℕ) (seq : Option ℕ) (call : SysCall) (regs : List ℕ) (args : List ArgText) (ids : Ids) (result : CallResult) (changes : List Change) → IsUsed i st t seq call regs args ids result changes → sets_ids call ≡ true → ids ≡ (process_in st t).ids
+    used_own t None call regs args ids result changes y sets = y.identity
+    used_own t (Some q) call regs args ids result changes y sets = held_own t q call regs args ids result changes y sets
 
 -- ---- every run
 
 -- a call that sets ids is made under its process's own
-pub sets_own_ids : (i : Input) → IsStartable i → SetIdsUngranted i.policies → i.options.mode ≡ Enforce → (choices : List Choice) → SetsOwnIds i (state_of_run i choices)
-sets_own_ids i startable ungranted enforces choices =
+pub sets_own_ids : (i : Input) → IsStartable i → SetIdsUngranted i.policies → RepliesUngranted i.replies → (choices : List Choice) → SetsOwnIds i (state_of_run i choices)
+sets_own_ids i startable ungranted replies choices =
     let h : History = history i (reverse choices) in
     let lawful : IsLawfulBack i h = lawful_history i startable (reverse choices) in
-    subst (SetsOwnIds i) (sym (state-is i h)) (record { own = used_own i ungranted (looking_back i h) (none_back i enforces h lawful) (short_of i startable h lawful).rules })
+    subst (SetsOwnIds i) (sym (state-is i h)) (record { own = used_own i ungranted (looking_back i h) (session_own i replies h lawful) (short_of i startable h lawful).rules })

@@ -1,11 +1,14 @@
 -- A thread that is still stays so behind each entry of another that doesn't wake it.
 use native.Mathlib.Omega.{arith}
 use Rattle.std.proofs.Common.{◌≡◌, ◌≢◌, ◌≤◌, ◌<◌, ◌⊎◌, ℕ, suc, ◌+◌, Bool, true, false, cond, ◌&&◌, ◌||◌, ◌==◌, List, [], ◌∷◌, Option, Some, None, refl, sym, ap, subst, ◌∙◌, inl, inr}
-use Rattle.std.proofs.lemmas.Bool.{eq-eqb, ne_eqb, or_parts, true≢false}
+use Rattle.std.proofs.lemmas.Bool.{and_from, and_parts, eq-eqb, ne_eqb, or_parts, true≢false}
 use Rattle.std.specs.List.{list_any}
+use Rattle.std.specs.Prelude.{is_some, length, not}
+use Rattle.st_base.specs.Numbered.{item_at_number}
 use Rattle.st_base.specs.declared.ids.Ids.{Ids}
 use Rattle.st_calls.specs.declared.argument.ArgText.{ArgText}
 use Rattle.st_calls.specs.declared.call.SysCall.{SysCall}
+use Rattle.st_calls.specs.declared.judged.Snapshot.{Snapshot}
 use Rattle.st_effects.specs.Changes.{dying_after_change, owner_after_change, seq_after}
 use Rattle.st_effects.specs.Processes.{renewals}
 use Rattle.st_effects.specs.System.{HeldCall}
@@ -14,14 +17,16 @@ use Rattle.st_trace.specs.declared.entry.Change.{Change}
 use Rattle.st_trace.specs.declared.entry.Change.TheVariants.{Dying, Execed, Forked}
 use Rattle.st_trace.specs.declared.entry.Choice.{Choice}
 use Rattle.st_trace.specs.declared.entry.Entry.{Entry}
-use Rattle.st_trace.specs.declared.entry.Entry.TheVariants.{Entered, Faulted, Answered, Used, Denied, Ended}
+use Rattle.st_trace.specs.declared.entry.Entry.TheVariants.{Entered, Faulted, Answered, Used, Denied, Ended, Learned, Replied}
 use Rattle.st_trace.specs.declared.entry.Way.{Way}
 use Rattle.st_trace.specs.declared.entry.Way.TheVariants.{Fast, Barred, Held, Untraced}
 use Rattle.st_law.specs.declared.input.Input.{Input}
-use Rattle.st_law.specs.declared.input.Mode.TheVariants.{Enforce}
+use Rattle.st_law.specs.declared.input.Mode.{Mode}
+use Rattle.st_law.specs.declared.input.Mode.TheVariants.{Enforce, Learn, AskText}
 use Rattle.st_law.specs.Lawful.{IsLawful, IsUsed}
 use Rattle.st_law.specs.Machine.{entry_of, state_after, thread_entry}
-use Rattle.st_law.specs.State.{State, held_from, request_of, system_of, thread_count}
+use Rattle.st_law.specs.Sessions.{decision, is_reply_for, least_from, session_filters}
+use Rattle.st_law.specs.State.{State, held_from, is_asked, is_live, is_open_question, is_undecided, read_for, request_of, snapshot_in, system_of, thread_count}
 use Rattle.st_law.specs.Threads.{child_of_next, thread_of}
 use Rattle.st_law.proofs.HeldCalls.{IsHolder}
 use Rattle.st_law.proofs.Invariant.{IsOpen}
@@ -31,9 +36,11 @@ use Rattle.st_law.proofs.Renewals.{one_more}
 use Rattle.st_law.proofs.Shapes.{Each, Shape, quiet, forked, execed, renewed}
 use Rattle.st_law.proofs.Turns.{IsFresh}
 use Rattle.st_law.proofs.UsedShapes.{used_shape}
-use Rattle.st_reached.specs.Waiting.{IsAwaiting, IsStill, awaiting, ended, is_head_by, is_message_by, unstarted, wakes, wakes_all}
-use Rattle.st_reached.proofs.Reached.{Reached, lawful_entry}
-use Rattle.st_reached.proofs.Still.{none_still, still_none}
+use Rattle.st_law.proofs.Standing.{answered_after_entry, copies_after}
+use Rattle.st_reached.specs.Waiting.{IsAsking, IsAwaiting, IsStill, asking, awaiting, ended, is_head_by, is_message_by, unstarted, wakes, wakes_all}
+use Rattle.st_reached.proofs.Movers.{others_add}
+use Rattle.st_reached.proofs.Reached.{Reached, held_live, lawful_entry, reached_behind}
+use Rattle.st_reached.proofs.Still.{none_still, question_answered, still_none}
 
 -- ---- changes that wake nobody
 
@@ -79,13 +86,27 @@ module _ (m u : ℕ) where
 
 -- ---- from entry to entry
 
+-- a number's message was neither faulted nor answered
+abbrev IsUnmetIn : State → ℕ → Type 0
+IsUnmetIn st q = ((st.messages q).fault ≡ None) × ((st.messages q).answered ≡ false)
+
+-- copies are a question by the session, and the replies that were given
+asked_by : (i : Input) (st new : State) → new.replied ≡ st.replied → (s : Snapshot) (mode : Mode) → is_asked i new s mode ≡ is_asked i st s mode
+asked_by i st new replied s Enforce = refl
+asked_by i st new replied s Learn = refl
+asked_by i st new replied s AskText = λ k. is_some (least_from (λ n. is_reply_for s.policy s.rule (item_at_number i.replies n) && not (replied k n)) 1 (length i.replies))
+
+open_by : (i : Input) (st new : State) → new.session ≡ st.session → new.replied ≡ st.replied → (o : Option Snapshot) → is_open_question i new o ≡ is_open_question i st o
+open_by i st new session replied None = refl
+open_by i st new session replied (Some s) =
+    λ k. is_undecided (decision (read_for i s.policy s.rule) (session_filters (session k) s.policy s.rule) s) && asked_by i st new replied s i.options.mode k
+
 module _ (i : Input) (st : State) (reached : Reached i st) (t : ℕ) where
   abbrev number : ℕ
   number = (st.threads t).number
 
-  -- a number's message was neither faulted nor answered
   abbrev IsUnmet : ℕ → Type 0
-  IsUnmet q = ((st.messages q).fault ≡ None) × ((st.messages q).answered ≡ false)
+  IsUnmet q = IsUnmetIn st q
 
   -- a number that isn't drawn yet has none
   unmet_above : (q : ℕ) → st.posted < q → IsUnmet q
@@ -102,11 +123,51 @@ module _ (i : Input) (st : State) (reached : Reached i st) (t : ℕ) where
     pub pending : ((state_after i st e).threads t).pending ≡ (st.threads t).pending
     pub unfaulted : IsAwaiting st t → ((state_after i st e).messages ((state_after i st e).threads t).number).fault ≡ None
     pub unanswered : IsAwaiting st t → ((state_after i st e).messages ((state_after i st e).threads t).number).answered ≡ false
+    pub renewed : (((state_after i st e).threads t).number ≡ number) ⊎ IsUnmetIn (state_after i st e) ((state_after i st e).threads t).number
+    pub session : (state_after i st e).session ≡ st.session
+    pub replied : (state_after i st e).replied ≡ st.replied
 
-  stays : (e : Entry) → Leaves e → IsStill st t → IsStill (state_after i st e) t
-  stays e leaves (unstarted is) = unstarted (leaves.owner ∙ is)
-  stays e leaves (ended is) = ended (leaves.over ∙ is)
-  stays e leaves (awaiting x) = awaiting (record {
+  -- a question is one still where its number, the session and the replies that were given are the same
+  asks_on : (e : Entry) → IsLawful i st e → (leaves : Leaves e) → IsAsking i st t → ((state_after i st e).threads t).number ≡ number → IsAsking i (state_after i st e) t
+  asks_on e lawful leaves x same =
+      let new : State = state_after i st e in
+      let pending : (new.threads t).pending ≡ Some x.entered = leaves.pending ∙ x.pending in
+      let undying : (new.threads t).dying ≡ false = leaves.dying ∙ x.undying in
+      let then : Reached i new = reached_behind i st reached e lawful in
+      let was : (st.messages number).answered ≡ true = question_answered i st number x.question in
+      let answered : (new.messages (new.threads t).number).answered ≡ true = subst (λ q. (new.messages q).answered ≡ true) (sym same) (answered_after_entry i st reached.whole number was e) in
+      let copies : snapshot_in new (new.threads t).number ≡ snapshot_in st number = ap (snapshot_in new) same ∙ copies_after i st reached.whole number was e lawful in
+      let is_open : is_open_question i new (snapshot_in new (new.threads t).number) ≡ true =
+      ap (is_open_question i new) copies ∙ open_by i st new leaves.session leaves.replied (snapshot_in st number)
+      ∙ (and_parts (is_live st number && (st.messages number).answered) (is_open_question i st (snapshot_in st number)) x.question).1 in
+      let live : is_live new (new.threads t).number ≡ true = ((held_live i new then).held t x.entered x.first pending x.way undying).live in record {
+        undying = undying;
+        entered = x.entered;
+        pending = pending;
+        first = x.first;
+        way = x.way;
+        unfaulted = then.whole.turns.sound (new.threads t).number answered;
+        question = and_from (is_live new (new.threads t).number && (new.messages (new.threads t).number).answered) (is_open_question i new (snapshot_in new (new.threads t).number))
+            (and_from (is_live new (new.threads t).number) (new.messages (new.threads t).number).answered live answered) is_open;
+      }
+
+  -- and one that is renewed waits for its answer again
+  asks_then : (e : Entry) → IsLawful i st e → (leaves : Leaves e) → IsAsking i st t → (((state_after i st e).threads t).number ≡ number) ⊎ IsUnmetIn (state_after i st e) ((state_after i st e).threads t).number → IsStill i (state_after i st e) t
+  asks_then e lawful leaves x (inl same) = asking (asks_on e lawful leaves x same)
+  asks_then e lawful leaves x (inr unmet) = awaiting (record {
+    undying = leaves.dying ∙ x.undying;
+    entered = x.entered;
+    pending = leaves.pending ∙ x.pending;
+    first = x.first;
+    way = x.way;
+    unfaulted = unmet.0;
+    unanswered = unmet.1;
+  })
+
+  stays : (e : Entry) → IsLawful i st e → Leaves e → IsStill i st t → IsStill i (state_after i st e) t
+  stays e lawful leaves (unstarted is) = unstarted (leaves.owner ∙ is)
+  stays e lawful leaves (ended is) = ended (leaves.over ∙ is)
+  stays e lawful leaves (awaiting x) = awaiting (record {
     undying = leaves.dying ∙ x.undying;
     entered = x.entered;
     pending = leaves.pending ∙ x.pending;
@@ -115,6 +176,7 @@ module _ (i : Input) (st : State) (reached : Reached i st) (t : ℕ) where
     unfaulted = leaves.unfaulted x;
     unanswered = leaves.unanswered x;
   })
+  stays e lawful leaves (asking x) = asks_then e lawful leaves x leaves.renewed
 
   -- ---- a call of another thread is entered
 
@@ -126,6 +188,9 @@ module _ (i : Input) (st : State) (reached : Reached i st) (t : ℕ) where
     pending = ap (λ b. cond b (Some (record { call = call; regs = regs; way = way; child = child_of_next (st.threads t).left })) (st.threads t).pending) other;
     unfaulted = λ x. ap (λ q. (st.messages q).fault) (number_same way) ∙ x.unfaulted;
     unanswered = λ x. ap (λ q. (st.messages q).answered) (number_same way) ∙ x.unanswered;
+    renewed = inl (number_same way);
+    session = refl;
+    replied = refl;
   } where
     number_same : (each : Way) → ((state_after i st (Entered u call regs each)).threads t).number ≡ number
     number_same Fast = refl
@@ -165,6 +230,10 @@ module _ (i : Input) (st : State) (reached : Reached i st) (t : ℕ) where
     unmet_then x (inl same) = subst IsUnmet (sym same) (x.unfaulted, x.unanswered)
     unmet_then x (inr high) = unmet_above (seq_after number changes) (omega (arith, high))
 
+    same_or_unmet : SameOrNew number (suc st.posted) changes → (seq_after number changes ≡ number) ⊎ IsUnmet (seq_after number changes)
+    same_or_unmet (inl same) = inl same
+    same_or_unmet (inr high) = inr (unmet_above (seq_after number changes) (omega (arith, high)))
+
     used_leaves : (u == t) ≡ false → Each IsCalm changes → IsUsed i st u seq call regs args ids result changes → Leaves (Used u seq call regs args ids result changes)
     used_leaves other calm y =
         let drawn : SameOrNew number (suc st.posted) changes = number_by (used_shape i st u call regs args ids result changes seq y) calm in record {
@@ -174,6 +243,9 @@ module _ (i : Input) (st : State) (reached : Reached i st) (t : ℕ) where
           pending = ap (λ b. cond b None (st.threads t).pending) other;
           unfaulted = λ x. (unmet_then x drawn).0;
           unanswered = λ x. (unmet_then x drawn).1;
+          renewed = same_or_unmet drawn;
+          session = refl;
+          replied = refl;
         }
 
   -- ---- every entry
@@ -188,6 +260,9 @@ module _ (i : Input) (st : State) (reached : Reached i st) (t : ℕ) where
     pending = ap (λ b. cond b None (st.threads t).pending) (ne_eqb u t other);
     unfaulted = λ x. x.unfaulted;
     unanswered = λ x. x.unanswered;
+    renewed = inl refl;
+    session = refl;
+    replied = refl;
   }
   leaves (Ended u) y other calm = record {
     owner = refl;
@@ -196,6 +271,9 @@ module _ (i : Input) (st : State) (reached : Reached i st) (t : ℕ) where
     pending = refl;
     unfaulted = λ x. x.unfaulted;
     unanswered = λ x. x.unanswered;
+    renewed = inl refl;
+    session = refl;
+    replied = refl;
   }
   leaves (Faulted q errno) y other calm = record {
     owner = refl;
@@ -204,6 +282,9 @@ module _ (i : Input) (st : State) (reached : Reached i st) (t : ℕ) where
     pending = refl;
     unfaulted = λ x. ap (λ b. cond b (Some errno) (st.messages number).fault) (other_number x q calm) ∙ x.unfaulted;
     unanswered = λ x. x.unanswered;
+    renewed = inl refl;
+    session = refl;
+    replied = refl;
   }
   leaves (Answered w s v applied) y other calm = record {
     owner = refl;
@@ -212,17 +293,32 @@ module _ (i : Input) (st : State) (reached : Reached i st) (t : ℕ) where
     pending = refl;
     unfaulted = λ x. x.unfaulted;
     unanswered = λ x. unanswered_by x s.seq applied calm;
+    renewed = inl refl;
+    session = refl;
+    replied = refl;
   }
-  leaves _ y other calm = record { owner = refl; over = refl; dying = refl; pending = refl; unfaulted = λ x. x.unfaulted; unanswered = λ x. x.unanswered }
+  leaves (Learned q n) y other calm = absurd (true≢false calm)
+  leaves (Replied q reply n) y other calm = absurd (true≢false calm)
+  leaves _ y other calm = record {
+    owner = refl;
+    over = refl;
+    dying = refl;
+    pending = refl;
+    unfaulted = λ x. x.unfaulted;
+    unanswered = λ x. x.unanswered;
+    renewed = inl refl;
+    session = refl;
+    replied = refl;
+  }
 
   -- a thread that is still stays so behind a lawful entry
-  pub still_behind : IsStill st t → (e : Entry) → IsLawful i st e → thread_of e ≢ t → wakes st e t ≡ false → IsStill (state_after i st e) t
-  still_behind still e lawful other calm = stays e (leaves e lawful other calm) still
+  pub still_behind : IsStill i st t → (e : Entry) → IsLawful i st e → thread_of e ≢ t → wakes st e t ≡ false → IsStill i (state_after i st e) t
+  still_behind still e lawful other calm = stays e lawful (leaves e lawful other calm) still
 
   -- and behind the entry that a choice adds
-  pub still_more : IsStill st t → (c : Choice) (e : Entry) → entry_of i st c ≡ Some e → thread_of e ≢ t → wakes st e t ≡ false → IsStill (state_after i st e) t
+  pub still_more : IsStill i st t → (c : Choice) (e : Entry) → entry_of i st c ≡ Some e → thread_of e ≢ t → wakes st e t ≡ false → IsStill i (state_after i st e) t
   still_more still c e is other calm = still_behind still e (lawful_entry i st reached c e is) other calm
 
-  -- where nobody is asked, it adds nothing behind the entry either
-  pub none_more : i.options.mode ≡ Enforce → thread_entry i st t ≡ None → (c : Choice) (e : Entry) → entry_of i st c ≡ Some e → thread_of e ≢ t → wakes st e t ≡ false → thread_entry i (state_after i st e) t ≡ None
-  none_more enforces none c e is other calm = still_none i (state_after i st e) t (still_more (none_still i st reached.whole enforces t none) c e is other calm)
+  -- so one that adds nothing adds nothing behind the entry either, unless the entry wakes it
+  pub none_more : 1 ≤ t → thread_entry i st t ≡ None → (c : Choice) (e : Entry) → entry_of i st c ≡ Some e → wakes st e t ≡ false → thread_entry i (state_after i st e) t ≡ None
+  none_more some none c e is calm = still_none i (state_after i st e) t (still_more (none_still i st reached.whole t none) c e is (others_add i st c e is t some none) calm)

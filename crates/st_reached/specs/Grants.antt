@@ -1,4 +1,4 @@
--- What policies keep to beside what the laws need of an input: a filter of a call that sets ids grants none.
+-- What policies and replies keep to beside what the laws need of an input: a filter of a call that sets ids grants none.
 use Rattle.std.specs.Prelude.{◌≡◌, Bool, true, false, List, None}
 use Rattle.std.specs.List.{All}
 use Rattle.st_calls.specs.declared.rule.Rule.{Rule}
@@ -7,6 +7,7 @@ use Rattle.st_filter.specs.Formula.{FilterValue}
 use Rattle.st_filter.specs.declared.filter.FilterName.{FilterName}
 use Rattle.st_filter.specs.declared.filter.FilterName.TheVariants as name
 use Rattle.st_filter.specs.declared.set.BinaryPolicy.{BinaryPolicy}
+use Rattle.st_filter.specs.declared.set.Reply.{Reply}
 use Rattle.st_law.specs.Schedules.{sets_ids}
 
 -- whether a rule judges calls that set ids
@@ -27,3 +28,7 @@ IsUngrantedForSetting filter = is_for_setting filter.name ≡ true → filter.gr
 -- no filter of these policies grants ids for a call that sets ids
 abbrev pub SetIdsUngranted : List BinaryPolicy → Type 0
 SetIdsUngranted policies = All (λ policy. All IsUngrantedForSetting policy.filters) policies
+
+-- no reply does either
+abbrev pub RepliesUngranted : List Reply → Type 0
+RepliesUngranted replies = All (λ reply. IsUngrantedForSetting reply.filter) replies

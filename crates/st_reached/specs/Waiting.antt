@@ -4,12 +4,12 @@ use Rattle.std.specs.List.{list_any}
 use Rattle.st_trace.specs.declared.entry.Change.{Change}
 use Rattle.st_trace.specs.declared.entry.Change.TheVariants.{Forked, Execed, Dying}
 use Rattle.st_trace.specs.declared.entry.Entry.{Entry}
-use Rattle.st_trace.specs.declared.entry.Entry.TheVariants.{Faulted, Answered, Used}
+use Rattle.st_trace.specs.declared.entry.Entry.TheVariants.{Faulted, Answered, Used, Learned, Replied}
 use Rattle.st_trace.specs.declared.entry.Way.TheVariants.{Held}
 use Rattle.st_law.specs.declared.input.Input.{Input}
 use Rattle.st_law.specs.Machine.{least_waiting}
 use Rattle.st_law.specs.Messages.{Head}
-use Rattle.st_law.specs.State.{State, is_worker, worker_at}
+use Rattle.st_law.specs.State.{State, is_question, is_worker, worker_at}
 use Rattle.st_law.specs.Threads.{PendingCall}
 
 -- ---- threads
@@ -24,11 +24,22 @@ pub record IsAwaiting (st : State) (t : ℕ) : Type 0 where
   pub unfaulted : (st.messages (st.threads t).number).fault ≡ None
   pub unanswered : (st.messages (st.threads t).number).answered ≡ false
 
--- a thread is still: it hasn't started, or it has ended, or it awaits what becomes of its held call
-pub data IsStill (st : State) (t : ℕ) : Type 0 where
-  unstarted : (st.threads t).owner ≡ 0 → IsStill st t
-  ended : (st.threads t).ended ≡ true → IsStill st t
-  awaiting : IsAwaiting st t → IsStill st t
+-- a thread that isn't dying holds a call that was answered, and that is a question for the operator
+pub record IsAsking (i : Input) (st : State) (t : ℕ) : Type 0 where
+  pub undying : (st.threads t).dying ≡ false
+  pub entered : PendingCall
+  pub pending : (st.threads t).pending ≡ Some entered
+  pub first : ℕ
+  pub way : entered.way ≡ Held first
+  pub unfaulted : (st.messages (st.threads t).number).fault ≡ None
+  pub question : is_question i st (st.threads t).number ≡ true
+
+-- a thread is still: it hasn't started, or it has ended, or it awaits what becomes of its held call, or what the operator answers
+pub data IsStill (i : Input) (st : State) (t : ℕ) : Type 0 where
+  unstarted : (st.threads t).owner ≡ 0 → IsStill i st t
+  ended : (st.threads t).ended ≡ true → IsStill i st t
+  awaiting : IsAwaiting st t → IsStill i st t
+  asking : IsAsking i st t → IsStill i st t
 
 -- ---- which threads an entry wakes
 
@@ -49,11 +60,13 @@ abbrev pub is_message_by : State → ℕ → ℕ → Bool
 is_message_by st t q = is_head_by t (st.messages q).head
 
 -- whether thread t, which is still, may go on behind an entry of another: a fault and an answer that is applied wake the thread of their
--- number, and a call wakes every thread where one of its changes does
+-- number, a call wakes every thread where one of its changes does, and so does each answer of the operator
 abbrev pub wakes : State → Entry → ℕ → Bool
 wakes st (Used u seq call regs args ids result changes) t = list_any wakes_all changes
 wakes st (Faulted q errno) t = is_message_by st t q
 wakes st (Answered w snapshot verdict applied) t = applied && is_message_by st t snapshot.seq
+wakes st (Learned q n) t = true
+wakes st (Replied q reply n) t = true
 wakes st _ t = false
 
 -- ---- workers

@@ -2,14 +2,13 @@ ghost use Rattle.std.specs.Prelude.{◌≡◌, ◌≢◌, ◌≤◌, ◌↔◌, 
 ghost use Rattle.st_trace.specs.declared.entry.Choice.{Choice};
 ghost use Rattle.st_trace.specs.declared.entry.Entry.{Entry};
 ghost use Rattle.st_law.specs.declared.input.Input.{Input};
-ghost use Rattle.st_law.specs.declared.input.Mode.TheVariants.{Enforce};
 ghost use Rattle.st_law.specs.Inputs.{IsStartable};
 ghost use Rattle.st_law.specs.Machine.{entry_of, state_after, state_of_run, thread_entry, worker_entry};
 ghost use Rattle.st_law.specs.Processes.{process_count};
 ghost use Rattle.st_law.specs.Schedules.{instruction_count};
 ghost use Rattle.st_law.specs.State.{is_live};
 ghost use Rattle.st_law.specs.Threads.{thread_of};
-ghost use Rattle.st_reached.specs.Grants.{SetIdsUngranted};
+ghost use Rattle.st_reached.specs.Grants.{RepliesUngranted, SetIdsUngranted};
 ghost use Rattle.st_reached.specs.Reached.{AllHeldLive, ForksStartNew, Owned, SetsOwnIds, life_after, most_numbers};
 ghost use Rattle.st_reached.specs.Scripts.{StartOnce};
 ghost use Rattle.st_reached.specs.Waiting.{IsStill, IsStillWorker, wakes};
@@ -44,22 +43,22 @@ pub fn a_fork_starts_a_new_thread()
     ensures { (input : Input) → IsStartable input → StartOnce input.start → (choices : List Choice) → ForksStartNew (state_of_run input choices) }
 {}
 
-/// A call that sets ids is made under its process's own ids, where no filter for it grants ids and what no filter decides is denied.
+/// A call that sets ids is made under its process's own ids, where no filter and no reply for it grants ids.
 pub fn own_ids_for_setting()
-    ensures { (input : Input) → IsStartable input → SetIdsUngranted input.policies → input.options.mode ≡ Enforce → (choices : List Choice) → SetsOwnIds input (state_of_run input choices) }
+    ensures { (input : Input) → IsStartable input → SetIdsUngranted input.policies → RepliesUngranted input.replies → (choices : List Choice) → SetsOwnIds input (state_of_run input choices) }
 {}
 
-/// A thread adds nothing exactly where it is still, in every state that a run reaches, where what no filter decides is denied: it hasn't
-/// started, or has ended, or holds a call whose message was neither faulted nor answered, and isn't dying.
+/// A thread adds nothing exactly where it is still, in every state that a run reaches: it hasn't started, or has ended, or isn't dying and
+/// holds a call whose message was neither faulted nor answered, or is a question for the operator.
 pub fn threads_that_are_still()
-    ensures { (input : Input) → IsStartable input → input.options.mode ≡ Enforce → (choices : List Choice) (t : ℕ) → (thread_entry input (state_of_run input choices) t ≡ None) ↔ IsStill (state_of_run input choices) t }
+    ensures { (input : Input) → IsStartable input → (choices : List Choice) (t : ℕ) → (thread_entry input (state_of_run input choices) t ≡ None) ↔ IsStill input (state_of_run input choices) t }
 {}
 
 /// A thread that is still stays so behind each entry that isn't its own and doesn't wake it, in every state that a run reaches: so it adds
 /// nothing behind it either.
 pub fn what_stays_still()
     ensures { (input : Input) → IsStartable input → (choices : List Choice) (c : Choice) (e : Entry) → entry_of input (state_of_run input choices) c ≡ Some e
-        → (t : ℕ) → IsStill (state_of_run input choices) t → thread_of e ≢ t → wakes (state_of_run input choices) e t ≡ false → IsStill (state_after input (state_of_run input choices) e) t }
+        → (t : ℕ) → IsStill input (state_of_run input choices) t → thread_of e ≢ t → wakes (state_of_run input choices) e t ≡ false → IsStill input (state_after input (state_of_run input choices) e) t }
 {}
 
 /// A worker adds nothing exactly where there is none of its number, or it is idle and no number waits, in every state that a run reaches.

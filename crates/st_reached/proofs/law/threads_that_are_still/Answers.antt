@@ -4,4 +4,4 @@ use Rattle.st_reached.proofs.Still.{none_still, still_none}
 use Rattle.st_reached.proofs.law.threads_that_are_still.Goals as goal
 
 pub returns : goal.returns
-returns c = λ input startable enforces choices t. (none_still input (state_of_run input choices) (reached_run input startable choices).whole enforces t, still_none input (state_of_run input choices) t)
+returns c = λ input startable choices t. (none_still input (state_of_run input choices) (reached_run input startable choices).whole t, still_none input (state_of_run input choices) t)
