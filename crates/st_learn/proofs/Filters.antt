@@ -1,7 +1,7 @@
 -- The filters of a policy and a rule, found by their places.
 use Rattle.std.proofs.Common.{◌≡◌, ◌≤◌, ◌<◌, ◌+◌, ◌∙◌, ◌++◌, ◌&&◌, ℕ, suc, zero, Bool, true, false, cond, List, [], ◌∷◌, length, map, filter, Option, Some, None, refl, ap, sym, subst, get_or, arith}
 use Rattle.std.proofs.lemmas.List.{append-nil, append_assoc}
-use Rattle.std.specs.Prelude.{slice_get}
+use Rattle.std.specs.Prelude.{◌-◌, ◌^◌, slice_get, IsSome}
 use Rattle.std.specs.Str.{bytes_eq}
 use Rattle.st_calls.specs.Rules.{same_rule}
 use Rattle.st_calls.specs.declared.rule.Rule.{Rule}
@@ -9,7 +9,8 @@ use Rattle.st_filter.specs.Formula.{FilterValue}
 use Rattle.st_law.specs.Sessions.{SessionFilter, session_filters}
 use Rattle.st_learn.specs.Learnt.{filters_added}
 use Rattle.st_learn.specs.Places.{GainsPlace, PolicyPlaces, places_in}
-use Rattle.st_learn.specs.Sessions.{is_of, places_from, places_of}
+use Rattle.st_learn.specs.Sessions.{is_of, places_from, places_of, IsMade}
+use Rattle.st_learn.specs.declared.session.Room.{Room}
 
 -- a filter of a session before others, where it is there and of a kind
 abbrev pub with_kind : (SessionFilter → Bool) → Option SessionFilter → List FilterValue → List FilterValue
@@ -134,3 +135,8 @@ pub added_places : (old new : List PolicyPlaces) (session : List SessionFilter) 
     → (policy : List ℕ) → places_in new policy ≡ places_of (session ++ kept ∷ []) policy
 added_places old new session kept n were gains is policy =
     gains policy ∙ (λ k. cond (bytes_eq kept.policy policy) (were policy k ++ n ∷ []) (were policy k)) ∙ places_added session kept policy n is
+
+-- room that was made keeps the number of filters within its bound
+pub made_few : (rows : List PolicyPlaces) (len capacity : ℕ) (o : Option Room) → IsSome o → IsMade rows len capacity o → len < 2 ^ 31 - 1
+made_few rows len capacity None some made = cc
+made_few rows len capacity (Some room) some made = made.2

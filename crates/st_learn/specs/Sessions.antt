@@ -1,5 +1,5 @@
 -- A session: its filters in order, and the room that is made ahead.
-use Rattle.std.specs.Prelude.{◌≡◌, ◌<◌, ℕ, suc, Bool, false, not, List, [], ◌∷◌, take, if◌then◌else◌, Option, Some, None}
+use Rattle.std.specs.Prelude.{◌≡◌, ◌<◌, ◌-◌, ◌^◌, ℕ, suc, Bool, false, not, List, [], ◌∷◌, take, if◌then◌else◌, Option, Some, None}
 use Rattle.std.specs.List.{list_any}
 use Rattle.std.specs.Str.{bytes_eq}
 use Rattle.st_calls.specs.declared.rule.Rule.{Rule}
@@ -50,9 +50,10 @@ is_first_at session place (Some kept) = not (list_any (is_of kept.policy) (take 
 -- the room that was made is there, among the filters and among the places
 abbrev pub IsMade : List PolicyPlaces → ℕ → ℕ → Option Room → Type 0
 IsMade rows len capacity None = Unit {0}
-IsMade rows len capacity (Some room) = HasRoom rows room.policy × (len < capacity)
+IsMade rows len capacity (Some room) = HasRoom rows room.policy × (len < capacity) × (len < 2 ^ 31 - 1)
 
--- the places of each policy are those of its filters, and the room that was made is there
+-- the places of each policy are those of its filters, the room that was made is there, and numbers of filters stay within 32 bits
 pub record IsSession (filters : List SessionFilter) (len capacity : ℕ) (rows : List PolicyPlaces) (room : Option Room) : Type 0 where
   pub places : (policy : List ℕ) → places_in rows policy ≡ places_of filters policy
   pub made : IsMade rows len capacity room
+  pub few : len < 2 ^ 31

@@ -1,56 +1,13 @@
 // What a session's filters say of calls.
-ghost use Rattle.std.specs.Prelude.{◌≡◌, ◌+◌, ◌<◌, ◌≤◌, ◌^◌, suc, length, option_map, slice_get};
-ghost use Rattle.st_filter.specs.Fast.{fast_answer};
-ghost use Rattle.st_filter.specs.Judging.{granted, verdict_by, verdict_from};
+ghost use Rattle.std.specs.Prelude.{◌≡◌, ◌++◌, ◌+◌, ◌<◌, ◌≤◌, ◌^◌, suc, length};
+ghost use Rattle.st_filter.specs.Fast.{first_answer};
+ghost use Rattle.st_filter.specs.Judging.{verdict_from};
 ghost use Rattle.st_filter.specs.Policies.{filters_of, read_filters};
-ghost use Rattle.st_law.specs.Sessions.{decision, session_filters};
+ghost use Rattle.st_law.specs.Sessions.{session_filters};
 
 use crate::session::Session;
-use st_base::Ids;
 use st_calls::{FastAnswer, Rule, Snapshot, Verdict};
-use st_filter::{Action, Expr, Filter, Grant, Policy, PolicySet, decide, holds};
-
-// The ids of a call under a grant.
-fn granted(grant: Option<Grant>, ids: Ids) -> Ids
-    ensures { result ≡ granted grant ids }
-{
-    match grant {
-        None => ids,
-        Some(grant) => Ids {
-            euid: grant.user.unwrap_or(ids.euid),
-            egid: grant.group.unwrap_or(ids.egid),
-            ..ids
-        },
-    }
-}
-
-// What the filter of this number says; one that asks decides nothing.
-fn verdict_of(filter: &Filter, number: u32, ids: Ids) -> Verdict
-    ensures { result ≡ verdict_by number filter.now.grant ids filter.now.action }
-{
-    match filter.action() {
-        Action::Permit => Verdict::Permit(number, granted(filter.grant(), ids)),
-        Action::Deny(errno) => Verdict::Refuse(number, errno),
-        Action::Ask => Verdict::Unmatched,
-    }
-}
-
-// What the kernel answers by itself where this filter is the first of its rule.
-fn fast_answer(filter: &Filter) -> FastAnswer
-    ensures { result ≡ fast_answer filter.now }
-{
-    if filter.log() || filter.predicate().is_some() {
-        return FastAnswer::Ask;
-    }
-    if !matches!(filter.expr(), Expr::True) {
-        return FastAnswer::Ask;
-    }
-    match (filter.action(), filter.grant()) {
-        (Action::Permit, None) => FastAnswer::Permit,
-        (Action::Deny(errno), _) => FastAnswer::Refuse(errno),
-        _ => FastAnswer::Ask,
-    }
-}
+use st_filter::{Policy, PolicySet, fast_answer, holds, verdict_of};
 
 // How many filters a policy has for a rule.
 fn read_count(policy: &Policy, rule: Rule) -> usize
@@ -65,10 +22,9 @@ fn read_count(policy: &Policy, rule: Rule) -> usize
 }
 
 impl Session {
-    /// What the session's filters say of a held call, by the copies of its arguments: as the first for its policy and rule that holds
-    /// says, of filters numbered on behind so many that were read.
-    pub fn verdict(&self, read: u32, copies: &Snapshot) -> Verdict
-        requires { read + length self.now.filters < 2 ^ 32 }
+    // What the session's filters say, numbered on behind so many that were read.
+    fn verdict_from(&self, read: u32, copies: &Snapshot) -> Verdict
+        requires { read < 2 ^ 31 }
         ensures { result ≡ verdict_from (suc read) (session_filters self.now.filters copies.now.policy copies.now.rule) copies.now }
     {
         let mut number = read;
@@ -84,21 +40,26 @@ impl Session {
         Verdict::Unmatched
     }
 
-    /// What decides on a held call: the filters that were read, and where these don't, those of the session.
-    pub fn decision(&self, policies: &PolicySet, copies: &Snapshot) -> Verdict
-        requires { length self.now.filters < 2 ^ 31 }
-        ensures { result ≡ decision (read_filters policies.now copies.now.policy copies.now.rule) (session_filters self.now.filters copies.now.policy copies.now.rule) copies.now }
+    /// What the session's filters say of a held call on which those that were read don't decide, by the copies of its arguments: as the first
+    /// for its policy and rule that holds says, of filters that are numbered on behind those that were read.
+    pub fn verdict(&self, policies: &PolicySet, copies: &Snapshot) -> Verdict
+        ensures { result ≡ verdict_from (suc (length (read_filters policies.now copies.now.policy copies.now.rule))) (session_filters self.now.filters copies.now.policy copies.now.rule) copies.now }
     {
         let policy = policies.get(copies.policy.bytes());
-        match decide(policy, copies) {
-            Verdict::Unmatched => self.verdict(read_count(policy, copies.rule) as u32, copies),
-            decided => decided,
-        }
+        self.verdict_from(read_count(policy, copies.rule) as u32, copies)
+    }
+
+    /// The number that the next filter for a policy and a rule has, behind those that were read and those of the session.
+    pub fn next_number(&self, policies: &PolicySet, policy: &[u8], rule: Rule) -> u32
+        ensures { result ≡ suc (length (read_filters policies.now policy.now rule ++ session_filters self.now.filters policy.now rule)) }
+    {
+        let read = read_count(policies.get(policy), rule);
+        (read + self.count_of(policy, rule)) as u32 + 1
     }
 
     /// What the kernel answers by itself by the session's first filter for a policy and a rule; none where the session has none.
     pub fn first_answer(&self, policy: &[u8], rule: Rule) -> Option<FastAnswer>
-        ensures { result ≡ option_map fast_answer (slice_get (session_filters self.now.filters policy.now rule) 0) }
+        ensures { result ≡ first_answer (session_filters self.now.filters policy.now rule) }
     {
         for place in self.places_of(policy) {
             let kept = self.kept(*place);

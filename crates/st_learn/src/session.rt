@@ -1,4 +1,4 @@
-ghost use Rattle.std.specs.Prelude.{◌≡◌, ◌<◌, [], ◌∷◌, ◌++◌, length, slice_get, Some, None, IsSome, IfSome, OnOk, OnErr};
+ghost use Rattle.std.specs.Prelude.{◌≡◌, ◌<◌, ◌^◌, [], ◌∷◌, ◌++◌, length, slice_get, Some, None, IsSome, IfSome, OnOk, OnErr};
 ghost use Rattle.st_law.specs.Sessions.{session_filters};
 ghost use Rattle.st_learn.specs.Sessions.{is_first_at, kept_in, places_of, room_for, session_with};
 
@@ -9,6 +9,9 @@ use st_calls::Rule;
 use st_filter::Filter;
 use std::alloc::{AllocError, Global};
 use std::marker::Model;
+
+// So many filters are the most, so that the number of each has 32 bits.
+const MOST_KEPT: usize = 0x7fff_ffff;
 
 /// Room for one more filter, for this policy and rule.
 #[derive(Debug, Drop)]
@@ -56,11 +59,14 @@ impl Session {
     }
 
     /// Makes room for one more filter of a policy and a rule, in place of the room that was made before. Without memory all is as
-    /// before.
+    /// before; a session of `MOST_KEPT` filters takes no more either.
     pub fn reserve(&mut self, alloc: Global, policy: &[u8], rule: Rule) -> Result<(), AllocError>
         ensures ok { OnOk result (self.new ≡ session_with self.old.filters (room_for policy.now rule)) }
         ensures err { OnErr result (self.new ≡ self.old) }
     {
+        if self.kept.len() >= MOST_KEPT {
+            return Err(AllocError);
+        }
         let room = Room {
             policy: Text::of(alloc, policy)?,
             rule,
@@ -101,7 +107,8 @@ impl Session {
 
     /// The places of a policy's filters among all, from 0, in order.
     pub fn places_of(&self, policy: &[u8]) -> &[usize]
-        ensures { result.now ≡ places_of self.now.filters policy.now }
+        ensures few { length result.now < 2 ^ 31 }
+        ensures is { result.now ≡ places_of self.now.filters policy.now }
     {
         self.places.of(policy)
     }
@@ -117,9 +124,10 @@ impl Session {
         }
     }
 
-    /// How many filters there are for a policy and a rule.
-    pub fn count_of(&self, policy: &[u8], rule: Rule) -> usize
-        ensures { result ≡ length (session_filters self.now.filters policy.now rule) }
+    // How many filters there are for a policy and a rule.
+    pub(crate) fn count_of(&self, policy: &[u8], rule: Rule) -> usize
+        ensures few { result < 2 ^ 31 }
+        ensures is { result ≡ length (session_filters self.now.filters policy.now rule) }
     {
         let mut count = 0;
         for place in self.places_of(policy) {

@@ -6,12 +6,12 @@ use Rattle.st_learn.proofs.print.append_added.Goals as goal
 
 pub loop-place-init : goal.loop-place-init
 loop-place-init c = record {
-  items = c.places_of-place-items.ensures;
-  written = ap (λ fs. c.args.out.now ++ rows_text fs) (added_found c.args.session.now.filters c.args.policy.now c.places_of-place-items.result.now c.places_of-place-items.ensures);
+  items = c.places_of-place-items.ensures.is;
+  written = ap (λ fs. c.args.out.now ++ rows_text fs) (added_found c.args.session.now.filters c.args.policy.now c.places_of-place-items.result.now c.places_of-place-items.ensures.is);
 }
 
 pub kept-requires : goal.kept-requires
-kept-requires c = item_inside c.args.session.now.filters c.args.policy.now c.places_of-place-items.result.now c.loop-place.place-index 0 c.places_of-place-items.ensures c.loop-place-test.true
+kept-requires c = item_inside c.args.session.now.filters c.args.policy.now c.places_of-place-items.result.now c.loop-place.place-index 0 c.places_of-place-items.ensures.is c.loop-place-test.true
 
 pub loop-place-preserved : goal.loop-place-preserved
 loop-place-preserved c = record {

@@ -3,7 +3,7 @@ use Rattle.st_filter.specs.Judging.{verdict_from}
 use Rattle.st_law.specs.Sessions.{session_filters}
 use Rattle.st_learn.specs.Sessions.{places_of}
 use Rattle.st_learn.proofs.Filters.{filters_at, is_of_rule}
-use Rattle.st_learn.proofs.session.Session.verdict.Given as goal
+use Rattle.st_learn.proofs.session.Session.verdict_from.Given as goal
 
 -- what is left gives the verdict, by its number
 abbrev pub invariant-loop-place : goal.invariant-loop-place
