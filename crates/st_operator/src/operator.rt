@@ -1,0 +1,203 @@
+ghost use Rattle.std.specs.Prelude.{◌≡◌, ◌++◌, ◌∷◌, [], suc, true, length, Some, None, IfOk, OnOk, OnErr};
+ghost use Rattle.st_filter.specs.Fast.{first_answer};
+ghost use Rattle.st_filter.specs.Judging.{verdict_from};
+ghost use Rattle.st_filter.specs.Policies.{read_filters};
+ghost use Rattle.st_law.specs.Machine.{first_state, question_entry, state_after};
+ghost use Rattle.st_law.specs.Sessions.{is_reply_for, kept_for, session_filters};
+ghost use Rattle.st_law.specs.State.{State, snapshot_in};
+ghost use Rattle.st_law.specs.declared.input.Input.{Input};
+ghost use Rattle.st_law.specs.declared.input.Mode.TheVariants.{AskText, Learn};
+ghost use Rattle.st_trace.specs.declared.entry.Entry.TheVariants.{Learned, Replied};
+ghost use Rattle.st_operator.specs.Operator.{answers, next_left, IsAdded};
+
+use st_calls::{FastAnswer, Rule, Snapshot, Verdict};
+use st_filter::{Filter, PolicySet, Reply};
+use st_law::{Input, Mode};
+use st_learn::{Session, learnt_filter};
+use st_trace::Entry;
+use std::alloc::{AllocError, Global};
+use std::marker::Model;
+
+// So many replies are too many for their numbers.
+const MOST_REPLIES: usize = 0xffff_ffff;
+
+/// What the operator has added to a run: the filters of the session, and which of the script's replies were given.
+#[derive(Debug, Drop)]
+pub struct Operator {
+    session: Session,
+    // Reply n stands at n - 1.
+    given: Vec<bool>,
+}
+
+impl Model for Operator {
+    ghost use Rattle.std.specs.Coded.{codes};
+    ghost use Rattle.st_filter.specs.FormulaCode.{formula_code};
+    ghost use Rattle.std.specs.Prelude.{◌<◌, ◌-◌, ◌^◌, length};
+    ghost use Rattle.st_operator.specs.Operator.{Added};
+
+    ghost Value = { Added };
+
+    ghost coded = { Prim.hlevel (codes, formula_code) };
+
+    ghost view = { λ o. record { filters = o.session.filters; given = o.given.items } };
+
+    ghost invariant = { λ o. length o.given.items < 2 ^ 32 - 1 };
+}
+
+// Whether a reply is for a policy and a rule.
+fn is_for(reply: &Reply, policy: &[u8], rule: Rule) -> bool
+    ensures { result ≡ is_reply_for policy.now rule (Some reply.now) }
+{
+    reply.binary.bytes() == policy && reply.filter.is_for(rule)
+}
+
+impl Operator {
+    /// Nothing learnt, and none of these replies given. More replies than have a number of 32 bits are taken as want of memory.
+    pub fn new(alloc: Global, replies: &[Reply]) -> Result<Self, AllocError>
+        ensures law { IfOk result (λ operator. (input : Input) → input.replies ≡ replies.now → IsAdded input (first_state input) operator) }
+    {
+        if replies.len() >= MOST_REPLIES {
+            return Err(AllocError);
+        }
+        Ok(Operator {
+            session: Session::new(alloc),
+            given: replies.iter().map(|_| false).collect(alloc)?,
+        })
+    }
+
+    /// What the kernel answers by itself by the session's first filter for a policy and a rule; none where the session has none.
+    pub fn first_answer(&self, policy: &[u8], rule: Rule) -> Option<FastAnswer>
+        ensures { result ≡ first_answer (session_filters self.now.filters policy.now rule) }
+    {
+        self.session.first_answer(policy, rule)
+    }
+
+    /// What the session's filters say of a held call on which the filters that were read don't decide, by the copies of its arguments.
+    pub fn verdict(&self, policies: &PolicySet, copies: &Snapshot) -> Verdict
+        ensures { result ≡ verdict_from (suc (length (read_filters policies.now copies.now.policy copies.now.rule))) (session_filters self.now.filters copies.now.policy copies.now.rule) copies.now }
+    {
+        self.session.verdict(policies, copies)
+    }
+
+    // The number of the first reply for a policy and a rule that was not given yet.
+    fn next_reply(&self, replies: &[Reply], policy: &[u8], rule: Rule) -> Option<u32>
+        requires { length self.now.given ≡ length replies.now }
+        ensures { result ≡ next_left replies.now self.now.given policy.now rule }
+    {
+        for i in 0..replies.len() {
+            if is_for(&replies[i], policy, rule) && !self.given[i] {
+                return Some(i as u32 + 1);
+            }
+        }
+        None
+    }
+
+    /// Whether the operator answers for a held call on which no filter decides, by the copies of its arguments: each is learnt, or there is a
+    /// reply left for its policy and rule, as the mode says.
+    pub fn answers(&self, input: &Input, copies: &Snapshot) -> bool
+        requires { length self.now.given ≡ length input.now.replies }
+        ensures { result ≡ answers input.now self.now copies.now }
+    {
+        match input.options.mode {
+            Mode::Enforce => false,
+            Mode::Learn => true,
+            Mode::AskText => self
+                .next_reply(input.replies.as_slice(), copies.policy.bytes(), copies.rule)
+                .is_some(),
+        }
+    }
+
+    // Keeps a filter for the policy and the rule of these copies, and gives its number. Without memory nothing changes.
+    fn keep(
+        &mut self,
+        alloc: Global,
+        policies: &PolicySet,
+        copies: &Snapshot,
+        filter: Filter,
+    ) -> Result<u32, AllocError>
+        ensures number { IfOk result (λ number. number ≡ suc (length (read_filters policies.now copies.now.policy copies.now.rule ++ session_filters self.old.filters copies.now.policy copies.now.rule))) }
+        ensures filters { OnOk result (self.new.filters ≡ self.old.filters ++ kept_for filter copies.now ∷ []) }
+        ensures given { self.new.given ≡ self.old.given }
+        ensures err { OnErr result (self.new ≡ self.old) }
+    {
+        let policy = copies.policy.bytes();
+        let number = self.session.next_number(policies, policy, copies.rule);
+        self.session.reserve(alloc, policy, copies.rule)?;
+        self.session.add(filter);
+        Ok(number)
+    }
+
+    // Keeps the filter that these copies teach.
+    fn learn(
+        &mut self,
+        alloc: Global,
+        input: &Input,
+        copies: &Snapshot,
+    ) -> Result<Entry, AllocError>
+        requires { input.now.options.mode ≡ Learn }
+        ensures law { IfOk result (λ entry. (st : State) → IsAdded input.now st self.old → snapshot_in st copies.now.seq ≡ Some copies.now →
+            (question_entry input.now st copies.now.seq copies.now Learn ≡ Some entry) × IsAdded input.now (state_after input.now st entry) self.new) }
+        ensures count { self.new.given ≡ self.old.given }
+        ensures err { OnErr result (self.new ≡ self.old) }
+    {
+        let filter = learnt_filter(alloc, copies)?;
+        let number = self.keep(alloc, &input.policies, copies, filter)?;
+        Ok(Entry::Learned {
+            seq: copies.seq,
+            number,
+        })
+    }
+
+    // Keeps the filter of the next reply for these copies.
+    fn reply(
+        &mut self,
+        alloc: Global,
+        input: &Input,
+        copies: &Snapshot,
+        reply: u32,
+    ) -> Result<Entry, AllocError>
+        requires count { length self.old.given ≡ length input.now.replies }
+        requires next { next_left input.now.replies self.old.given copies.now.policy copies.now.rule ≡ Some reply }
+        ensures law { IfOk result (λ entry. (st : State) → IsAdded input.now st self.old → snapshot_in st copies.now.seq ≡ Some copies.now →
+            (question_entry input.now st copies.now.seq copies.now AskText ≡ Some entry) × IsAdded input.now (state_after input.now st entry) self.new) }
+        ensures err { OnErr result (self.new ≡ self.old) }
+    {
+        let place = reply as usize - 1;
+        let filter = input.replies.as_slice()[place].filter.copy(alloc)?;
+        let number = self.keep(alloc, &input.policies, copies, filter)?;
+        self.given[place] = true;
+        Ok(Entry::Replied {
+            seq: copies.seq,
+            reply,
+            number,
+        })
+    }
+
+    /// Answers the question of the call with these copies, as the mode says, and gives the entry that this adds. Without memory nothing
+    /// changes.
+    pub fn answer(
+        &mut self,
+        alloc: Global,
+        input: &Input,
+        copies: &Snapshot,
+    ) -> Result<Entry, AllocError>
+        requires count { length self.old.given ≡ length input.now.replies }
+        requires answers { answers input.now self.old copies.now ≡ true }
+        ensures law { IfOk result (λ entry. (st : State) → IsAdded input.now st self.old → snapshot_in st copies.now.seq ≡ Some copies.now →
+            (question_entry input.now st copies.now.seq copies.now input.now.options.mode ≡ Some entry) × IsAdded input.now (state_after input.now st entry) self.new) }
+        ensures err { OnErr result (self.new ≡ self.old) }
+    {
+        match input.options.mode {
+            Mode::Enforce => unreachable!(),
+            Mode::Learn => self.learn(alloc, input, copies),
+            Mode::AskText => {
+                let replies = input.replies.as_slice();
+                let Some(reply) = self.next_reply(replies, copies.policy.bytes(), copies.rule)
+                else {
+                    unreachable!()
+                };
+                self.reply(alloc, input, copies, reply)
+            }
+        }
+    }
+}
