@@ -12,6 +12,7 @@ use Rattle.st_workers.specs.UnderWay.{UnderWay}
 use Rattle.st_workers.proofs.Turns.{item_put, number_within}
 use Rattle.st_machine.specs.Machine.{IsMachine, Running}
 use Rattle.st_machine.specs.Thread.{ThreadRow, IsRow, IsRowOf}
+use Rattle.st_operator.proofs.Replies.{added_stands}
 use Rattle.st_machine.proofs.Reached.{reached_more}
 
 -- the rows are those of these threads
@@ -52,9 +53,9 @@ rows_changed rows old new u before row there far is are t =
 
 -- what runs, with other parts
 abbrev pub with_parts : Running → Parts → UnderWay → List ThreadRow → Running
-with_parts m system workers threads = record { input = m.input; system = system; workers = workers; threads = threads; answers = m.answers }
+with_parts m system workers threads = record { input = m.input; system = system; workers = workers; threads = threads; answers = m.answers; operator = m.operator }
 
-module _ (m : Running) (st : State) (is : IsMachine m st) (c : Choice) (e : Entry) (entry : entry_of m.input st c ≡ Some e) (keeps : (state_after m.input st e).session ≡ st.session) where
+module _ (m : Running) (st : State) (is : IsMachine m st) (c : Choice) (e : Entry) (entry : entry_of m.input st c ≡ Some e) (keeps : (state_after m.input st e).session ≡ st.session) (gives : (state_after m.input st e).replied ≡ st.replied) where
   pub behind : (system : Parts) (workers : UnderWay) (threads : List ThreadRow)
       → IsSystem m.input (state_after m.input st e) system → IsKept m.input (state_after m.input st e) (is_live (state_after m.input st e)) workers
       → AreRows threads (state_after m.input st e).threads → length threads ≡ length m.threads → IsMachine (with_parts m system workers threads) (state_after m.input st e)
@@ -62,11 +63,11 @@ module _ (m : Running) (st : State) (is : IsMachine m st) (c : Choice) (e : Entr
     reached = reached_more m.input st is.reached c e entry;
     bounded = is.bounded;
     ungranted = is.ungranted;
-    enforces = is.enforces;
+    replies = is.replies;
     system = is_system;
     workers = is_kept;
     threads = are;
     count = same ∙ is.count;
-    session = keeps ∙ is.session;
     answers = is.answers;
+    operator = added_stands m.input st (state_after m.input st e) m.operator keeps gives is.operator;
   }

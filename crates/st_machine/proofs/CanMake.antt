@@ -75,7 +75,7 @@ module _ (m : Running) (st : State) (is : IsMachine m st) (t pid : ℕ) (made : 
   -- a call that sets ids is made under its process's own
   own_ids : schedules.sets_ids made.call ≡ true → made.ids ≡ (process_at m.system.processes pid).ids
   own_ids sets =
-      let setting : SetsOwnIds m.input st = in_run (SetsOwnIds m.input) (sets_own_ids m.input is.reached.startable is.ungranted is.enforces is.reached.choices) in
+      let setting : SetsOwnIds m.input st = in_run (SetsOwnIds m.input) (sets_own_ids m.input is.reached.startable is.ungranted is.replies is.reached.choices) in
       let outcome = now m st is t pid made next process row row_is in
       setting.own t made.seq made.call made.regs made.args made.ids outcome.result outcome.changes (used m st is t pid made next process row row_is) sets
       ∙ ap (λ (p : ℕ). (st.processes p).ids) (owner_is m st is t pid process) ∙ ap (λ (p : Process). p.ids) (is.system.processes pid)

@@ -1,27 +1,14 @@
--- Choices that are never enabled: workers that aren't there, and the operator where nobody is asked.
+-- Choices that are never enabled: workers that aren't there.
 use native.Mathlib.Omega.{arith}
-use Rattle.std.proofs.Common.{◌≡◌, ◌<◌, ◌∙◌, ◌&&◌, ℕ, Bool, true, false, cond, Option, Some, None, inl, inr, refl, ap}
+use Rattle.std.proofs.Common.{◌≡◌, ◌<◌, ◌∙◌, ◌&&◌, ℕ, Bool, true, false, cond, None, inl, inr, refl, ap}
 use Rattle.std.proofs.lemmas.Bool.Decides.{leb_tells}
 use Rattle.std.specs.Prelude.{nat_le, nat_lt}
-use Rattle.st_calls.specs.declared.judged.Snapshot.{Snapshot}
-use Rattle.st_law.specs.Machine.{asked_entry, entry_of, least_question, operator_entry, question_entry, turn_entry}
-use Rattle.st_law.specs.State.{State, is_worker, snapshot_in, worker_at}
+use Rattle.st_law.specs.Machine.{entry_of, turn_entry}
+use Rattle.st_law.specs.State.{State, is_worker, worker_at}
 use Rattle.st_trace.specs.declared.entry.Choice.TheVariants as choice
 use Rattle.st_machine.specs.Machine.{IsMachine, Running}
 
 module _ (m : Running) (st : State) (is : IsMachine m st) where
-  by_copies : (q : ℕ) (o : Option Snapshot) → asked_entry m.input st q o ≡ None
-  by_copies q None = refl
-  by_copies q (Some s) = ap (question_entry m.input st q s) is.enforces
-
-  by_question : (o : Option ℕ) → operator_entry m.input st o ≡ None
-  by_question None = refl
-  by_question (Some q) = by_copies q (snapshot_in st q)
-
-  -- the operator isn't asked
-  pub none_asked : entry_of m.input st choice.Operator ≡ None
-  none_asked = by_question (least_question m.input st)
-
   absent : (w : ℕ) → is_worker m.input w ≡ false → entry_of m.input st (choice.Worker w) ≡ None
   absent w e = ap (λ (b : Bool). cond b (turn_entry m.input st w (worker_at st w)) None) e
 

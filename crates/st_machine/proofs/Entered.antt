@@ -77,7 +77,7 @@ module _ (m : Running) (t : ℕ) (call : SysCall) (regs : List ℕ) (next : IsNe
       let e = Entered t call regs Fast in
       let entry = entered_entry_is m t call regs next Fast goes st is in (
         entry,
-        behind m st is (choice.Thread t) e entry refl m.system m.workers (set m.threads (t - 1) (row_entered row call regs Fast))
+        behind m st is (choice.Thread t) e entry refl refl m.system m.workers (set m.threads (t - 1) (row_entered row call regs Fast))
             (same_system m.input st (state_after m.input st e) m.system refl refl refl refl refl refl (λ u. refl) (λ u. refl) is.system) is.workers
             (rows m t call regs next Fast goes st is row row_is (λ u ne. refl) (λ q e. absurd (none-some q (sym (either_none row.dying) ∙ e)))) (length-set m.threads (t - 1) _),
       )
@@ -85,7 +85,7 @@ module _ (m : Running) (t : ℕ) (call : SysCall) (regs : List ℕ) (next : IsNe
       let e = Entered t call regs (Barred n) in
       let entry = entered_entry_is m t call regs next (Barred n) goes st is in (
         entry,
-        behind m st is (choice.Thread t) e entry refl m.system m.workers (set m.threads (t - 1) (row_entered row call regs (Barred n)))
+        behind m st is (choice.Thread t) e entry refl refl m.system m.workers (set m.threads (t - 1) (row_entered row call regs (Barred n)))
             (same_system m.input st (state_after m.input st e) m.system refl refl refl refl refl refl (λ u. refl) (λ u. refl) is.system) is.workers
             (rows m t call regs next (Barred n) goes st is row row_is (λ u ne. refl) (λ q e. absurd (none-some q (sym (either_none row.dying) ∙ e)))) (length-set m.threads (t - 1) _),
       )
@@ -93,7 +93,7 @@ module _ (m : Running) (t : ℕ) (call : SysCall) (regs : List ℕ) (next : IsNe
       let e = Entered t call regs Untraced in
       let entry = entered_entry_is m t call regs next Untraced goes st is in (
         entry,
-        behind m st is (choice.Thread t) e entry refl m.system m.workers (set m.threads (t - 1) (row_entered row call regs Untraced))
+        behind m st is (choice.Thread t) e entry refl refl m.system m.workers (set m.threads (t - 1) (row_entered row call regs Untraced))
             (same_system m.input st (state_after m.input st e) m.system refl refl refl refl refl refl (λ u. refl) (λ u. refl) is.system) is.workers
             (rows m t call regs next Untraced goes st is row row_is (λ u ne. refl) (λ q e. absurd (none-some q (sym (either_none row.dying) ∙ e)))) (length-set m.threads (t - 1) _),
       )
@@ -120,7 +120,7 @@ module _ (m : Running) (t : ℕ) (call : SysCall) (regs : List ℕ) (next : IsNe
       let life : ChangesLife (is_live st) (suc st.posted) true later = subst (λ (n : ℕ). ChangesLife (is_live st) n true later) drawn (λ other. held_life m.input st (reached_of m.input st is.reached) t q call regs law other) in
       let after = posts m.input st (is_live st) later call regs is.workers (is_head st is) life in (
         entry,
-        behind m st is (choice.Thread t) e entry refl m.system workers (set m.threads (t - 1) (row_entered row call regs (Held q)))
+        behind m st is (choice.Thread t) e entry refl refl m.system workers (set m.threads (t - 1) (row_entered row call regs (Held q)))
             (same_system m.input st (state_after m.input st e) m.system refl refl refl refl refl refl (λ u. refl) (λ u. refl) is.system)
             (subst (λ (n : ℕ). IsKeptAfter m.input st (Entered t call regs (Held n)) later workers) (sym drawn) after)
             (rows m t call regs next (Held q) goes st is row row_is (λ u ne. ap (λ (b : Bool). cond b q (st.threads u).number) (ne_eqb t u (λ e. ne (sym e)))) (λ p e. ap (λ (b : Bool). cond b q (st.threads t).number) (eq-eqb t t refl) ∙ (holds (row_entered row call regs (Held q)) p e).number)) (length-set m.threads (t - 1) _),

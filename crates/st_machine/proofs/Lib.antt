@@ -1,7 +1,8 @@
 mod After
+mod Asked
 mod Begun
 mod CanMake
-pub mod Choices
+mod Choices
 mod Enabling
 mod Entered
 mod Fits
@@ -11,6 +12,7 @@ mod MadeSteps
 mod Moving
 mod NextSteps
 mod Planned
+mod Questions
 mod Reached
 mod Renewed
 mod RenewedLaw

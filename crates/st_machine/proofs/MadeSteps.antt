@@ -303,7 +303,7 @@ module _ (m : Running) (st : State) (is : IsMachine m st) (t pid : ℕ) (made : 
         let messages : (q : ℕ) → (state_after input st entry).messages q ≡ record (st.messages q) { closed = ((state_after input st entry).messages q).closed } =
         λ q k. record ((state_after input st entry).messages q) { head = head_mute (λ p. (st.messages p).head) (process_after st.processes (st.threads t).owner (st.threads t).owner changes) q changes ends.mute k } in
         let posted : (state_after input st entry).posted ≡ st.posted = posted_mute st.posted changes ends.mute in
-        behind m st is (choice.Thread t) entry entry_is refl parts left new is_system
+        behind m st is (choice.Thread t) entry entry_is refl refl parts left new is_system
         (subst (λ (n : ℕ). AreKept input (state_after input st entry).messages st.turns later n left) (sym posted) (closing_is_not_kept input st.messages (state_after input st entry).messages st.turns later st.posted left kept messages))
         (λ u. subst (λ (o : Option ThreadRow). IsRowOf o (thread_after st entry u)) (sym (over.rows u)) (row_then u (item_at_number closed u) refl))
         (over.count ∙ length-set m.threads (t - 1) _)

@@ -90,7 +90,7 @@ module _ (m : Running) (t : ℕ) (next : IsNext m t steps.End) where
       let rows = rows_changed m.threads st.threads (thread_after st (Ended t)) t row (record row { ended = true }) row_is
       (λ u ne. record { left = refl; pending = refl; number = refl; dying = refl; ended = ap (λ (b : Bool). b || (st.threads u).ended) (ne_eqb t u (λ e. ne (sym e))) })
       (record { left = its.left; pending = its.pending; number = its.number; dying = its.dying; ended = ap (λ (b : Bool). b || (st.threads t).ended) (eq-eqb t t refl) }) is.threads in
-      (next st is, behind m st is (choice.Thread t) (Ended t) (next st is) refl system m.workers (set m.threads (t - 1) (record row { ended = true })) (moves m.input st is.system) is.workers rows (length-set m.threads (t - 1) _))
+      (next st is, behind m st is (choice.Thread t) (Ended t) (next st is) refl refl system m.workers (set m.threads (t - 1) (record row { ended = true })) (moves m.input st is.system) is.workers rows (length-set m.threads (t - 1) _))
 
 -- ---- a thread stores a word
 
@@ -137,7 +137,7 @@ module _ (m : Running) (t place word : ℕ) (next : IsNext m t (steps.Store plac
       let rows = rows_changed m.threads st.threads (thread_after st (Stored t place word)) t row (record row { left = drop 1 row.left }) row_is
       (λ u ne. record { left = ap (λ (b : Bool). cond b (drop 1 (st.threads u).left) (st.threads u).left) (ne_eqb t u (λ e. ne (sym e))); pending = refl; number = refl; dying = refl; ended = refl })
       (record { left = ap (λ (b : Bool). cond b (drop 1 (st.threads t).left) (st.threads t).left) (eq-eqb t t refl) ∙ ap (drop 1) its.left; pending = its.pending; number = its.number; dying = its.dying; ended = its.ended }) is.threads in
-      (next st is, behind m st is (choice.Thread t) (Stored t place word) (next st is) refl system m.workers (set m.threads (t - 1) (record row { left = drop 1 row.left })) (moves m.input st is.system) is.workers rows (length-set m.threads (t - 1) _))
+      (next st is, behind m st is (choice.Thread t) (Stored t place word) (next st is) refl refl system m.workers (set m.threads (t - 1) (record row { left = drop 1 row.left })) (moves m.input st is.system) is.workers rows (length-set m.threads (t - 1) _))
 
 -- ---- a call is over
 
@@ -158,7 +158,7 @@ module _ (m : Running) (t : ℕ) (call : SysCall) (regs : List ℕ) (ids : Ids) 
       (λ u ne. record { left = refl; pending = ap (λ (b : Bool). cond b None (st.threads u).pending) (ne_eqb t u (λ e. ne (sym e))); number = refl; dying = refl; ended = refl })
       (record { left = its.left; pending = ap (λ (b : Bool). cond b None (st.threads t).pending) (eq-eqb t t refl); number = λ q e. absurd (none-some q (sym (none_closed row) ∙ e)); dying = its.dying; ended = its.ended }) in (
         next st is,
-        behind m st is (choice.Thread t) failed (next st is) refl m.system m.workers (set m.threads (t - 1) (record row { pending = None }))
+        behind m st is (choice.Thread t) failed (next st is) refl refl m.system m.workers (set m.threads (t - 1) (record row { pending = None }))
             (same_system m.input st (state_after m.input st failed) m.system refl refl refl refl refl refl (λ u. refl) (λ u. refl) is.system) is.workers rows (length-set m.threads (t - 1) _),
       )
 
@@ -177,7 +177,7 @@ pub barred_step : (m : Running) (t : ℕ) (errno : Errno) (why : Cause) → IsNe
     → IsStep m (choice.Thread t) (Some (Denied t None errno why)) (with_parts m m.system m.workers (set m.threads (t - 1) (record row { pending = None })))
 barred_step m t errno why next row row_is st is = (
   next st is,
-  behind m st is (choice.Thread t) (Denied t None errno why) (next st is) refl m.system m.workers (set m.threads (t - 1) (record row { pending = None }))
+  behind m st is (choice.Thread t) (Denied t None errno why) (next st is) refl refl m.system m.workers (set m.threads (t - 1) (record row { pending = None }))
       (same_system m.input st (state_after m.input st (Denied t None errno why)) m.system refl refl refl refl refl refl (λ u. refl) (λ u. refl) is.system) is.workers (denied_rows m t None errno why next st is row row_is) (length-set m.threads (t - 1) _),
 )
 
@@ -195,7 +195,7 @@ module _ (m : Running) (t q : ℕ) (errno : Errno) (why : Cause) (next : IsNext 
       let later = is_live (state_after m.input st e) in
       let kept = cancels m.input st.messages st.turns (is_live st) later st.posted is.workers (λ other. denied_life m.input st t q errno why other) in (
         next st is,
-        behind m st is (choice.Thread t) e (next st is) refl m.system workers (set m.threads (t - 1) (record row { pending = None }))
+        behind m st is (choice.Thread t) e (next st is) refl refl m.system workers (set m.threads (t - 1) (record row { pending = None }))
             (same_system m.input st (state_after m.input st e) m.system refl refl refl refl refl refl (λ u. refl) (λ u. refl) is.system)
             (closing_is_not_kept m.input st.messages (state_after m.input st e).messages st.turns later st.posted workers kept (λ p. refl)) (denied_rows m t (Some q) errno why next st is row row_is) (length-set m.threads (t - 1) _),
       )

@@ -6,27 +6,21 @@ use Rattle.std.specs.Option.{option_map}
 use Rattle.std.specs.Prelude.{IfOk, Result, Ok, Err}
 use Rattle.st_base.specs.Numbered.{item_at_number}
 use Rattle.st_base.specs.declared.errno.Errno.{Errno}
-use Rattle.st_base.specs.declared.errno.Errno.TheVariants.{EPERM}
 use Rattle.st_base.specs.declared.ids.Ids.{Ids}
 use Rattle.st_calls.specs.declared.argument.ArgText.{ArgText}
 use Rattle.st_calls.specs.declared.judged.Snapshot.{Snapshot}
 use Rattle.st_calls.specs.declared.judged.Verdict.{Verdict}
-use Rattle.st_calls.specs.declared.judged.Verdict.TheVariants.{Permit, Refuse, Unmatched}
-use Rattle.st_filter.specs.Judging.{verdict}
 use Rattle.st_messages.specs.declared.message.MsgState.{MsgState}
 use Rattle.st_messages.specs.declared.message.MsgState.TheVariants.{Waiting, Claimed, Answered, Faulted}
 use Rattle.st_model.specs.Processes.{StartedThread, pid_of, thread_at}
-use Rattle.st_trace.specs.declared.entry.Cause.TheVariants.{NoFilter}
-use Rattle.st_trace.specs.declared.entry.Entry.TheVariants.{Denied, Ended}
+use Rattle.st_trace.specs.declared.entry.Entry.TheVariants.{Ended}
 use Rattle.st_trace.specs.declared.entry.Way.{Way}
 use Rattle.st_trace.specs.declared.entry.Way.TheVariants.{Fast, Barred, Held, Untraced}
 use Rattle.st_names.specs.Name.{Components}
 use Rattle.st_law.specs.declared.input.Input.{Input}
-use Rattle.st_law.specs.declared.input.Mode.{Mode}
-use Rattle.st_law.specs.Machine.{answered_entry, decided_entry, held_entry, pending_entry, permitted_entry, running_entry, thread_entry}
+use Rattle.st_law.specs.Machine.{answered_entry, held_entry, pending_entry, permitted_entry, running_entry, thread_entry}
 use Rattle.st_law.specs.Messages.{Head}
-use Rattle.st_law.specs.Sessions.{SessionFilter, decision, session_filters, verdict_or}
-use Rattle.st_law.specs.State.{State, decision_in, is_asked, is_live, is_live_by, is_open_question, is_question, is_undecided, link_now, read_for, snapshot_in, thread_count}
+use Rattle.st_law.specs.State.{State, is_live, is_live_by, link_now, snapshot_in, thread_count}
 use Rattle.st_law.specs.Threads.{PendingCall}
 use Rattle.st_law.proofs.Invariant.{Fine, IfPending, IsFine, IsOpen}
 use Rattle.st_system.specs.System.{IsAmong, IsSystem, IsThread}
@@ -38,10 +32,6 @@ use Rattle.st_machine.specs.Thread.{ThreadRow, IsHeld, IsRow, IsRowOf}
 use Rattle.st_machine.specs.declared.step.Step.{Step}
 use Rattle.st_machine.proofs.Reached.{reached_of}
 use Rattle.st_machine.proofs.Rows.{held_number}
-
-and_none : (b : Bool) → (b && false) ≡ false
-and_none true = refl
-and_none false = refl
 
 module _ (m : Running) (st : State) (is : IsMachine m st) (t : ℕ) where
   pub row_of : (row : ThreadRow) → item_at_number m.threads t ≡ Some row → IsRow row (st.threads t)
@@ -96,11 +86,6 @@ module _ (m : Running) (st : State) (is : IsMachine m st) (t : ℕ) where
 
 -- ---- a held call
 
-verdict_alone : (v : Verdict) → verdict_or v Unmatched ≡ v
-verdict_alone (Permit n ids) = refl
-verdict_alone (Refuse n errno) = refl
-verdict_alone Unmatched = refl
-
 module _ (m : Running) (st : State) (is : IsMachine m st) (t pid seq : ℕ) (entered : PendingCall) (x : HasEntered m t pid entered seq) where
   its : IsRow x.row (st.threads t)
   its = row_of m st is t x.row x.row_is
@@ -142,23 +127,6 @@ module _ (m : Running) (st : State) (is : IsMachine m st) (t pid seq : ℕ) (ent
       ∙ ap not undying
 
 module _ (m : Running) (st : State) (is : IsMachine m st) (t q : ℕ) where
-  -- what decides is the verdict of the filters that were read
-  decision_is : (s : Snapshot) → decision_in m.input st s ≡ verdict (read_for m.input s.policy s.rule) s
-  decision_is s =
-      ap (λ (session : List SessionFilter). decision (read_for m.input s.policy s.rule) (session_filters session s.policy s.rule) s) is.session
-      ∙ verdict_alone (verdict (read_for m.input s.policy s.rule) s)
-
-  -- no number is a question where nobody is asked
-  no_question : is_question m.input st q ≡ false
-  no_question = ap (λ (b : Bool). is_live st q && (st.messages q).answered && b) (closed (snapshot_in st q)) ∙ and_none (is_live st q && (st.messages q).answered) where
-    closed : (o : Option Snapshot) → is_open_question m.input st o ≡ false
-    closed None = refl
-    closed (Some s) = ap (λ (mode : Mode). is_undecided (decision_in m.input st s) && is_asked m.input st s mode) is.enforces ∙ and_none (is_undecided (decision_in m.input st s))
-
-  -- a call that no filter decides is denied
-  pub unmatched_is : (s : Snapshot) → decided_entry m.input st t q s Unmatched ≡ Some (Denied t (Some q) EPERM NoFilter)
-  unmatched_is s = ap (λ (b : Bool). cond b None (Some (Denied t (Some q) EPERM NoFilter))) no_question
-
   waits : (claimed : Bool) → HasCome (st.messages q) claimed None false → held_entry m.input st t q (st.messages q).fault ≡ None
   waits claimed come = ap (held_entry m.input st t q) come.fault ∙ ap (λ (b : Bool). cond b (answered_entry m.input st t q (snapshot_in st q)) None) come.answered
 
@@ -180,8 +148,7 @@ module _ (m : Running) (st : State) (is : IsMachine m st) (t q : ℕ) where
       ap (held_entry m.input st t q) come.1.fault
       ∙ ap (λ (b : Bool). cond b (answered_entry m.input st t q (snapshot_in st q)) None) come.1.answered
       ∙ ap (answered_entry m.input st t q) come.3
-      ∙ ap (decided_entry m.input st t q come.2) (decision_is come.2 ∙ sym come.4)
-      ∙ x come.2 come.3
+      ∙ x come.2 come.3 (sym come.4)
 
 -- ---- a call that is permitted
 

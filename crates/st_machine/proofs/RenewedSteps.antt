@@ -148,7 +148,7 @@ module _ (m : Running) (st : State) (is : IsMachine m st) (t pid : ℕ) (made : 
     refused_here between closes =
         let later : ℕ → Bool = is_live (state_after input st entry_refused) in
         let kept : IsKept input st later between = subst (λ (life : ℕ → Bool). IsKept input st life between) (sym (lives outcome parts done_is [] effect_is)) (closes input st (is_live st) is.workers) in
-        behind m st is (choice.Thread t) entry_refused (entry_is outcome parts done_is [] effect_is) refl parts between closed (is_system outcome parts done_is [] effect_is)
+        behind m st is (choice.Thread t) entry_refused (entry_is outcome parts done_is [] effect_is) refl refl parts between closed (is_system outcome parts done_is [] effect_is)
         (closing_is_not_kept input st.messages (state_after input st entry_refused).messages st.turns later st.posted between kept (λ q. refl))
         (rows_stand closed closed_threads (thread_after st entry_refused) (λ u. record { left = refl; pending = refl; number = refl; dying = refl; ended = refl }) closed_rows)
         (length-set m.threads (t - 1) _)
@@ -275,7 +275,7 @@ module _ (m : Running) (st : State) (is : IsMachine m st) (t pid : ℕ) (made : 
             (λ q over k. seq_after q (renewals_from (sym next_is k) (sym numbers_stay k))) (rows_from closed_threads closed closed_rows)))
 
         pub set_here : IsMachine (with_parts m parts left new) (state_after m.input st entry_set)
-        set_here = behind m st is (choice.Thread t) entry_set (entry_is outcome parts done_is told told_is) refl parts left new system_then is_kept rows_are
+        set_here = behind m st is (choice.Thread t) entry_set (entry_is outcome parts done_is told told_is) refl refl parts left new system_then is_kept rows_are
             (ap length have.rows_are ∙ count_renewed parts.processes pid t closed 1 between.calls.next ∙ length-set m.threads (t - 1) _)
 
     pub entry_here : entry_of m.input st (choice.Thread t) ≡ Some entry_set

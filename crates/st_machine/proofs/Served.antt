@@ -53,13 +53,13 @@ stands_so m new stands st is = record {
   reached = is.reached;
   bounded = is.bounded;
   ungranted = is.ungranted;
-  enforces = is.enforces;
+  replies = is.replies;
   system = is.system;
   workers = stands m.input st.messages st.turns (law.is_live st) st.posted is.workers;
   threads = is.threads;
   count = is.count;
-  session = is.session;
   answers = is.answers;
+  operator = is.operator;
 }
 
 above_none : (n : ℕ) → n ≢ 0 → 0 < n
@@ -124,28 +124,28 @@ module _ (m : Running) (st : State) (is : IsMachine m st) (w : ℕ) (new : Under
   pub claimed_step : (v q : ℕ) → worker_entry m.input st w ≡ Some (entry.Claimed v q) → IsKeptAfter m.input st (entry.Claimed v q) (law.is_live st) new → IsServedBy (entry.Claimed v q)
   claimed_step v q is_entry kept = (
     is_entry,
-    behind m st is (choice.Worker w) (entry.Claimed v q) is_entry refl m.system new m.threads
+    behind m st is (choice.Worker w) (entry.Claimed v q) is_entry refl refl m.system new m.threads
         (same_system m.input st (state_after m.input st (entry.Claimed v q)) m.system refl refl refl refl refl refl (λ t. refl) (λ t. refl) is.system) kept rows refl,
   )
 
   pub copied_step : (q part place word : ℕ) → worker_entry m.input st w ≡ Some (entry.Copied q part place word) → IsKeptAfter m.input st (entry.Copied q part place word) (law.is_live st) new → IsServedBy (entry.Copied q part place word)
   copied_step q part place word is_entry kept = (
     is_entry,
-    behind m st is (choice.Worker w) (entry.Copied q part place word) is_entry refl m.system new m.threads
+    behind m st is (choice.Worker w) (entry.Copied q part place word) is_entry refl refl m.system new m.threads
         (same_system m.input st (state_after m.input st (entry.Copied q part place word)) m.system refl refl refl refl refl refl (λ t. refl) (λ t. refl) is.system) kept rows refl,
   )
 
   pub looked_step : (q part : ℕ) (name : Components) (seen : SeenText) → worker_entry m.input st w ≡ Some (entry.Looked q part name seen) → IsKeptAfter m.input st (entry.Looked q part name seen) (law.is_live st) new → IsServedBy (entry.Looked q part name seen)
   looked_step q part name seen is_entry kept = (
     is_entry,
-    behind m st is (choice.Worker w) (entry.Looked q part name seen) is_entry refl m.system new m.threads
+    behind m st is (choice.Worker w) (entry.Looked q part name seen) is_entry refl refl m.system new m.threads
         (same_system m.input st (state_after m.input st (entry.Looked q part name seen)) m.system refl refl refl refl refl refl (λ t. refl) (λ t. refl) is.system) kept rows refl,
   )
 
   pub faulted_step : (q : ℕ) (errno : Errno) → worker_entry m.input st w ≡ Some (entry.Faulted q errno) → IsKeptAfter m.input st (entry.Faulted q errno) (law.is_live st) new → IsServedBy (entry.Faulted q errno)
   faulted_step q errno is_entry kept = (
     is_entry,
-    behind m st is (choice.Worker w) (entry.Faulted q errno) is_entry refl m.system new m.threads
+    behind m st is (choice.Worker w) (entry.Faulted q errno) is_entry refl refl m.system new m.threads
         (same_system m.input st (state_after m.input st (entry.Faulted q errno)) m.system refl refl refl refl refl refl (λ t. refl) (λ t. refl) is.system) kept rows refl,
   )
 
@@ -153,7 +153,7 @@ module _ (m : Running) (st : State) (is : IsMachine m st) (w : ℕ) (new : Under
       → IsServedBy (entry.Answered v s verdict applied)
   answered_step v s verdict applied is_entry kept = (
     is_entry,
-    behind m st is (choice.Worker w) (entry.Answered v s verdict applied) is_entry refl m.system new m.threads
+    behind m st is (choice.Worker w) (entry.Answered v s verdict applied) is_entry refl refl m.system new m.threads
         (same_system m.input st (state_after m.input st (entry.Answered v s verdict applied)) m.system refl refl refl refl refl refl (λ t. refl) (λ t. refl) is.system) kept rows refl,
   )
 

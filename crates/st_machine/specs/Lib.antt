@@ -4,6 +4,7 @@ pub mod Entering
 pub mod Machine
 pub mod Making
 pub mod NextSteps
+pub mod Questions
 pub mod Renewing
 pub mod Serving
 pub mod Step

@@ -1,15 +1,15 @@
 -- What runs, against the law's machine.
-use Rattle.std.specs.Prelude.{◌≡◌, ℕ, List, [], length, Option, Some, None}
+use Rattle.std.specs.Prelude.{◌≡◌, ℕ, List, length, Option, Some, None}
 use Rattle.st_base.specs.Numbered.{item_at_number}
 use Rattle.st_compile.specs.Table.{BinaryAnswers, IsTableOf}
 use Rattle.st_trace.specs.declared.entry.Choice.{Choice}
 use Rattle.st_trace.specs.declared.entry.Entry.{Entry}
 use Rattle.st_law.specs.declared.input.Input.{Input}
-use Rattle.st_law.specs.declared.input.Mode.TheVariants.{Enforce}
 use Rattle.st_law.specs.Inputs.{IsStartable}
 use Rattle.st_law.specs.Machine.{entry_of, state_after, state_of_run, thread_entry}
 use Rattle.st_law.specs.State.{State, is_live, thread_count}
-use Rattle.st_reached.specs.Grants.{SetIdsUngranted}
+use Rattle.st_operator.specs.Operator.{Added, IsAdded}
+use Rattle.st_reached.specs.Grants.{RepliesUngranted, SetIdsUngranted}
 use Rattle.st_reached.specs.Scripts.{IsBounded}
 use Rattle.st_system.specs.System.{IsSystem, Parts}
 use Rattle.st_workers.specs.Kept.{IsKept}
@@ -28,6 +28,8 @@ pub record Running : Type 0 where
   pub threads : List ThreadRow
   -- the kernel's own answers under the policies that were read
   pub answers : List BinaryAnswers
+  -- what the operator has added
+  pub operator : Added
 
 -- some choices lead to a state from where an input starts
 pub record IsReached (i : Input) (st : State) : Type 0 where
@@ -40,13 +42,13 @@ pub record IsMachine (m : Running) (st : State) : Type 0 where
   pub reached : IsReached m.input st
   pub bounded : IsBounded m.input.start
   pub ungranted : SetIdsUngranted m.input.policies
-  pub enforces : m.input.options.mode ≡ Enforce
+  pub replies : RepliesUngranted m.input.replies
   pub system : IsSystem m.input st m.system
   pub workers : IsKept m.input st (is_live st) m.workers
   pub threads : (t : ℕ) → IsRowOf (item_at_number m.threads t) (st.threads t)
   pub count : length m.threads ≡ thread_count m.input
-  pub session : st.session ≡ []
   pub answers : IsTableOf m.input.policies m.answers
+  pub operator : IsAdded m.input st m.operator
 
 -- what runs is the law's machine in some state
 pub record IsRunning (m : Running) : Type 0 where

@@ -8,13 +8,14 @@ use Rattle.st_calls.specs.declared.judged.Snapshot.{Snapshot}
 use Rattle.st_calls.specs.declared.judged.Verdict.{Verdict}
 use Rattle.st_calls.specs.declared.rule.FastAnswer.{FastAnswer}
 use Rattle.st_exec_fs.specs.Open.{IsNoLink}
+use Rattle.st_filter.specs.Judging.{verdict}
 use Rattle.st_model.specs.Processes.{pid_of, IsPid}
 use Rattle.st_messages.specs.declared.message.MsgState.{MsgState}
 use Rattle.st_messages.specs.declared.message.MsgState.TheVariants.{Waiting, Claimed, Answered, Faulted}
 use Rattle.st_trace.specs.declared.entry.Cause.TheVariants.{Fault}
 use Rattle.st_trace.specs.declared.entry.Entry.TheVariants.{Denied}
 use Rattle.st_law.specs.Machine.{barred_entry, decided_entry, held_entry, pending_entry, permitted_entry, unheld_entry}
-use Rattle.st_law.specs.State.{State, answer_in, arguments_now, link_now, process_in, snapshot_in}
+use Rattle.st_law.specs.State.{State, answer_in, arguments_now, decision_in, link_now, process_in, read_for, snapshot_in}
 use Rattle.st_law.specs.Threads.{PendingCall}
 use Rattle.st_system.specs.Fit.{AreFit, first_name}
 use Rattle.st_system.specs.System.{Parts}
@@ -59,10 +60,10 @@ IsBarredStep m t entered number step =
 abbrev pub IsHeldStep : Running → ℕ → ℕ → Step → Type 0
 IsHeldStep m t seq step = (st : State) → IsMachine m st → held_entry m.input st t seq (st.messages seq).fault ≡ step_entry m.input st t step
 
--- the step of a held call whose copies have this verdict
+-- the step of a held call of whose copies the filters that were read say this
 abbrev pub IsDecidedStep : Running → ℕ → ℕ → Verdict → Step → Type 0
-IsDecidedStep m t seq decided step =
-    (st : State) → IsMachine m st → (s : Snapshot) → snapshot_in st seq ≡ Some s → decided_entry m.input st t seq s decided ≡ step_entry m.input st t step
+IsDecidedStep m t seq read step =
+    (st : State) → IsMachine m st → (s : Snapshot) → snapshot_in st seq ≡ Some s → verdict (read_for m.input s.policy s.rule) s ≡ read → decided_entry m.input st t seq s (decision_in m.input st s) ≡ step_entry m.input st t step
 
 -- the step of a held call that is permitted under these ids
 abbrev pub IsPermittedStep : Running → ℕ → ℕ → Ids → Step → Type 0
@@ -76,7 +77,8 @@ IsStepOf m st t seq None step = ⊥
 IsStepOf m st t seq (Some Waiting) step = step_entry m.input st t step ≡ None
 IsStepOf m st t seq (Some (Claimed worker)) step = step_entry m.input st t step ≡ None
 IsStepOf m st t seq (Some (Faulted errno)) step = step_entry m.input st t step ≡ Some (Denied t (Some seq) errno Fault)
-IsStepOf m st t seq (Some (Answered decided)) step = (s : Snapshot) → snapshot_in st seq ≡ Some s → decided_entry m.input st t seq s decided ≡ step_entry m.input st t step
+IsStepOf m st t seq (Some (Answered read)) step =
+    (s : Snapshot) → snapshot_in st seq ≡ Some s → verdict (read_for m.input s.policy s.rule) s ≡ read → decided_entry m.input st t seq s (decision_in m.input st s) ≡ step_entry m.input st t step
 
 -- ---- whether the call of a step can be made
 

@@ -1,4 +1,4 @@
-// Choices: each is made by its thread or its worker.
+// Choices: each is made by its thread, its worker or the operator.
 ghost use Rattle.std.specs.Prelude.{◌≡◌, IfOk, OnErr};
 ghost use Rattle.st_machine.specs.Machine.{IsStep, Stands};
 ghost use Rattle.st_trace.specs.declared.entry.Choice.TheVariants as choices;
@@ -30,8 +30,7 @@ impl<'a> Machine<'a> {
         match choice {
             Choice::Thread(tid) => self.move_thread(alloc, tid),
             Choice::Worker(worker) => self.serve_if(alloc, worker),
-            // In the mode that is run nobody is asked.
-            Choice::Operator => Ok(None),
+            Choice::Operator => self.ask(alloc),
         }
     }
 }

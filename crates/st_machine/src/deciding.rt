@@ -2,12 +2,14 @@
 ghost use Rattle.std.specs.Prelude.{◌≡◌, ◌<◌, false, true, IfSome, IfOk, IsNone, None, Some};
 ghost use Rattle.st_law.specs.declared.input.Input.{Input};
 ghost use Rattle.st_machine.specs.NextSteps.{CanBeDone, HasEntered, IsAnswerOf, IsBarredStep, IsDecidedStep, IsHeldStep, IsPendingStep, IsPermittedStep, IsUnheldStep};
-ghost use Rattle.st_machine.specs.Machine.{IsNext};
+ghost use Rattle.st_law.specs.State.{State};
+ghost use Rattle.st_machine.specs.Machine.{IsMachine, IsNext};
+ghost use Rattle.st_calls.specs.declared.judged.Verdict.TheVariants.{Unmatched};
 ghost use Rattle.st_messages.specs.Messages.{state_at};
 ghost use Rattle.st_messages.specs.declared.message.MsgState.TheVariants.{Answered};
 ghost use Rattle.st_machine.specs.declared.step.Step.TheVariants as steps;
 ghost use Rattle.st_machine.specs.Thread.{IsHeld};
-ghost use Rattle.st_workers.specs.Kept.{IsAnswered};
+ghost use Rattle.st_workers.specs.Kept.{HasComeTo, IsAnswered};
 ghost use Rattle.st_model.specs.Processes.{IsPid};
 
 use crate::machine::Machine;
@@ -81,7 +83,11 @@ impl<'a> Machine<'a> {
         ensures { IsAnswerOf self.now pid call regs.now result }
     {
         let rule = Rule::of(call, regs, self.input.options.aliasing);
-        self.answers.get(self.system.policy(pid).bytes(), rule)
+        let policy = self.system.policy(pid).bytes();
+        self.answers
+            .get(policy, rule)
+            .or(self.operator.first_answer(policy, rule))
+            .unwrap_or(FastAnswer::Ask)
     }
 
     // A call that isn't held copies, looks and acts in one step.
@@ -179,13 +185,30 @@ impl<'a> Machine<'a> {
         seq: Seq,
         verdict: Verdict,
     ) -> Result<Step, AllocError>
-        requires { state_at self.now.workers.calls seq ≡ Some (Answered verdict) }
+        requires here { state_at self.now.workers.calls seq ≡ Some (Answered verdict) }
+        requires come { (st : State) → IsMachine self.now st → HasComeTo self.now.input st seq (Some (Answered verdict)) }
         ensures step { IfOk result (IsDecidedStep self.now tid seq verdict) }
         ensures fit { IfOk result (CanBeDone self.now.system) }
     {
         match verdict {
             Verdict::Permit(_, ids) => self.permitted_step(alloc, tid, seq, ids),
             Verdict::Refuse(number, errno) => Ok(deny(seq, errno, Cause::Filter(number))),
+            Verdict::Unmatched => self.undecided_step(alloc, tid, seq),
+        }
+    }
+
+    // A held call on which the filters that were read don't decide goes on as those of the session say, or waits for the operator.
+    fn undecided_step(&self, alloc: Global, tid: Tid, seq: Seq) -> Result<Step, AllocError>
+        requires here { state_at self.now.workers.calls seq ≡ Some (Answered Unmatched) }
+        requires come { (st : State) → IsMachine self.now st → HasComeTo self.now.input st seq (Some (Answered Unmatched)) }
+        ensures step { IfOk result (IsDecidedStep self.now tid seq Unmatched) }
+        ensures fit { IfOk result (CanBeDone self.now.system) }
+    {
+        let copies = self.workers.snapshot(alloc, seq)?;
+        match self.operator.verdict(&self.input.policies, &copies) {
+            Verdict::Permit(_, ids) => self.permitted_step(alloc, tid, seq, ids),
+            Verdict::Refuse(number, errno) => Ok(deny(seq, errno, Cause::Filter(number))),
+            Verdict::Unmatched if self.operator.answers(self.input, &copies) => Ok(Step::Wait),
             Verdict::Unmatched => Ok(deny(seq, Errno::EPERM, Cause::NoFilter)),
         }
     }

@@ -1,15 +1,17 @@
-// Whether a choice would add an entry, without making it. Nothing here takes memory.
-ghost use Rattle.std.specs.Prelude.{◌≡◌, is_some};
+// Whether a choice would add an entry, without making it. Memory is taken for the copies of a question alone.
+ghost use Rattle.std.specs.Prelude.{◌≡◌, is_some, IfOk};
 ghost use Rattle.st_law.specs.Machine.{thread_entry, worker_entry};
 ghost use Rattle.st_law.specs.State.{State};
 ghost use Rattle.st_machine.specs.Enabled.{has_come, is_work};
 ghost use Rattle.st_machine.specs.Machine.{IsMachine};
+ghost use Rattle.st_machine.specs.Questions.{IsOver};
 ghost use Rattle.st_messages.specs.Messages.{IsWorker};
 
 use crate::machine::Machine;
-use st_base::{Tid, Worker};
+use st_base::{Seq, Tid, Worker};
 use st_messages::MsgState;
 use st_workers::Task;
+use std::alloc::{AllocError, Global};
 
 // Whether a message met a fault or was answered.
 fn has_come(state: Option<MsgState>) -> bool
@@ -33,23 +35,33 @@ fn is_work(task: Task) -> bool
 }
 
 impl<'a> Machine<'a> {
-    /// Whether a thread can move: it has started, hasn't ended, and doesn't wait for its held call.
-    pub fn can_move(&self, tid: Tid) -> bool
-        ensures { (st : State) → IsMachine self.now st → result ≡ is_some (thread_entry self.now.input st tid) }
+    /// Whether a thread can move: it has started, hasn't ended, and neither waits for its held call nor for the operator.
+    pub fn can_move(&self, alloc: Global, tid: Tid) -> Result<bool, AllocError>
+        ensures { IfOk result (λ can. (st : State) → IsMachine self.now st → can ≡ is_some (thread_entry self.now.input st tid)) }
     {
         let Some(thread) = self.thread(tid) else {
-            return false;
+            return Ok(false);
         };
         let Some(_) = self.system.pid_of(tid) else {
-            return false;
+            return Ok(false);
         };
         if thread.has_ended() {
-            return false;
+            return Ok(false);
         }
         match thread.number_held() {
-            Some(seq) => has_come(self.workers.state(seq)),
-            None => true,
+            Some(seq) => self.is_over(alloc, seq),
+            None => Ok(true),
         }
+    }
+
+    // Whether a held call can be made or denied: its message met a fault or was answered, and it is no question.
+    fn is_over(&self, alloc: Global, seq: Seq) -> Result<bool, AllocError>
+        ensures { IfOk result (λ over. (st : State) → IsMachine self.now st → IsOver self.now.input st seq over) }
+    {
+        if !has_come(self.workers.state(seq)) {
+            return Ok(false);
+        }
+        Ok(self.question(alloc, seq)?.is_none())
     }
 
     /// Whether a worker can move: it is at some number, or one waits.

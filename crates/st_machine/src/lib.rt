@@ -2,6 +2,7 @@
 #![tactic(auto)]
 
 mod acting;
+mod asking;
 mod choosing;
 mod deciding;
 mod enabled;
@@ -17,6 +18,3 @@ pub mod thread;
 pub use machine::Machine;
 pub use step::{Step, Use};
 pub use thread::{PendingCall, Thread};
-
-#[cfg(test)]
-mod tests;

@@ -4,10 +4,9 @@ ghost use Rattle.st_filter.specs.Policies.{policy_of};
 ghost use Rattle.st_law.specs.Inputs.{IsStartable};
 ghost use Rattle.st_law.specs.Machine.{first_state};
 ghost use Rattle.st_law.specs.State.{thread_count};
-ghost use Rattle.st_law.specs.declared.input.Mode.TheVariants.{Enforce};
 ghost use Rattle.st_machine.specs.Machine.{IsMachine};
 ghost use Rattle.st_machine.specs.Thread.{first_row};
-ghost use Rattle.st_reached.specs.Grants.{SetIdsUngranted};
+ghost use Rattle.st_reached.specs.Grants.{RepliesUngranted, SetIdsUngranted};
 ghost use Rattle.st_reached.specs.Scripts.{IsBounded};
 ghost use Rattle.st_system.specs.Start.{CanStart};
 
@@ -15,14 +14,15 @@ use crate::thread::Thread;
 use st_base::Tid;
 use st_compile::FastTable;
 use st_law::Input;
+use st_operator::Operator;
 use st_system::System;
 use st_trace::ThreadRow;
 use st_workers::Workers;
 use std::alloc::{AllocError, Global};
 use std::marker::Model;
 
-/// The machine that runs: the modelled system, the messages under way with the workers that serve them, and how far each thread has
-/// come.
+/// The machine that runs: the modelled system, the messages under way with the workers that serve them, how far each thread has come, and
+/// what the operator has added.
 #[derive(Debug, Drop)]
 pub struct Machine<'a> {
     pub(crate) input: &'a Input,
@@ -31,6 +31,7 @@ pub struct Machine<'a> {
     // Thread t stands at t - 1.
     pub(crate) threads: Vec<Thread<'a>>,
     pub(crate) answers: FastTable,
+    pub(crate) operator: Operator,
 }
 
 impl<'a> Model for Machine<'a> {
@@ -42,9 +43,9 @@ impl<'a> Model for Machine<'a> {
 
     ghost coded = { Prim.hlevel (codes, formula_code) };
 
-    ghost view = { λ m. record { input = m.input.now; system = m.system; workers = m.workers; threads = m.threads.items; answers = m.answers } };
+    ghost view = { λ m. record { input = m.input.now; system = m.system; workers = m.workers; threads = m.threads.items; answers = m.answers; operator = m.operator } };
 
-    ghost invariant = { λ m. IsRunning (record { input = m.input.now; system = m.system; workers = m.workers; threads = m.threads.items; answers = m.answers }) };
+    ghost invariant = { λ m. IsRunning (record { input = m.input.now; system = m.system; workers = m.workers; threads = m.threads.items; answers = m.answers; operator = m.operator }) };
 }
 
 // A thread for each row, before its first step.
@@ -63,7 +64,7 @@ impl<'a> Machine<'a> {
         requires system { CanStart input.now }
         requires bounded { IsBounded input.now.start }
         requires ungranted { SetIdsUngranted input.now.policies }
-        requires enforces { input.now.options.mode ≡ Enforce }
+        requires replies { RepliesUngranted input.now.replies }
         ensures input { IfOk result (λ machine. machine.input ≡ input.now) }
         ensures first { IfOk result (λ machine. IsMachine machine (first_state input.now)) }
     {
@@ -73,6 +74,7 @@ impl<'a> Machine<'a> {
             workers: Workers::new(alloc, input.options.workers)?,
             threads: threads_of(alloc, input.start.threads.as_slice())?,
             answers: FastTable::build(alloc, &input.policies)?,
+            operator: Operator::new(alloc, input.replies.as_slice())?,
         })
     }
 

@@ -12,7 +12,7 @@ use Rattle.st_messages.specs.Messages.{is_live}
 use Rattle.st_machine.proofs.machine.Machine.answer_of.Goals as goal
 
 abbrev old : goal.After-is_applied → Running
-old c = record { input = c.self.inside.input.now; system = c.self.inside.system; workers = c.self.inside.workers; threads = c.self.inside.threads.items; answers = c.self.inside.answers }
+old c = record { input = c.self.inside.input.now; system = c.self.inside.system; workers = c.self.inside.workers; threads = c.self.inside.threads.items; answers = c.self.inside.answers; operator = c.self.inside.operator }
 
 task : (c : goal.After-is_applied) → HasTask (old c) c.args.worker tasks.Answer
 task c = subst (λ (m : Running). HasTask m c.args.worker (tasks.Answer)) (sym c.self.view_is) c.requires.task

@@ -8,6 +8,6 @@ use Rattle.st_machine.proofs.machine.Machine.can_serve.Goals as goal
 
 pub returns : goal.returns
 returns c =
-    let m : Running = record { input = c.self.inside.input.now; system = c.self.inside.system; workers = c.self.inside.workers; threads = c.self.inside.threads.items; answers = c.self.inside.answers } in
+    let m : Running = record { input = c.self.inside.input.now; system = c.self.inside.system; workers = c.self.inside.workers; threads = c.self.inside.threads.items; answers = c.self.inside.answers; operator = c.self.inside.operator } in
     subst (λ (k : Running). (st : State) → IsMachine k st → c.is_work.result ≡ is_some (worker_entry k.input st c.args.worker)) c.self.view_is
     (λ st is. c.is_work.ensures ∙ work_moves m.input st m.workers c.args.worker c.task.result (c.task.ensures.law m.input st is.workers))

@@ -6,7 +6,7 @@ use Rattle.st_machine.proofs.Served.{claimed, running_step, with_workers}
 use Rattle.st_machine.proofs.machine.Machine.claim.Goals as goal
 
 abbrev old : goal.In_ok-seq → Running
-old c = record { input = c.self.inside.input.now; system = c.self.inside.system; workers = c.self.inside.workers; threads = c.self.inside.threads.items; answers = c.self.inside.answers }
+old c = record { input = c.self.inside.input.now; system = c.self.inside.system; workers = c.self.inside.workers; threads = c.self.inside.threads.items; answers = c.self.inside.answers; operator = c.self.inside.operator }
 
 step : (c : goal.In_ok-seq) → IsStep (old c) (choice.Worker c.args.worker) (Some (entry.Claimed c.args.worker c.in_ok-seq.seq)) (with_workers (old c) c.claim.new.self)
 step c = claimed (old c) c.args.worker c.claim.new.self c.in_ok-seq.seq c.in_ok-seq.ensures.law c.in_ok-seq.ensures.kept

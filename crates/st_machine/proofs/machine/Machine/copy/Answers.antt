@@ -7,7 +7,7 @@ use Rattle.st_workers.specs.declared.task.Task.TheVariants as tasks
 use Rattle.st_machine.proofs.machine.Machine.copy.Goals as goal
 
 abbrev old : goal.In_ok-copy → Running
-old c = record { input = c.self.inside.input.now; system = c.self.inside.system; workers = c.self.inside.workers; threads = c.self.inside.threads.items; answers = c.self.inside.answers }
+old c = record { input = c.self.inside.input.now; system = c.self.inside.system; workers = c.self.inside.workers; threads = c.self.inside.threads.items; answers = c.self.inside.answers; operator = c.self.inside.operator }
 
 task : (c : goal.In_ok-copy) → HasTask (old c) c.args.worker (tasks.Copy c.args.seq c.args.part c.args.place)
 task c = subst (λ (m : Running). HasTask m c.args.worker (tasks.Copy c.args.seq c.args.part c.args.place)) (sym c.self.view_is) c.requires.task
@@ -23,13 +23,13 @@ returns-clause-step c = subst (λ (m : Running). IsStep m (choice.Worker c.args.
 
 pub word-word-requires-clause-process : goal.word-word-requires-clause-process
 word-word-requires-clause-process c =
-    let m : Running = record { input = c.self.inside.input.now; system = c.self.inside.system; workers = c.self.inside.workers; threads = c.self.inside.threads.items; answers = c.self.inside.answers } in
+    let m : Running = record { input = c.self.inside.input.now; system = c.self.inside.system; workers = c.self.inside.workers; threads = c.self.inside.threads.items; answers = c.self.inside.answers; operator = c.self.inside.operator } in
     head_process m c.self.invariant c.args.seq c.head.result.now (subst (λ (m : Running). HasTask m c.args.worker (tasks.Copy c.args.seq c.args.part c.args.place)) (sym c.self.view_is) c.requires.task).there.0 c.head.ensures.law
 
 -- without memory
 
 abbrev before : goal.After-from_residual → Running
-before c = record { input = c.self.inside.input.now; system = c.self.inside.system; workers = c.self.inside.workers; threads = c.self.inside.threads.items; answers = c.self.inside.answers }
+before c = record { input = c.self.inside.input.now; system = c.self.inside.system; workers = c.self.inside.workers; threads = c.self.inside.threads.items; answers = c.self.inside.answers; operator = c.self.inside.operator }
 
 stands : (c : goal.After-from_residual) → Stands (before c) (with_workers (before c) c.copy.new.self)
 stands c = stands_so (before c) c.copy.new.self c.in_err-copy.ensures.err

@@ -15,13 +15,13 @@ use Rattle.st_machine.proofs.machine.Machine.deny_held.Goals as goal
 
 pub overflow_sub-tid : goal.overflow_sub-tid
 overflow_sub-tid c =
-    let m : Running = record { input = c.self.inside.input.now; system = c.self.inside.system; workers = c.self.inside.workers; threads = c.self.inside.threads.items; answers = c.self.inside.answers } in
+    let m : Running = record { input = c.self.inside.input.now; system = c.self.inside.system; workers = c.self.inside.workers; threads = c.self.inside.threads.items; answers = c.self.inside.answers; operator = c.self.inside.operator } in
     let row = row_here m c.self.invariant c.args.tid (steps.Deny (Some c.args.seq) c.args.errno c.args.cause) (entry.Denied c.args.tid (Some c.args.seq) c.args.errno c.args.cause) (subst (λ (k : Running). IsNext k c.args.tid (steps.Deny (Some c.args.seq) c.args.errno c.args.cause)) (sym c.self.view_is) c.requires) (λ i st. refl) in
     (number_within m.threads c.args.tid row.0 row.1).0
 
 pub index_mut-requires : goal.index_mut-requires
 index_mut-requires c =
-    let m : Running = record { input = c.self.inside.input.now; system = c.self.inside.system; workers = c.self.inside.workers; threads = c.self.inside.threads.items; answers = c.self.inside.answers } in
+    let m : Running = record { input = c.self.inside.input.now; system = c.self.inside.system; workers = c.self.inside.workers; threads = c.self.inside.threads.items; answers = c.self.inside.answers; operator = c.self.inside.operator } in
     let row = row_here m c.self.invariant c.args.tid (steps.Deny (Some c.args.seq) c.args.errno c.args.cause) (entry.Denied c.args.tid (Some c.args.seq) c.args.errno c.args.cause) (subst (λ (k : Running). IsNext k c.args.tid (steps.Deny (Some c.args.seq) c.args.errno c.args.cause)) (sym c.self.view_is) c.requires) (λ i st. refl) in
     let within = number_within m.threads c.args.tid row.0 row.1 in
     let from = within.0 in
@@ -29,7 +29,7 @@ index_mut-requires c =
     omega (arith, from, to)
 
 abbrev old : goal.After-cancel → Running
-old c = record { input = c.self.inside.input.now; system = c.self.inside.system; workers = c.self.inside.workers; threads = c.self.inside.threads.items; answers = c.self.inside.answers }
+old c = record { input = c.self.inside.input.now; system = c.self.inside.system; workers = c.self.inside.workers; threads = c.self.inside.threads.items; answers = c.self.inside.answers; operator = c.self.inside.operator }
 
 next : (c : goal.After-cancel) → IsNext (old c) c.args.tid (steps.Deny (Some c.args.seq) c.args.errno c.args.cause)
 next c = subst (λ (k : Running). IsNext k c.args.tid (steps.Deny (Some c.args.seq) c.args.errno c.args.cause)) (sym c.self.view_is) c.requires
@@ -54,7 +54,7 @@ returns-clause-step c = subst (λ (k : Running). IsStep k (choice.Thread c.args.
 
 pub cancel-requires : goal.cancel-requires
 cancel-requires c =
-    let m : Running = record { input = c.self.inside.input.now; system = c.self.inside.system; workers = c.self.inside.workers; threads = c.self.inside.threads.items; answers = c.self.inside.answers } in
+    let m : Running = record { input = c.self.inside.input.now; system = c.self.inside.system; workers = c.self.inside.workers; threads = c.self.inside.threads.items; answers = c.self.inside.answers; operator = c.self.inside.operator } in
     let run = c.self.invariant in
     let denied : IsNext m c.args.tid (steps.Deny (Some c.args.seq) c.args.errno c.args.cause) = subst (λ (k : Running). IsNext k c.args.tid (steps.Deny (Some c.args.seq) c.args.errno c.args.cause)) (sym c.self.view_is) c.requires in
     lives_as m.input run.state (is_live run.state) m.workers c.args.seq run.is.workers ∙ denied_lives m c.args.tid c.args.seq c.args.errno c.args.cause denied run.state run.is

@@ -22,7 +22,7 @@ use Rattle.st_machine.proofs.machine.Machine.enter_held.Goals as goal
 
 pub post-requires-clause-thread : goal.post-requires-clause-thread
 post-requires-clause-thread c =
-    let m : Running = record { input = c.self.inside.input.now; system = c.self.inside.system; workers = c.self.inside.workers; threads = c.self.inside.threads.items; answers = c.self.inside.answers } in
+    let m : Running = record { input = c.self.inside.input.now; system = c.self.inside.system; workers = c.self.inside.workers; threads = c.self.inside.threads.items; answers = c.self.inside.answers; operator = c.self.inside.operator } in
     let next = subst (λ (k : Running). IsNext k c.args.tid (steps.Enter c.args.call c.args.regs)) (sym c.self.view_is) c.requires.next in
     let goes = subst (λ (k : Running). IsWayOf k c.args.tid c.args.call c.args.regs (Held c.args.seq)) (sym c.self.view_is) c.requires.way in
     let row = row_entering m c.self.invariant c.args.tid c.args.call c.args.regs next in
@@ -30,12 +30,12 @@ post-requires-clause-thread c =
 
 pub post-requires-clause-room : goal.post-requires-clause-room
 post-requires-clause-room c =
-    let m : Running = record { input = c.self.inside.input.now; system = c.self.inside.system; workers = c.self.inside.workers; threads = c.self.inside.threads.items; answers = c.self.inside.answers } in
+    let m : Running = record { input = c.self.inside.input.now; system = c.self.inside.system; workers = c.self.inside.workers; threads = c.self.inside.threads.items; answers = c.self.inside.answers; operator = c.self.inside.operator } in
     room_left m c.self.invariant.state c.self.invariant.is
 
 pub post-requires-clause-seq : goal.post-requires-clause-seq
 post-requires-clause-seq c =
-    let m : Running = record { input = c.self.inside.input.now; system = c.self.inside.system; workers = c.self.inside.workers; threads = c.self.inside.threads.items; answers = c.self.inside.answers } in
+    let m : Running = record { input = c.self.inside.input.now; system = c.self.inside.system; workers = c.self.inside.workers; threads = c.self.inside.threads.items; answers = c.self.inside.answers; operator = c.self.inside.operator } in
     let next = subst (λ (k : Running). IsNext k c.args.tid (steps.Enter c.args.call c.args.regs)) (sym c.self.view_is) c.requires.next in
     let goes = subst (λ (k : Running). IsWayOf k c.args.tid c.args.call c.args.regs (Held c.args.seq)) (sym c.self.view_is) c.requires.way in
     c.in_ok-head.ensures.seq_is ∙ next_number m c.args.tid c.args.call c.args.regs next c.args.seq goes c.self.invariant.state c.self.invariant.is
@@ -44,18 +44,18 @@ post-requires-clause-seq c =
 
 pub invariant_of-self : goal.invariant_of-self
 invariant_of-self c =
-    let m : Running = record { input = c.self.inside.input.now; system = c.self.inside.system; workers = c.self.inside.workers; threads = c.self.inside.threads.items; answers = c.self.inside.answers } in
+    let m : Running = record { input = c.self.inside.input.now; system = c.self.inside.system; workers = c.self.inside.workers; threads = c.self.inside.threads.items; answers = c.self.inside.answers; operator = c.self.inside.operator } in
     running_stands m (with_workers m c.post.new.self) c.self.invariant (stands_so m c.post.new.self c.in_err-post.ensures.err)
 
 pub returns-in_err-post-clause-err : goal.returns-in_err-post-clause-err
 returns-in_err-post-clause-err c =
-    let m : Running = record { input = c.self.inside.input.now; system = c.self.inside.system; workers = c.self.inside.workers; threads = c.self.inside.threads.items; answers = c.self.inside.answers } in
+    let m : Running = record { input = c.self.inside.input.now; system = c.self.inside.system; workers = c.self.inside.workers; threads = c.self.inside.threads.items; answers = c.self.inside.answers; operator = c.self.inside.operator } in
     on_err c.from_residual-in_err-post.result (subst (λ (k : Running). Stands k (with_workers m c.post.new.self)) c.self.view_is (stands_so m c.post.new.self c.in_err-post.ensures.err))
 
 -- once it is posted
 
 abbrev old : goal.After-self-1 → Running
-old c = record { input = c.self.inside.input.now; system = c.self.inside.system; workers = c.self.inside.workers; threads = c.self.inside.threads.items; answers = c.self.inside.answers }
+old c = record { input = c.self.inside.input.now; system = c.self.inside.system; workers = c.self.inside.workers; threads = c.self.inside.threads.items; answers = c.self.inside.answers; operator = c.self.inside.operator }
 
 next : (c : goal.After-self-1) → IsNext (old c) c.args.tid (steps.Enter c.args.call c.args.regs)
 next c = subst (λ (k : Running). IsNext k c.args.tid (steps.Enter c.args.call c.args.regs)) (sym c.self.view_is) c.requires.next

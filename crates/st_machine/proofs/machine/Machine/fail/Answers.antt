@@ -17,13 +17,13 @@ use Rattle.st_machine.proofs.machine.Machine.fail.Goals as goal
 
 pub overflow_sub-tid : goal.overflow_sub-tid
 overflow_sub-tid c =
-    let m : Running = record { input = c.self.inside.input.now; system = c.self.inside.system; workers = c.self.inside.workers; threads = c.self.inside.threads.items; answers = c.self.inside.answers } in
+    let m : Running = record { input = c.self.inside.input.now; system = c.self.inside.system; workers = c.self.inside.workers; threads = c.self.inside.threads.items; answers = c.self.inside.answers; operator = c.self.inside.operator } in
     let row = row_here m c.self.invariant c.args.tid (steps.Fail c.args.call c.args.regs c.args.ids c.args.errno) (entry.Used c.args.tid None c.args.call c.args.regs [] c.args.ids (Failed c.args.errno) []) (subst (λ (k : Running). IsNext k c.args.tid (steps.Fail c.args.call c.args.regs c.args.ids c.args.errno)) (sym c.self.view_is) c.requires) (λ i st. refl) in
     (number_within m.threads c.args.tid row.0 row.1).0
 
 pub index_mut-requires : goal.index_mut-requires
 index_mut-requires c =
-    let m : Running = record { input = c.self.inside.input.now; system = c.self.inside.system; workers = c.self.inside.workers; threads = c.self.inside.threads.items; answers = c.self.inside.answers } in
+    let m : Running = record { input = c.self.inside.input.now; system = c.self.inside.system; workers = c.self.inside.workers; threads = c.self.inside.threads.items; answers = c.self.inside.answers; operator = c.self.inside.operator } in
     let row = row_here m c.self.invariant c.args.tid (steps.Fail c.args.call c.args.regs c.args.ids c.args.errno) (entry.Used c.args.tid None c.args.call c.args.regs [] c.args.ids (Failed c.args.errno) []) (subst (λ (k : Running). IsNext k c.args.tid (steps.Fail c.args.call c.args.regs c.args.ids c.args.errno)) (sym c.self.view_is) c.requires) (λ i st. refl) in
     let within = number_within m.threads c.args.tid row.0 row.1 in
     let from = within.0 in
@@ -31,7 +31,7 @@ index_mut-requires c =
     omega (arith, from, to)
 
 abbrev old : goal.After-entry → Running
-old c = record { input = c.self.inside.input.now; system = c.self.inside.system; workers = c.self.inside.workers; threads = c.self.inside.threads.items; answers = c.self.inside.answers }
+old c = record { input = c.self.inside.input.now; system = c.self.inside.system; workers = c.self.inside.workers; threads = c.self.inside.threads.items; answers = c.self.inside.answers; operator = c.self.inside.operator }
 
 next : (c : goal.After-entry) → IsNext (old c) c.args.tid (steps.Fail c.args.call c.args.regs c.args.ids c.args.errno)
 next c = subst (λ (k : Running). IsNext k c.args.tid (steps.Fail c.args.call c.args.regs c.args.ids c.args.errno)) (sym c.self.view_is) c.requires

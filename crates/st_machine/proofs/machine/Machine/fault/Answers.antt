@@ -7,7 +7,7 @@ use Rattle.st_workers.specs.declared.task.Task.TheVariants as tasks
 use Rattle.st_machine.proofs.machine.Machine.fault.Goals as goal
 
 abbrev old : goal.After-fault → Running
-old c = record { input = c.self.inside.input.now; system = c.self.inside.system; workers = c.self.inside.workers; threads = c.self.inside.threads.items; answers = c.self.inside.answers }
+old c = record { input = c.self.inside.input.now; system = c.self.inside.system; workers = c.self.inside.workers; threads = c.self.inside.threads.items; answers = c.self.inside.answers; operator = c.self.inside.operator }
 
 task : (c : goal.After-fault) → HasTask (old c) c.args.worker (tasks.Fault c.args.seq c.args.errno)
 task c = subst (λ (m : Running). HasTask m c.args.worker (tasks.Fault c.args.seq c.args.errno)) (sym c.self.view_is) c.requires

@@ -1,8 +1,9 @@
 use Rattle.std.proofs.Common.{None, Some, ap, sym, subst}
+use Rattle.st_law.specs.State.{State}
 use Rattle.st_messages.specs.declared.message.MsgState.{MsgState}
 use Rattle.st_messages.specs.declared.message.MsgState.TheVariants.{Answered, Faulted}
 use Rattle.st_workers.specs.Kept.{HasComeTo}
-use Rattle.st_machine.specs.Machine.{Running}
+use Rattle.st_machine.specs.Machine.{IsMachine, Running}
 use Rattle.st_machine.specs.NextSteps.{CanBeDone, HasEntered, IsDecidedStep, IsHeldStep}
 use Rattle.st_machine.specs.Step.{step_entry}
 use Rattle.st_machine.specs.declared.step.Step.TheVariants as steps
@@ -11,7 +12,7 @@ use Rattle.st_machine.proofs.machine.Machine.held_step.Goals as goal
 
 pub returns-in-Answered-clause-step : goal.returns-in-Answered-clause-step
 returns-in-Answered-clause-step c =
-    let m : Running = record { input = c.self.inside.input.now; system = c.self.inside.system; workers = c.self.inside.workers; threads = c.self.inside.threads.items; answers = c.self.inside.answers } in
+    let m : Running = record { input = c.self.inside.input.now; system = c.self.inside.system; workers = c.self.inside.workers; threads = c.self.inside.threads.items; answers = c.self.inside.answers; operator = c.self.inside.operator } in
     let verdict = c.in-Answered.verdict in
     if_ok (IsDecidedStep c.args.self.now c.args.tid c.args.seq verdict) (IsHeldStep c.args.self.now c.args.tid c.args.seq) c.decided_step.result (λ step decided.
     let here : IsDecidedStep m c.args.tid c.args.seq verdict step = subst (λ (k : Running). IsDecidedStep k c.args.tid c.args.seq verdict step) (sym c.self.view_is) decided in
@@ -21,7 +22,7 @@ returns-in-Answered-clause-step c =
 
 pub returns-in-Faulted-clause-step : goal.returns-in-Faulted-clause-step
 returns-in-Faulted-clause-step c =
-    let m : Running = record { input = c.self.inside.input.now; system = c.self.inside.system; workers = c.self.inside.workers; threads = c.self.inside.threads.items; answers = c.self.inside.answers } in
+    let m : Running = record { input = c.self.inside.input.now; system = c.self.inside.system; workers = c.self.inside.workers; threads = c.self.inside.threads.items; answers = c.self.inside.answers; operator = c.self.inside.operator } in
     let held : IsHeldStep m c.args.tid c.args.seq c.deny.result = λ st is.
     held_is m st is c.args.tid c.args.seq (Some (Faulted c.in-Faulted.errno)) (subst (λ (s : MsgState). HasComeTo m.input st c.args.seq (Some s)) c.in-Faulted.is (c.in-Some.ensures.law m.input st is.workers))
     c.deny.result (ap (step_entry m.input st c.args.tid) c.deny.ensures) in
@@ -29,7 +30,7 @@ returns-in-Faulted-clause-step c =
 
 pub returns-in_default-clause-step : goal.returns-in_default-clause-step
 returns-in_default-clause-step c =
-    let m : Running = record { input = c.self.inside.input.now; system = c.self.inside.system; workers = c.self.inside.workers; threads = c.self.inside.threads.items; answers = c.self.inside.answers } in
+    let m : Running = record { input = c.self.inside.input.now; system = c.self.inside.system; workers = c.self.inside.workers; threads = c.self.inside.threads.items; answers = c.self.inside.answers; operator = c.self.inside.operator } in
     let entered : HasEntered m c.args.tid c.args.pid c.args.entered c.args.seq = subst (λ (k : Running). HasEntered k c.args.tid c.args.pid c.args.entered c.args.seq) (sym c.self.view_is) c.requires.entered in
     let held : IsHeldStep m c.args.tid c.args.seq steps.Wait = λ st is.
     held_waits m st is c.args.tid c.args.seq None (c.in_default.ensures.law m.input st is.workers) (held_live m st is c.args.tid c.args.pid c.args.seq c.args.entered entered c.requires.held) (λ v e. absurd cc) (λ errno e. absurd cc) in
@@ -43,3 +44,10 @@ returns-in-Faulted-clause-fit c = subst (CanBeDone c.args.self.now.system) (sym 
 
 pub returns-in_default-clause-fit : goal.returns-in_default-clause-fit
 returns-in_default-clause-fit c = tt
+
+pub decided_step-requires-clause-come : goal.decided_step-requires-clause-come
+decided_step-requires-clause-come c =
+    let m : Running = record { input = c.self.inside.input.now; system = c.self.inside.system; workers = c.self.inside.workers; threads = c.self.inside.threads.items; answers = c.self.inside.answers; operator = c.self.inside.operator } in
+    let come : (st : State) → IsMachine m st → HasComeTo m.input st c.args.seq (Some (Answered c.in-Answered.verdict)) =
+    λ st is. subst (λ (s : MsgState). HasComeTo m.input st c.args.seq (Some s)) c.in-Answered.is (c.in-Some.ensures.law m.input st is.workers) in
+    subst (λ (k : Running). (st : State) → IsMachine k st → HasComeTo k.input st c.args.seq (Some (Answered c.in-Answered.verdict))) c.self.view_is come

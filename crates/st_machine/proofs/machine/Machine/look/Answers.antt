@@ -9,7 +9,7 @@ use Rattle.st_workers.specs.Kept.{Follows}
 use Rattle.st_machine.proofs.machine.Machine.look.Goals as goal
 
 abbrev old : goal.In_ok-look → Running
-old c = record { input = c.self.inside.input.now; system = c.self.inside.system; workers = c.self.inside.workers; threads = c.self.inside.threads.items; answers = c.self.inside.answers }
+old c = record { input = c.self.inside.input.now; system = c.self.inside.system; workers = c.self.inside.workers; threads = c.self.inside.threads.items; answers = c.self.inside.answers; operator = c.self.inside.operator }
 
 task : (c : goal.In_ok-look) → HasTask (old c) c.args.worker (tasks.Look c.args.seq c.args.part)
 task c = subst (λ (m : Running). HasTask m c.args.worker (tasks.Look c.args.seq c.args.part)) (sym c.self.view_is) c.requires
@@ -29,7 +29,7 @@ returns-clause-step c = subst (λ (m : Running). IsStep m (choice.Worker c.args.
 -- without memory
 
 abbrev at_name : goal.After-from_residual → Running
-at_name c = record { input = c.self.inside.input.now; system = c.self.inside.system; workers = c.self.inside.workers; threads = c.self.inside.threads.items; answers = c.self.inside.answers }
+at_name c = record { input = c.self.inside.input.now; system = c.self.inside.system; workers = c.self.inside.workers; threads = c.self.inside.threads.items; answers = c.self.inside.answers; operator = c.self.inside.operator }
 
 stands_name : (c : goal.After-from_residual) → Stands (at_name c) (with_workers (at_name c) c.look_name.new.self)
 stands_name c = stands_so (at_name c) c.look_name.new.self (c.in_err-name.ensures.stands)
@@ -41,7 +41,7 @@ pub returns-in_err-name-clause-err : goal.returns-in_err-name-clause-err
 returns-in_err-name-clause-err c = on_err c.from_residual.result (subst (λ (m : Running). Stands m (with_workers (at_name c) c.look_name.new.self)) c.self.view_is (stands_name c))
 
 abbrev at_text : goal.After-drop-name-inside → Running
-at_text c = record { input = c.self.inside.input.now; system = c.self.inside.system; workers = c.self.inside.workers; threads = c.self.inside.threads.items; answers = c.self.inside.answers }
+at_text c = record { input = c.self.inside.input.now; system = c.self.inside.system; workers = c.self.inside.workers; threads = c.self.inside.threads.items; answers = c.self.inside.answers; operator = c.self.inside.operator }
 
 stands_text : (c : goal.After-drop-name-inside) → Stands (at_text c) (with_workers (at_text c) c.look_name.new.self)
 stands_text c = stands_so (at_text c) c.look_name.new.self (c.look_name.ensures.stands)
@@ -53,7 +53,7 @@ pub returns-in_err-text-clause-err : goal.returns-in_err-text-clause-err
 returns-in_err-text-clause-err c = on_err c.from_residual-in_err-text.result (subst (λ (m : Running). Stands m (with_workers (at_text c) c.look_name.new.self)) c.self.view_is (stands_text c))
 
 abbrev at_look : goal.After-drop-name-inside-in_err-look → Running
-at_look c = record { input = c.self.inside.input.now; system = c.self.inside.system; workers = c.self.inside.workers; threads = c.self.inside.threads.items; answers = c.self.inside.answers }
+at_look c = record { input = c.self.inside.input.now; system = c.self.inside.system; workers = c.self.inside.workers; threads = c.self.inside.threads.items; answers = c.self.inside.answers; operator = c.self.inside.operator }
 
 stands_look : (c : goal.After-drop-name-inside-in_err-look) → Stands (at_look c) (with_workers (at_look c) c.look.new.self)
 stands_look c = stands_so (at_look c) c.look.new.self (stands_on c.self.inside.workers c.look_name.new.self c.look.new.self c.look_name.ensures.stands c.in_err-look.ensures.err)

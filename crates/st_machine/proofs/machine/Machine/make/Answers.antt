@@ -22,7 +22,7 @@ use Rattle.st_machine.proofs.machine.Machine.make.Goals as goal
 
 pub end_call-requires : goal.end_call-requires
 end_call-requires c =
-    let m : Running = record { input = c.self.inside.input.now; system = c.self.inside.system; workers = c.self.inside.workers; threads = c.self.inside.threads.items; answers = c.self.inside.answers } in
+    let m : Running = record { input = c.self.inside.input.now; system = c.self.inside.system; workers = c.self.inside.workers; threads = c.self.inside.threads.items; answers = c.self.inside.answers; operator = c.self.inside.operator } in
     let next = subst (λ (k : Running). IsNext k c.args.tid (steps.Make c.args.made)) (sym c.self.view_is) c.requires.next in
     let process = ap (λ (k : Running). pid_of k.system.processes c.args.tid) c.self.view_is ∙ c.requires.process in
     let row = row_making m c.self.invariant c.args.tid c.args.made next in
@@ -30,7 +30,7 @@ end_call-requires c =
 
 pub end_by_all-requires-clause-calls : goal.end_by_all-requires-clause-calls
 end_by_all-requires-clause-calls c =
-    let m : Running = record { input = c.self.inside.input.now; system = c.self.inside.system; workers = c.self.inside.workers; threads = c.self.inside.threads.items; answers = c.self.inside.answers } in
+    let m : Running = record { input = c.self.inside.input.now; system = c.self.inside.system; workers = c.self.inside.workers; threads = c.self.inside.threads.items; answers = c.self.inside.answers; operator = c.self.inside.operator } in
     let next = subst (λ (k : Running). IsNext k c.args.tid (steps.Make c.args.made)) (sym c.self.view_is) c.requires.next in
     let process = ap (λ (k : Running). pid_of k.system.processes c.args.tid) c.self.view_is ∙ c.requires.process in
     let row = row_making m c.self.invariant c.args.tid c.args.made next in
@@ -41,7 +41,7 @@ end_by_all-requires-clause-calls c =
 -- ---- behind the call
 
 abbrev old : goal.After-entry → Running
-old c = record { input = c.self.inside.input.now; system = c.self.inside.system; workers = c.self.inside.workers; threads = c.self.inside.threads.items; answers = c.self.inside.answers }
+old c = record { input = c.self.inside.input.now; system = c.self.inside.system; workers = c.self.inside.workers; threads = c.self.inside.threads.items; answers = c.self.inside.answers; operator = c.self.inside.operator }
 
 next : (c : goal.After-entry) → IsNext (old c) c.args.tid (steps.Make c.args.made)
 next c = subst (λ (k : Running). IsNext k c.args.tid (steps.Make c.args.made)) (sym c.self.view_is) c.requires.next

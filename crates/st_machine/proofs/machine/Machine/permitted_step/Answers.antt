@@ -15,7 +15,7 @@ use Rattle.st_machine.proofs.machine.Machine.permitted_step.Goals as goal
 
 pub returns-in-Some-clause-step : goal.returns-in-Some-clause-step
 returns-in-Some-clause-step c =
-    let m : Running = record { input = c.self.inside.input.now; system = c.self.inside.system; workers = c.self.inside.workers; threads = c.self.inside.threads.items; answers = c.self.inside.answers } in
+    let m : Running = record { input = c.self.inside.input.now; system = c.self.inside.system; workers = c.self.inside.workers; threads = c.self.inside.threads.items; answers = c.self.inside.answers; operator = c.self.inside.operator } in
     let copies = c.in_ok-copies.copies in
     let next : IsPermittedStep m c.args.tid c.args.seq c.args.ids c.deny.result = λ st is s s_is.
     permitted_is m st is c.args.tid c.args.seq c.args.ids copies s c.as_slice.result.now c.in_ok-link.link m.input.options.aliasing c.in_ok-copies.ensures c.in_ok-link.ensures.link refl c.as_slice.ensures s_is
@@ -25,7 +25,7 @@ returns-in-Some-clause-step c =
 
 pub returns-clause-step : goal.returns-clause-step
 returns-clause-step c =
-    let m : Running = record { input = c.self.inside.input.now; system = c.self.inside.system; workers = c.self.inside.workers; threads = c.self.inside.threads.items; answers = c.self.inside.answers } in
+    let m : Running = record { input = c.self.inside.input.now; system = c.self.inside.system; workers = c.self.inside.workers; threads = c.self.inside.threads.items; answers = c.self.inside.answers; operator = c.self.inside.operator } in
     let copies = c.in_ok-copies.copies in
     let step : Step = steps.Make (record { seq = Some c.args.seq; call = copies.call; regs = copies.regs; args = copies.parts; ids = c.args.ids }) in
     let next : IsPermittedStep m c.args.tid c.args.seq c.args.ids step = λ st is s s_is.
@@ -38,7 +38,7 @@ returns-in-Some-clause-fit c = subst (CanBeDone c.args.self.now.system) (sym c.d
 
 pub returns-clause-fit : goal.returns-clause-fit
 returns-clause-fit c =
-    let m : Running = record { input = c.self.inside.input.now; system = c.self.inside.system; workers = c.self.inside.workers; threads = c.self.inside.threads.items; answers = c.self.inside.answers } in
+    let m : Running = record { input = c.self.inside.input.now; system = c.self.inside.system; workers = c.self.inside.workers; threads = c.self.inside.threads.items; answers = c.self.inside.answers; operator = c.self.inside.operator } in
     let copies = c.in_ok-copies.copies in
     let fit : IsFit m.system (record { seq = Some c.args.seq; call = copies.call; regs = copies.regs; args = copies.parts; ids = c.args.ids }) = record {
       fit = copies_fit m c.self.invariant.state c.self.invariant.is c.args.seq copies (c.in_ok-copies.ensures m.input c.self.invariant.state c.self.invariant.is.workers);

@@ -5,6 +5,6 @@ use Rattle.st_machine.proofs.machine.Machine.serve.Goals as goal
 
 pub answer_of-requires-clause-task : goal.answer_of-requires-clause-task
 answer_of-requires-clause-task c =
-    let m : Running = record { input = c.self.inside.input.now; system = c.self.inside.system; workers = c.self.inside.workers; threads = c.self.inside.threads.items; answers = c.self.inside.answers } in
+    let m : Running = record { input = c.self.inside.input.now; system = c.self.inside.system; workers = c.self.inside.workers; threads = c.self.inside.threads.items; answers = c.self.inside.answers; operator = c.self.inside.operator } in
     let task : HasTask m c.args.worker tasks.Answer = record { here = sym c.in-Answer.ensures.task; there = c.in-Answer.ensures.there; law = c.in-Answer.ensures.law } in
     subst (λ (k : Running). HasTask k c.args.worker tasks.Answer) c.self.view_is task

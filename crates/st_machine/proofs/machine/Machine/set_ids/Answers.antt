@@ -27,7 +27,7 @@ use Rattle.st_machine.proofs.machine.Machine.set_ids.Goals as goal
 
 pub plan_renewals-requires-clause-room : goal.plan_renewals-requires-clause-room
 plan_renewals-requires-clause-room c =
-    let m : Running = record { input = c.self.inside.input.now; system = c.self.inside.system; workers = c.self.inside.workers; threads = c.self.inside.threads.items; answers = c.self.inside.answers } in
+    let m : Running = record { input = c.self.inside.input.now; system = c.self.inside.system; workers = c.self.inside.workers; threads = c.self.inside.threads.items; answers = c.self.inside.answers; operator = c.self.inside.operator } in
     let room = room_for_all m c.self.invariant.state c.self.invariant.is in
     let next = c.next_seq.ensures in
     let count = ap (λ (rows : List ThreadRow). length rows) c.deref.ensures.value in
@@ -35,7 +35,7 @@ plan_renewals-requires-clause-room c =
 
 pub end_call-requires : goal.end_call-requires
 end_call-requires c =
-    let m : Running = record { input = c.self.inside.input.now; system = c.self.inside.system; workers = c.self.inside.workers; threads = c.self.inside.threads.items; answers = c.self.inside.answers } in
+    let m : Running = record { input = c.self.inside.input.now; system = c.self.inside.system; workers = c.self.inside.workers; threads = c.self.inside.threads.items; answers = c.self.inside.answers; operator = c.self.inside.operator } in
     let next = subst (λ (k : Running). IsNext k c.args.tid (steps.Make c.args.made)) (sym c.self.view_is) c.requires.next in
     let process = ap (λ (k : Running). pid_of k.system.processes c.args.tid) c.self.view_is ∙ c.requires.process in
     let row = row_making m c.self.invariant c.args.tid c.args.made next in
@@ -44,7 +44,7 @@ end_call-requires c =
 -- ---- before the other calls are renewed
 
 abbrev early_old : goal.After-renew_all-arg-2-1 → Running
-early_old c = record { input = c.self.inside.input.now; system = c.self.inside.system; workers = c.self.inside.workers; threads = c.self.inside.threads.items; answers = c.self.inside.answers }
+early_old c = record { input = c.self.inside.input.now; system = c.self.inside.system; workers = c.self.inside.workers; threads = c.self.inside.threads.items; answers = c.self.inside.answers; operator = c.self.inside.operator }
 
 early_next : (c : goal.After-renew_all-arg-2-1) → IsNext (early_old c) c.args.tid (steps.Make c.args.made)
 early_next c = subst (λ (k : Running). IsNext k c.args.tid (steps.Make c.args.made)) (sym c.self.view_is) c.requires.next
@@ -97,7 +97,7 @@ renew_all-requires-clause-short c = subst IsShort
 -- ---- behind all
 
 abbrev old : goal.After-drop-outcome → Running
-old c = record { input = c.self.inside.input.now; system = c.self.inside.system; workers = c.self.inside.workers; threads = c.self.inside.threads.items; answers = c.self.inside.answers }
+old c = record { input = c.self.inside.input.now; system = c.self.inside.system; workers = c.self.inside.workers; threads = c.self.inside.threads.items; answers = c.self.inside.answers; operator = c.self.inside.operator }
 
 next : (c : goal.After-drop-outcome) → IsNext (old c) c.args.tid (steps.Make c.args.made)
 next c = subst (λ (k : Running). IsNext k c.args.tid (steps.Make c.args.made)) (sym c.self.view_is) c.requires.next

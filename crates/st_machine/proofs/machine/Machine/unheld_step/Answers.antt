@@ -11,7 +11,7 @@ use Rattle.st_machine.proofs.machine.Machine.unheld_step.Goals.{in-None, in-Some
 
 pub returns-clause-fit : goal.returns-clause-fit
 returns-clause-fit c =
-    let m : Running = record { input = c.self.inside.input.now; system = c.self.inside.system; workers = c.self.inside.workers; threads = c.self.inside.threads.items; answers = c.self.inside.answers } in
+    let m : Running = record { input = c.self.inside.input.now; system = c.self.inside.system; workers = c.self.inside.workers; threads = c.self.inside.threads.items; answers = c.self.inside.answers; operator = c.self.inside.operator } in
     let st = c.self.invariant.state in
     elim c.match-link.branch [
       | in-None w ↦ subst (CanBeDone c.args.self.now.system) (sym w.result-is) (record {
