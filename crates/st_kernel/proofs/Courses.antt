@@ -6,18 +6,16 @@ use Rattle.std.proofs.lemmas.List.{length-append, reverse-append}
 use Rattle.std.proofs.lemmas.Grind.{reverse_onto}
 use Rattle.st_trace.specs.declared.entry.Choice.{Choice}
 use Rattle.st_trace.specs.declared.entry.Entry.{Entry}
-use Rattle.st_trace.specs.declared.entry.Entry.TheVariants.{Used, Faulted, Answered}
+use Rattle.st_trace.specs.declared.entry.Entry.TheVariants.{Used, Faulted, Answered, Learned, Replied}
 use Rattle.st_law.specs.Machine.{entry_of, history, history_with, run, state_after, state_at, state_of_run, thread_entry}
 use Rattle.st_law.specs.State.{State, thread_count}
 use Rattle.st_law.specs.Threads.{History}
 use Rattle.st_law.specs.declared.input.Input.{Input}
 use Rattle.st_reached.specs.Waiting.{is_message_by, wakes}
-use Rattle.st_reached.proofs.Reached.{Reached, lawful_entry, reached_run}
-use Rattle.st_reached.proofs.Still.{none_still}
+use Rattle.st_reached.proofs.Reached.{Reached, reached_run}
 use Rattle.st_reached.proofs.StillKept.{none_more}
 use Rattle.st_machine.specs.Machine.{IsMachine, IsStep, Running}
 use Rattle.st_kernel.specs.Kernel.{IsCourse, may_wake}
-use Rattle.st_kernel.proofs.Movers.{makes_none}
 
 module _ (i : Input) (choices : List Choice) (c : Choice) (e : Entry) (adds : entry_of i (state_of_run i choices) c ≡ Some e) where
   abbrev before : History
@@ -42,6 +40,8 @@ wakes_none : (st : State) (e : Entry) (t : ℕ) → may_wake e ≡ false → wak
 wakes_none st (Used u seq call regs args ids result changes) t e = e
 wakes_none st (Faulted q errno) t e = cc
 wakes_none st (Answered w s v applied) t e = ap (λ (b : Bool). b && is_message_by st t s.seq) e
+wakes_none st (Learned q n) t e = cc
+wakes_none st (Replied q reply n) t e = cc
 wakes_none st _ t e = refl
 
 -- where the cursor stands behind an entry
@@ -59,9 +59,7 @@ module _ (m : Running) (trace : List Entry) (choices : List Choice) (first : ℕ
   still_then : (b : Bool) → may_wake e ≡ b → (t : ℕ) → 1 ≤ t → t < (if b then 1 else first) → thread_entry m.input (state_after m.input st e) t ≡ None
   still_then true is t some before = absurd (omega (arith, some, before))
   still_then false is t some before =
-      let none = course.still t some before in
-      let enforces = course.machine.enforces in
-      none_more m.input st reached t enforces none c e adds (λ same. makes_none m.input st t some (none_still m.input st reached.whole enforces t none) e (lawful_entry m.input st reached c e adds) same) (wakes_none st e t is)
+      none_more m.input st reached t some (course.still t some before) c e adds (wakes_none st e t is)
 
   within : (b : Bool) → (1 ≤ (if b then 1 else first)) × ((if b then 1 else first) ≤ suc (thread_count m.input))
   within true = (omega arith, omega arith)

@@ -13,7 +13,6 @@ use Rattle.st_law.specs.Schedules.{EnabledChoice, choice_or, first_enabled, firs
 use Rattle.st_law.specs.State.{State, thread_count}
 use Rattle.st_law.specs.declared.input.Input.{Input}
 use Rattle.st_machine.specs.Machine.{IsMachine, Running}
-use Rattle.st_machine.proofs.Choices.{none_asked}
 use Rattle.st_kernel.specs.Cursor.{HasFirstAble, IsFirstServer, NoneAble, NoneServes}
 
 -- ---- one after the other
@@ -97,9 +96,23 @@ module _ (m : Running) (st : State) (is : IsMachine m st) where
       let to = server.to in
       sym (ap chosen (no_thread from first before able beyond) ∙ found choice.Worker m.input st 1 m.input.options.workers (choice_or choice.Operator (entry_of m.input st choice.Operator) None) worker server.from (omega (arith, to)) (λ w low high. server.none st is w low high) (server.serves st is))
 
-  -- else nobody
-  pub nobody_first : (from first : ℕ) → ((t : ℕ) → 1 ≤ t → t < from → thread_entry m.input st t ≡ None) → HasFirstAble m from first → thread_count m.input < first → NoneServes m (suc m.input.options.workers) → None ≡ chosen (first_enabled m.input st)
-  nobody_first from first before able beyond none =
-      sym (ap chosen (no_thread from first before able beyond
+  no_worker : (from first : ℕ) → ((t : ℕ) → 1 ≤ t → t < from → thread_entry m.input st t ≡ None) → HasFirstAble m from first → thread_count m.input < first → NoneServes m (suc m.input.options.workers) → first_enabled m.input st ≡ choice_or choice.Operator (entry_of m.input st choice.Operator) None
+  no_worker from first before able beyond none =
+      no_thread from first before able beyond
       ∙ none_of choice.Worker m.input st 1 m.input.options.workers (choice_or choice.Operator (entry_of m.input st choice.Operator) None) (λ w low high. none st is w low (omega (arith, high)))
-      ∙ ap (λ (o : Option Entry). choice_or choice.Operator o None) (none_asked m st is)))
+
+  -- else the operator, if there is a question
+  pub operator_first : (from first : ℕ) → ((t : ℕ) → 1 ≤ t → t < from → thread_entry m.input st t ≡ None) → HasFirstAble m from first → thread_count m.input < first → NoneServes m (suc m.input.options.workers)
+      → (b : Bool) → b ≡ is_some (entry_of m.input st choice.Operator) → b ≡ true → Some choice.Operator ≡ chosen (first_enabled m.input st)
+  operator_first from first before able beyond none b says can = sym (ap chosen (no_worker from first before able beyond none) ∙ by (entry_of m.input st choice.Operator) (sym says ∙ can)) where
+    by : (o : Option Entry) → is_some o ≡ true → chosen (choice_or choice.Operator o None) ≡ Some choice.Operator
+    by None e = cc
+    by (Some entry) e = refl
+
+  -- else nobody
+  pub nobody_first : (from first : ℕ) → ((t : ℕ) → 1 ≤ t → t < from → thread_entry m.input st t ≡ None) → HasFirstAble m from first → thread_count m.input < first → NoneServes m (suc m.input.options.workers)
+      → (b : Bool) → b ≡ is_some (entry_of m.input st choice.Operator) → b ≡ false → None ≡ chosen (first_enabled m.input st)
+  nobody_first from first before able beyond none b says cannot = sym (ap chosen (no_worker from first before able beyond none) ∙ by (entry_of m.input st choice.Operator) (sym says ∙ cannot)) where
+    by : (o : Option Entry) → is_some o ≡ false → chosen (choice_or choice.Operator o None) ≡ None
+    by None e = refl
+    by (Some entry) e = cc

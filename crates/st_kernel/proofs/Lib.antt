@@ -1,5 +1,4 @@
 mod Courses
 mod Cursors
-mod Movers
 mod Plays
 mod Rests

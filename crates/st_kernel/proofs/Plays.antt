@@ -1,8 +1,9 @@
 -- What the lines of a schedule come to, from where the kernel stands.
 use native.Mathlib.Omega.{arith}
-use Rattle.std.proofs.Common.{◌≡◌, ◌<◌, ◌∙◌, ℕ, suc, ◌+◌, ◌-◌, ◌∷◌, ◌++◌, List, [], Option, Some, None, Result, Ok, Err, refl, ap, sym, subst}
+use Rattle.std.proofs.Common.{◌≡◌, ◌<◌, ◌∙◌, ℕ, suc, ◌+◌, ◌-◌, ◌∷◌, ◌++◌, List, [], Some, None, Result, Ok, Err, ap, sym, subst}
 use Rattle.std.specs.Result.{IsErr, IsErrAnd}
 use Rattle.std.proofs.Math.Nat.{le_refl}
+use Rattle.std.proofs.lemmas.List.{append_assoc, append-nil}
 use Rattle.st_trace.specs.declared.entry.Choice.{Choice}
 use Rattle.st_trace.specs.declared.entry.Entry.{Entry}
 use Rattle.st_law.proofs.Resting.{rest_settles}
@@ -13,7 +14,7 @@ use Rattle.st_law.specs.State.{State}
 use Rattle.st_law.specs.declared.input.Input.{Input}
 use Rattle.st_law.specs.declared.input.What.TheVariants.{Rest}
 use Rattle.st_kernel.specs.declared.kernel.StepFault.{StepFault}
-use Rattle.st_kernel.specs.Kernel.{Course, rested, standing, with_choice}
+use Rattle.st_kernel.specs.Kernel.{Course, rested, standing, with_choice, Continues}
 use Rattle.st_kernel.proofs.Courses.{state_more}
 
 module _ (i : Input) (made : List Choice) where
@@ -61,6 +62,19 @@ module _ (old : Course) (c : Choice) (count k : ℕ) (within : k < count) where
 
   pub round_stuck : (input : Input) → i ≡ input → entry_of i (state_of_run i old.choices) c ≡ None → repeated (count - k) c input (standing old) ≡ None
   round_stuck input same none = subst (λ (j : Input). repeated (count - k) c j (standing old) ≡ None) same (stuck none)
+
+-- ---- choices that were made stand
+
+-- no choice more
+pub continues_here : (course : Course) → Continues course course
+continues_here course = ([], sym (append-nil course.choices))
+
+-- one choice more
+pub continues_by : (old : Course) (c : Choice) (new : Course) → new ≡ with_choice old c → Continues old new
+continues_by old c new on = (c ∷ [], ap (λ (course : Course). course.choices) on)
+
+pub continues_on : (first middle last : Course) → Continues first middle → Continues middle last → Continues first last
+continues_on first middle last a b = (a.0 ++ b.0, b.1 ∙ ap (λ (l : List Choice). l ++ b.0) a.1 ∙ append_assoc first.choices a.0 b.0)
 
 -- the error of a result, else the other
 abbrev fault_or : {A : Type 0} → StepFault → Result A StepFault → StepFault

@@ -3,7 +3,7 @@ use Rattle.std.specs.Prelude.{◌≡◌, ◌≤◌, ◌<◌, ℕ, suc, Bool, tru
 use Rattle.std.specs.List.{list_any}
 use Rattle.st_trace.specs.declared.entry.Choice.{Choice}
 use Rattle.st_trace.specs.declared.entry.Entry.{Entry}
-use Rattle.st_trace.specs.declared.entry.Entry.TheVariants.{Used, Faulted, Answered}
+use Rattle.st_trace.specs.declared.entry.Entry.TheVariants.{Used, Faulted, Answered, Learned, Replied}
 use Rattle.st_law.specs.declared.input.Input.{Input}
 use Rattle.st_law.specs.Inputs.{IsStartable}
 use Rattle.st_law.specs.Machine.{entry_of, run, state_of_run, thread_entry, IsEnabled}
@@ -20,6 +20,10 @@ pub record Course : Type 0 where
 -- with one more choice
 abbrev pub with_choice : Course → Choice → Course
 with_choice course choice = record { input = course.input; choices = course.choices ++ choice ∷ [] }
+
+-- more choices may have been made, and none is taken back
+abbrev pub Continues : Course → Course → Type 0
+Continues old new = (made : List Choice) × (new.choices ≡ old.choices ++ made)
 
 -- a choice is enabled, and the run has gone on by it; or it isn't, and the run is as before
 abbrev pub IsChosen : Course → Choice → Bool → Course → Type 0
@@ -48,6 +52,8 @@ abbrev pub may_wake : Entry → Bool
 may_wake (Used t seq call regs args ids result changes) = list_any wakes_all changes
 may_wake (Faulted q errno) = true
 may_wake (Answered w s v applied) = applied
+may_wake (Learned q n) = true
+may_wake (Replied q reply n) = true
 may_wake _ = false
 
 -- what runs is the machine behind these choices, each of them was enabled at its turn, the trace is their run, and no thread before the

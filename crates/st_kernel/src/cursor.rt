@@ -1,5 +1,5 @@
 // The first choice that is enabled, found by a cursor: before it no thread can move.
-ghost use Rattle.std.specs.Prelude.{◌≡◌, ◌≤◌, ◌<◌, suc, true, if◌then◌else◌};
+ghost use Rattle.std.specs.Prelude.{◌≡◌, ◌≤◌, ◌<◌, suc, true, if◌then◌else◌, IfOk};
 ghost use Rattle.std.specs.List.{list_any};
 ghost use Rattle.st_law.specs.State.{thread_count};
 ghost use Rattle.st_reached.specs.Waiting.{wakes_all};
@@ -9,6 +9,7 @@ ghost use Rattle.st_kernel.specs.Kernel.{may_wake};
 use st_base::{Tid, Worker};
 use st_machine::Machine;
 use st_trace::{Change, Entry};
+use std::alloc::{AllocError, Global};
 
 // Whether a change may let any thread move: a process ends, runs another binary, or has a child.
 fn wakes_all(change: &Change) -> bool
@@ -35,6 +36,7 @@ fn may_wake(entry: &Entry) -> bool
         Entry::Used { changes, .. } => wakes_some(changes.as_slice()),
         Entry::Faulted { .. } => true,
         Entry::Answered { applied, .. } => *applied,
+        Entry::Learned { .. } | Entry::Replied { .. } => true,
         _ => false,
     }
 }
@@ -47,18 +49,18 @@ pub fn cursor_behind(first: Tid, entry: &Entry) -> Tid
 }
 
 /// The first thread from this one on that can move; the number behind the last where none can.
-pub fn first_able(machine: &Machine<'_>, from: Tid) -> Tid
+pub fn first_able(machine: &Machine<'_>, alloc: Global, from: Tid) -> Result<Tid, AllocError>
     requires from { 1 ≤ from }
     requires to { from ≤ suc (thread_count machine.now.input) }
-    ensures { HasFirstAble machine.now from result }
+    ensures { IfOk result (HasFirstAble machine.now from) }
 {
     let end = machine.thread_count() + 1;
     for tid in from..end {
-        if machine.can_move(tid) {
-            return tid;
+        if machine.can_move(alloc, tid)? {
+            return Ok(tid);
         }
     }
-    end
+    Ok(end)
 }
 
 /// The first worker that can move.

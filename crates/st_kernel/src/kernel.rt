@@ -1,13 +1,11 @@
-ghost use Rattle.std.specs.Prelude.{◌≡◌, ◌++◌, List, [], None, is_some, IfOk, OnOk, OnErr};
-ghost use Rattle.st_trace.specs.declared.entry.Choice.{Choice};
+ghost use Rattle.std.specs.Prelude.{◌≡◌, [], None, is_some, IfOk, OnOk, OnErr};
 ghost use Rattle.st_law.specs.Inputs.{IsStartable};
 ghost use Rattle.st_law.specs.Lawful.{Lawful};
 ghost use Rattle.st_law.specs.Machine.{entry_of, run, state_of_run, IsEnabled, IsSettled};
-ghost use Rattle.st_law.specs.declared.input.Mode.TheVariants.{Enforce};
-ghost use Rattle.st_reached.specs.Grants.{SetIdsUngranted};
+ghost use Rattle.st_reached.specs.Grants.{RepliesUngranted, SetIdsUngranted};
 ghost use Rattle.st_reached.specs.Scripts.{IsBounded};
 ghost use Rattle.st_system.specs.Start.{CanStart};
-ghost use Rattle.st_kernel.specs.Kernel.{next_of, rested, with_choice, IsChosen, IsPlayed};
+ghost use Rattle.st_kernel.specs.Kernel.{next_of, rested, with_choice, Continues, IsChosen, IsPlayed};
 
 use crate::cursor::{cursor_behind, first_able, first_server};
 use st_base::Tid;
@@ -69,7 +67,7 @@ impl<'a> Kernel<'a> {
         requires system { CanStart input.now }
         requires bounded { IsBounded input.now.start }
         requires ungranted { SetIdsUngranted input.now.policies }
-        requires enforces { input.now.options.mode ≡ Enforce }
+        requires replies { RepliesUngranted input.now.replies }
         ensures input { IfOk result (λ kernel. kernel.input ≡ input.now) }
         ensures choices { IfOk result (λ kernel. kernel.choices ≡ []) }
     {
@@ -105,15 +103,16 @@ impl<'a> Kernel<'a> {
     }
 
     /// Whether a choice is enabled: it would add an entry now.
-    pub fn is_enabled(&self, choice: Choice) -> bool
-        ensures { result ≡ is_some (entry_of self.now.input (state_of_run self.now.input self.now.choices) choice) }
+    pub fn is_enabled(&self, alloc: Global, choice: Choice) -> Result<bool, AllocError>
+        ensures { IfOk result (λ enabled. enabled ≡ is_some (entry_of self.now.input (state_of_run self.now.input self.now.choices) choice)) }
     {
         match choice {
-            Choice::Thread(tid) => self.machine.can_move(tid),
+            Choice::Thread(tid) => self.machine.can_move(alloc, tid),
             Choice::Worker(worker) if 0 < worker && worker <= self.machine.worker_count() => {
-                self.machine.can_serve(worker)
+                Ok(self.machine.can_serve(worker))
             }
-            _ => false,
+            Choice::Worker(_) => Ok(false),
+            Choice::Operator => self.machine.can_ask(alloc),
         }
     }
 
@@ -149,20 +148,23 @@ impl<'a> Kernel<'a> {
         }
     }
 
-    // The first choice that is enabled: threads by number, then workers by number. The cursor goes on to its thread.
-    fn next_choice(&mut self) -> Option<Choice>
-        ensures next { result ≡ next_of self.old }
+    // The first choice that is enabled: threads by number, then workers by number, then the operator. The cursor goes on to its thread.
+    fn next_choice(&mut self, alloc: Global) -> Result<Option<Choice>, AllocError>
+        ensures next { IfOk result (λ next. next ≡ next_of self.old) }
         ensures same { self.new ≡ self.old }
         ensures played { IsPlayed self.old }
     {
-        self.first = first_able(&self.machine, self.first);
+        self.first = first_able(&self.machine, alloc, self.first)?;
         if self.first <= self.machine.thread_count() {
-            return Some(Choice::Thread(self.first));
+            return Ok(Some(Choice::Thread(self.first)));
         }
-        let Some(worker) = first_server(&self.machine) else {
-            return None;
-        };
-        Some(Choice::Worker(worker))
+        if let Some(worker) = first_server(&self.machine) {
+            return Ok(Some(Choice::Worker(worker)));
+        }
+        if self.machine.can_ask(alloc)? {
+            return Ok(Some(Choice::Operator));
+        }
+        Ok(None)
     }
 
     /// Makes the first enabled choice again and again, until none is enabled. Without memory the steps that were made stand.
@@ -170,10 +172,10 @@ impl<'a> Kernel<'a> {
         ensures ok { OnOk result (self.new ≡ rested self.old) }
         ensures settled { OnOk result (IsSettled self.new.input (state_of_run self.new.input self.new.choices)) }
         ensures on_the_way { rested self.new ≡ rested self.old }
-        ensures made { (made : List Choice) × (self.new.choices ≡ self.old.choices ++ made) }
+        ensures made { Continues self.old self.new }
         ensures played { OnOk result (IsPlayed self.new) }
     {
-        while let Some(choice) = self.next_choice() {
+        while let Some(choice) = self.next_choice(alloc)? {
             self.choose(alloc, choice)?;
         }
         Ok(())

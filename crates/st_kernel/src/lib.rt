@@ -7,6 +7,3 @@ pub mod play;
 
 pub use kernel::{Kernel, StepFault};
 pub use play::PlayFault;
-
-#[cfg(test)]
-mod tests;

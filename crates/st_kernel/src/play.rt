@@ -1,7 +1,7 @@
 // A schedule's lines, one after the other.
 ghost use Rattle.std.specs.Prelude.{◌≡◌, ℕ, None, Some, OnOk};
 ghost use Rattle.st_law.specs.Schedules.{BadLine, Choices, line_played, lines_played, repeated};
-ghost use Rattle.st_kernel.specs.Kernel.{standing};
+ghost use Rattle.st_kernel.specs.Kernel.{standing, Continues};
 
 use crate::kernel::{Kernel, StepFault};
 use st_law::{ReadSchedule, ScheduleLine, What};
@@ -37,6 +37,7 @@ impl Kernel<'_> {
     fn repeat(&mut self, alloc: Global, choice: Choice, count: u32) -> Result<(), StepFault>
         ensures ok { OnOk result (repeated count choice self.old.input (standing self.old) ≡ Some (standing self.new)) }
         ensures not_enabled { result ≡ Err StepFault.NotEnabled → repeated count choice self.old.input (standing self.old) ≡ None }
+        ensures made { Continues self.old self.new }
         ensures input { self.new.input ≡ self.old.input }
     {
         for _ in 0..count {
@@ -49,6 +50,7 @@ impl Kernel<'_> {
     fn play_line(&mut self, alloc: Global, line: ScheduleLine) -> Result<(), StepFault>
         ensures ok { OnOk result (line_played line.what line.count self.old.input (standing self.old) ≡ Some (standing self.new)) }
         ensures not_enabled { result ≡ Err StepFault.NotEnabled → line_played line.what line.count self.old.input (standing self.old) ≡ None }
+        ensures made { Continues self.old self.new }
         ensures input { self.new.input ≡ self.old.input }
     {
         match line.what {
@@ -62,6 +64,7 @@ impl Kernel<'_> {
     pub fn play(&mut self, alloc: Global, schedule: &ReadSchedule) -> Result<(), PlayFault>
         ensures ok { OnOk result (lines_played schedule.now.lines schedule.now.bad self.old.input (standing self.old) ≡ Choices self.new.choices) }
         ensures bad_line { (line : ℕ) → result ≡ Err (PlayFault.BadLine line) → lines_played schedule.now.lines schedule.now.bad self.old.input (standing self.old) ≡ BadLine line }
+        ensures made { Continues self.old self.new }
         ensures input { self.new.input ≡ self.old.input }
     {
         for line in schedule.lines.as_slice() {

@@ -1,4 +1,4 @@
-use Rattle.std.proofs.Common.{◌≡◌, ◌∙◌, Some, ap, sym, subst}
+use Rattle.std.proofs.Common.{◌∙◌, Some, ap, sym, subst}
 use Rattle.st_law.specs.Inputs.{IsStartable}
 use Rattle.st_law.specs.Schedules.{line_played}
 use Rattle.st_law.specs.declared.input.What.{What}

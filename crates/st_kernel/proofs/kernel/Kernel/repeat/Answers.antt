@@ -1,7 +1,7 @@
-use Rattle.std.proofs.Common.{◌≡◌, ◌∙◌, Err, ap, sym}
+use Rattle.std.proofs.Common.{◌∙◌, Err, ap, sym}
 use Rattle.st_kernel.specs.Kernel.{Course}
 use Rattle.st_kernel.specs.declared.kernel.StepFault.TheVariants.{NotEnabled}
-use Rattle.st_kernel.proofs.Plays.{came_from, round_further, round_stuck}
+use Rattle.st_kernel.proofs.Plays.{came_from, continues_by, continues_on, round_further, round_stuck}
 use Rattle.st_kernel.proofs.kernel.Kernel.repeat.Goals as goal
 
 pub returns-in_err-advance-clause-not_enabled : goal.returns-in_err-advance-clause-not_enabled
@@ -11,6 +11,7 @@ returns-in_err-advance-clause-not_enabled c = λ is.
 
 pub loop-preserved : goal.loop-preserved
 loop-preserved c = record {
+  made = continues_on c.args.self.now c.loop.self c.advance.new.self c.loop.invariant.made (continues_by c.loop.self c.args.choice c.advance.new.self c.in_ok-advance.ensures.ok);
   input = ap (λ (course : Course). course.input) c.in_ok-advance.ensures.ok ∙ c.loop.invariant.input;
   left = round_further c.loop.self c.args.choice c.args.count c.loop.counter c.loop-test.true c.args.self.now.input c.loop.invariant.input c.advance.new.self c.in_ok-advance.ensures.ok c.in_ok-advance.ensures.enabled ∙ c.loop.invariant.left;
 }

@@ -7,7 +7,7 @@ goes : (c : goal.In_ok-choose) → GoesOn c.loop-choice.self c.choose.new.self
 goes c =
     let same = c.next_choice.ensures.same in
     subst (λ (course : Course). GoesOn course c.choose.new.self) same
-    (goes_on c.next_choice.new.self c.choose.new.self c.in-Some.choice _ (subst IsPlayed (sym same) c.next_choice.ensures.played) (ap next_of same ∙ sym c.next_choice.ensures.next ∙ c.in-Some.is) c.in_ok-choose.ensures.chosen)
+    (goes_on c.next_choice.new.self c.choose.new.self c.in-Some.choice _ (subst IsPlayed (sym same) c.next_choice.ensures.played) (ap next_of same ∙ sym c.in_ok-choice.ensures.next ∙ c.in-Some.is) c.in_ok-choose.ensures.chosen)
 
 pub loop-choice-smaller : goal.loop-choice-smaller
 loop-choice-smaller c = (goes c).less
@@ -20,8 +20,8 @@ loop-choice-preserved c = record {
 
 none : (c : goal.In_default) → next_of c.next_choice.new.self ≡ None
 none c =
-    let over : c.next_choice.result ≡ None = search (rules, c) in
-    ap next_of c.next_choice.ensures.same ∙ sym c.next_choice.ensures.next ∙ over
+    let over : c.in_ok-choice.field-0 ≡ None = search (rules, c) in
+    ap next_of c.next_choice.ensures.same ∙ sym c.in_ok-choice.ensures.next ∙ over
 
 pub returns-clause-ok : goal.returns-clause-ok
 returns-clause-ok c = sym (rest_over c.next_choice.new.self (none c)) ∙ ap rested c.next_choice.ensures.same ∙ c.loop-choice.invariant.on_the_way
