@@ -10,6 +10,3 @@ mod part;
 pub use arguments::{Arguments, arguments_in};
 pub use asked::Asked;
 pub use links::link_met;
-
-#[cfg(test)]
-mod tests;

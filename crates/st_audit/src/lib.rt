@@ -12,7 +12,4 @@ mod process;
 mod read;
 mod session;
 
-pub use audit::{audit_text, longer_runs_extend_the_audit};
-
-#[cfg(test)]
-mod tests;
+pub use audit::{audit_text, longer_runs_extend_the_audit, told_audit};

@@ -11,6 +11,3 @@ pub use errno::Errno;
 pub use ids::{Ids, Obj, Pid, Seq, Space, Tid, Worker};
 pub use sequence::Sequence;
 pub use text::Text;
-
-#[cfg(test)]
-mod tests;

@@ -16,6 +16,3 @@ pub use flags::{
 pub use index::append_index;
 pub use judged::{Snapshot, Verdict};
 pub use rule::{FastAnswer, RULES, Rule};
-
-#[cfg(test)]
-mod tests;

@@ -10,6 +10,3 @@ mod words;
 pub use command::{CheckWords, Command, StepWords};
 pub use given::Print;
 pub use reading::read_words;
-
-#[cfg(test)]
-mod tests;

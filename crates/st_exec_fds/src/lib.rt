@@ -6,6 +6,3 @@ mod transfers;
 
 pub use descriptors::{close, dup, lseek};
 pub use transfers::{read, write};
-
-#[cfg(test)]
-mod tests;

@@ -11,6 +11,3 @@ pub use st_exec_fds::{close, dup, lseek, read, write};
 pub use st_exec_names::{link, mkdir, rename, rmdir, symlink, unlink};
 pub use st_exec_objects::{access, chdir, chmod, chown, readlink, resolve, stat};
 pub use st_request::{Outcome, Request, open_files_stay_real};
-
-#[cfg(test)]
-mod tests;

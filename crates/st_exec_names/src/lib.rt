@@ -8,6 +8,3 @@ mod renaming;
 pub use entries::{rmdir, unlink};
 pub use making::{link, make_object, mkdir, symlink};
 pub use renaming::rename;
-
-#[cfg(test)]
-mod tests;

@@ -13,6 +13,3 @@ pub use execution::execve;
 pub use looks::{readlink, stat};
 pub use permission::{access, chmod, chown};
 pub use resolution::resolve;
-
-#[cfg(test)]
-mod tests;

@@ -13,7 +13,4 @@ pub use forking::fork;
 pub use identity::{geteuid, getpid, getuid, set_ids};
 pub use laws::addresses_have_ports;
 pub use signals::{exit, kill};
-pub use sockets::{bind, connect, socket};
-
-#[cfg(test)]
-mod tests;
+pub use sockets::{bind, connect, port_in, socket};

@@ -50,8 +50,8 @@ pub fn socket(fds: &mut Fds, alloc: Global, request: &Request<'_>) -> Result<Out
     Ok(Outcome::value(alloc, u64::from(fd)))
 }
 
-// The number behind the last colon of an address, or 2^64 - 1 where it is greater.
-pub(crate) fn port_in(address: &[u8]) -> u64
+/// The number behind the last colon of an address, or 2^64 - 1 where it is greater. One above 65,535 is no port.
+pub fn port_in(address: &[u8]) -> u64
     ensures { result ≡ min (port_in address.now) (2 ^ 64 - 1) }
 {
     let mut port: u64 = 0;

@@ -7,6 +7,3 @@ mod places;
 
 pub use fds::{FdFault, Fds};
 pub use laws::open_files_are_shared;
-
-#[cfg(test)]
-mod tests;

@@ -6,6 +6,3 @@ mod item;
 mod pattern;
 
 pub use pattern::glob;
-
-#[cfg(test)]
-mod tests;

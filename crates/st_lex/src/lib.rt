@@ -14,6 +14,3 @@ pub use quoted::{hex_digit, quote, quoted_is_one_token};
 pub use rows::next_row;
 pub use token::{LexFault, Lexed, Token, TokenKind};
 pub use unquoted::{Dollars, quoted_is_unquoted, unquote, unquote_plain};
-
-#[cfg(test)]
-mod tests;

@@ -11,6 +11,3 @@ pub mod slots;
 pub use head::Head;
 pub use slot::{Next, Slot};
 pub use slots::Slots;
-
-#[cfg(test)]
-mod tests;

@@ -6,6 +6,3 @@ pub mod spaces;
 
 pub use spaces::{MemFault, Spaces};
 pub use st_model::{SPACE_BYTES, SPACE_WORDS};
-
-#[cfg(test)]
-mod tests;

@@ -9,6 +9,3 @@ pub mod messages;
 pub use laws::numbers_are_used_once;
 pub use message::{Delivered, MsgState};
 pub use messages::Messages;
-
-#[cfg(test)]
-mod tests;

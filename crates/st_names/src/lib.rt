@@ -10,6 +10,3 @@ pub use limits::{LONGEST_NAME, LONGEST_PART};
 pub use name::{AbsName, NameParts};
 pub use parts::{NameFault, components, has_long_part, is_component};
 pub use seen::{Seen, SeenText};
-
-#[cfg(test)]
-mod tests;

@@ -24,6 +24,3 @@ pub use st_filter::{
     Action, BinaryPolicy, Cmp, Expr, Filter, FilterName, Grant, MOST_FILTERS, Op, Policy,
     PolicySet, Predicate, Who,
 };
-
-#[cfg(test)]
-mod tests;

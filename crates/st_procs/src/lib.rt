@@ -11,6 +11,3 @@ pub use identity::ids_after;
 pub use laws::rows_stay_apart;
 pub use procs::Procs;
 pub use rows::ProcRow;
-
-#[cfg(test)]
-mod tests;

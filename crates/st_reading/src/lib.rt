@@ -10,6 +10,3 @@ pub mod refusal;
 pub use environment::bare_env;
 pub use reading::{Reading, read_command};
 pub use refusal::{Refusal, Which};
-
-#[cfg(test)]
-mod tests;

@@ -10,6 +10,3 @@ pub mod trace;
 pub use entry::append_result;
 pub use schedule::{MOST_TIMES, a_printed_schedule_is_its_choices, schedule_text};
 pub use trace::{a_trace_is_printed_in_order, render_trace};
-
-#[cfg(test)]
-mod tests;

@@ -12,6 +12,3 @@ pub use memory::put_bytes;
 pub use outcome::Outcome;
 pub use request::Request;
 pub use want_of_memory::unrefused;
-
-#[cfg(test)]
-mod tests;

@@ -7,6 +7,3 @@ mod remaining;
 pub mod walk;
 
 pub use walk::{Walk, WalkFault, WalkStep, first_step};
-
-#[cfg(test)]
-mod tests;

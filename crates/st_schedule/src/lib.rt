@@ -4,6 +4,3 @@
 pub mod schedule;
 
 pub use schedule::{MOST_TIMES, read_schedule, schedule_line};
-
-#[cfg(test)]
-mod tests;

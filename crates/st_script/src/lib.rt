@@ -6,6 +6,3 @@ pub mod policies;
 pub mod reading;
 
 pub use reading::{ReadScript, read_script};
-
-#[cfg(test)]
-mod tests;

@@ -9,6 +9,3 @@ pub mod names;
 
 pub use fault::ScriptFault;
 pub use limits::{MOST_INSTRUCTIONS, MOST_PROCESSES, MOST_THREADS, MOST_TREE_ROWS};
-
-#[cfg(test)]
-mod tests;

@@ -13,6 +13,3 @@ pub mod values;
 
 pub use statement::{FilterText, ScriptLine, ScriptProcess, Statement};
 pub use statements::{lines_of_tokens, statement_of};
-
-#[cfg(test)]
-mod tests;

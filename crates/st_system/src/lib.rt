@@ -10,6 +10,3 @@ pub mod system;
 pub use laws::{arguments_are_fit, calls_that_set_ids_renew, started_threads_run};
 pub use st_arguments::Arguments;
 pub use system::System;
-
-#[cfg(test)]
-mod tests;

@@ -10,6 +10,3 @@ pub mod status;
 pub use plain::systrace_plain;
 pub use st_reading::Which;
 pub use status::Status;
-
-#[cfg(test)]
-mod tests;

@@ -10,6 +10,3 @@ mod stage;
 
 pub use copying::{Copying, Took};
 pub use register::plain_text;
-
-#[cfg(test)]
-mod tests;

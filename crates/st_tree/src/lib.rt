@@ -13,6 +13,3 @@ pub use object::Node;
 pub use places::is_proper_prefix;
 pub use st_model::{Kind, NewKind, NewNode, Want};
 pub use tree::{Tree, TreeFault};
-
-#[cfg(test)]
-mod tests;

@@ -11,6 +11,3 @@ pub use laws::what_is_kept;
 pub use task::Task;
 pub use turn::Turn;
 pub use workers::Workers;
-
-#[cfg(test)]
-mod tests;

@@ -1,0 +1,200 @@
+ghost use Rattle.std.specs.Prelude.{◌≡◌, true, IfOk};
+ghost use Rattle.st_model.specs.Descriptors.{has_table};
+
+use st_base::Errno;
+use st_fds::{FdFault, Fds};
+use st_model::{FileKind, OpenFile};
+use std::alloc::Global;
+use std::test::Fail;
+
+// A file of the tree, for reading, at offset 0.
+fn file(object: u32) -> OpenFile {
+    OpenFile {
+        kind: FileKind::Node(object),
+        read: true,
+        write: false,
+        append: false,
+        offset: 0,
+    }
+}
+
+// A socket without a port.
+fn socket() -> OpenFile {
+    OpenFile {
+        kind: FileKind::Socket {
+            port: None,
+            connected: false,
+        },
+        read: true,
+        write: true,
+        append: false,
+        offset: 0,
+    }
+}
+
+#[test]
+fn a_process_begins_with_the_console(rt: HostRuntime) -> Result<(), Fail> {
+    let mut fds = Fds::new(rt.alloc());
+    fds.start(1)?;
+    let cases = [
+        (0, Some(OpenFile::CONSOLE)),
+        (1, Some(OpenFile::CONSOLE)),
+        (2, Some(OpenFile::CONSOLE)),
+        (3, None),
+        (u64::MAX, None),
+    ];
+    for (fd, wanted) in cases {
+        assert_eq!(rt; fds.get(1, fd), wanted, "at {fd}");
+    }
+    assert_eq!(rt; fds.seek(1, 0, 5), Ok(()));
+    assert_eq!(rt; fds.get(1, 1), Some(OpenFile::CONSOLE));
+    Ok(())
+}
+
+#[test]
+fn a_process_has_64_descriptors(rt: HostRuntime) -> Result<(), Fail> {
+    let mut fds = Fds::new(rt.alloc());
+    fds.start(1)?;
+    for fd in 3..64 {
+        assert_eq!(rt; fds.open(1, file(fd)), Ok(fd));
+    }
+    assert!(rt; fds.is_full(1));
+    assert_eq!(rt; fds.open(1, file(64)), Err(FdFault::Os(Errno::EMFILE)));
+    assert_eq!(rt; fds.dup(1, 3), Err(FdFault::Os(Errno::EMFILE)));
+    assert_eq!(rt; fds.dup(1, 70), Err(FdFault::Os(Errno::EBADF)));
+    assert_eq!(rt; fds.get(1, 63), Some(file(63)));
+    assert_eq!(rt; fds.close(1, 64), Err(Errno::EBADF));
+    assert_eq!(rt; fds.close(1, 9), Ok(()));
+    assert_eq!(rt; fds.close(1, 5), Ok(()));
+    assert_eq!(rt; fds.close(1, 5), Err(Errno::EBADF));
+    assert_eq!(rt; fds.dup(1, 3), Ok(5));
+    assert_eq!(rt; fds.get(1, 5), Some(file(3)));
+    Ok(())
+}
+
+#[test]
+fn copies_share_their_offset(rt: HostRuntime) -> Result<(), Fail> {
+    let mut fds = Fds::new(rt.alloc());
+    fds.start(1)?;
+    fds.open(1, file(7))?;
+    fds.open(1, file(7))?;
+    fds.dup(1, 3)?;
+    fds.copy(1, 2)?;
+    fds.seek(2, 5, 40)?;
+    for (pid, fd, offset) in [(1, 3, 40), (1, 4, 0), (1, 5, 40), (2, 3, 40), (2, 4, 0)] {
+        let wanted = OpenFile { offset, ..file(7) };
+        assert_eq!(rt; fds.get(pid, fd), Some(wanted), "at {fd} of {pid}");
+    }
+    assert_eq!(rt; fds.seek(2, 6, 1), Err(Errno::EBADF));
+    Ok(())
+}
+
+#[test]
+fn an_open_socket_has_a_port(rt: HostRuntime) -> Result<(), Fail> {
+    let mut fds = Fds::new(rt.alloc());
+    fds.start(1)?;
+    fds.open(1, socket())?;
+    fds.open(1, socket())?;
+    assert_eq!(rt; fds.connect(1, 4, 80), Err(Errno::ECONNREFUSED));
+    assert_eq!(rt; fds.bind(1, 3, 80), Ok(()));
+    assert_eq!(rt; fds.bind(1, 4, 80), Err(Errno::EADDRINUSE));
+    assert_eq!(rt; fds.connect(1, 4, 80), Ok(()));
+    Ok(())
+}
+
+#[test]
+fn a_port_is_free_with_the_last_descriptor(rt: HostRuntime) -> Result<(), Fail> {
+    let mut fds = Fds::new(rt.alloc());
+    fds.start(1)?;
+    fds.open(1, socket())?;
+    fds.bind(1, 3, 80)?;
+    fds.copy(1, 2)?;
+    fds.close_all(1);
+    assert_eq!(rt; fds.open(1, socket()), Ok(0));
+    assert_eq!(rt; fds.bind(1, 0, 80), Err(Errno::EADDRINUSE));
+    fds.close(2, 3)?;
+    assert_eq!(rt; fds.bind(1, 0, 80), Ok(()));
+    Ok(())
+}
+
+// A process with a socket at 3 and a file at 4.
+fn with_socket(alloc: Global) -> Result<Fds, FdFault>
+    ensures { IfOk result (λ fds. has_table fds 1 ≡ true) }
+{
+    let mut fds = Fds::new(alloc);
+    fds.start(1)?;
+    fds.open(1, socket())?;
+    fds.open(1, file(7))?;
+    Ok(fds)
+}
+
+#[test]
+fn binds_refuse_in_order(rt: HostRuntime) -> Result<(), Fail> {
+    let cases = [
+        (5, 0, Err(Errno::EBADF)),
+        (0, 80, Err(Errno::EINVAL)),
+        (4, 80, Err(Errno::EINVAL)),
+        (3, 0, Err(Errno::EINVAL)),
+        (3, 65_535, Ok(())),
+    ];
+    for (fd, port, wanted) in cases {
+        let mut fds = with_socket(rt.alloc())?;
+        assert_eq!(rt; fds.bind(1, fd, port), wanted, "{port} at {fd}");
+    }
+    Ok(())
+}
+
+#[test]
+fn connects_refuse_in_order(rt: HostRuntime) -> Result<(), Fail> {
+    let cases = [
+        (5, 80, Err(Errno::EBADF)),
+        (4, 80, Err(Errno::EINVAL)),
+        (3, 80, Err(Errno::ECONNREFUSED)),
+    ];
+    for (fd, port, wanted) in cases {
+        let mut fds = with_socket(rt.alloc())?;
+        assert_eq!(rt; fds.connect(1, fd, port), wanted, "{port} at {fd}");
+    }
+    Ok(())
+}
+
+#[test]
+fn a_socket_is_bound_and_connected_once(rt: HostRuntime) -> Result<(), Fail> {
+    let mut fds = with_socket(rt.alloc())?;
+    fds.bind(1, 3, 65_535)?;
+    assert_eq!(rt; fds.bind(1, 3, 65_535), Err(Errno::EINVAL));
+    assert_eq!(rt; fds.connect(1, 3, 65_535), Ok(()));
+    assert_eq!(rt; fds.connect(1, 3, 80), Err(Errno::EINVAL));
+    let wanted = FileKind::Socket {
+        port: Some(65_535),
+        connected: true,
+    };
+    assert_eq!(rt; fds.get(1, 3).map(|found| found.kind), Some(wanted));
+    Ok(())
+}
+
+#[test]
+fn a_copy_is_taken_back(rt: HostRuntime) -> Result<(), Fail> {
+    let mut fds = Fds::new(rt.alloc());
+    fds.start(1)?;
+    fds.open(1, file(7))?;
+    fds.copy(1, 2)?;
+    assert_eq!(rt; fds.get(2, 3), Some(file(7)));
+    fds.uncopy(2);
+    fds.start(2)?;
+    assert_eq!(rt; (fds.get(2, 3), fds.get(1, 3)), (None, Some(file(7))));
+    Ok(())
+}
+
+#[test]
+fn an_open_is_taken_back(rt: HostRuntime) -> Result<(), Fail> {
+    let mut fds = Fds::new(rt.alloc());
+    fds.start(1)?;
+    fds.close(1, 1)?;
+    let fd = fds.open(1, file(7))?;
+    assert_eq!(rt; (fd, fds.get(1, 1)), (1, Some(file(7))));
+    fds.unopen(1, fd);
+    assert_eq!(rt; (fds.is_full(1), fds.get(1, 1)), (false, None));
+    assert_eq!(rt; fds.open(1, file(8)), Ok(1));
+    Ok(())
+}
