@@ -5,6 +5,7 @@ mod InMemory
 mod Placed
 mod PutTexts
 mod ReadTexts
+mod Replied
 mod Said
 mod Slashes
 mod Standing

@@ -48,7 +48,7 @@ ungranted env n a (Grants may spelled) is = absurd (may_not env n a may is)
 ungranted env n a (GrantsAndLogs may spelled) is = absurd (may_not env n a may is)
 ungranted env n a (LogsAndGrants may spelled) is = absurd (may_not env n a may is)
 
-filter_ungranted : (env : Env) (row : List Symbol) (f : FilterValue) → IsFilter env row f → IsUngrantedForSetting f
+pub filter_ungranted : (env : Env) (row : List Symbol) (f : FilterValue) → IsFilter env row f → IsUngrantedForSetting f
 filter_ungranted env row f filter is = ungranted env f.name f.action filter.tail_is (sets f.name is)
 
 -- ---- policies

@@ -1,0 +1,69 @@
+-- Replies of a script that is read grant no ids to a call that sets ids.
+use Rattle.std.proofs.Common.{◌≡◌, ℕ, Bool, true, false, if◌then◌else◌, List, [], ◌∷◌, Option, Some, None, Ok, Err, refl}
+use Rattle.std.proofs.lemmas.List.Elements.{All-from_recursion}
+use Rattle.std.specs.List.{AllByRecursion, cons_option, filter_map}
+use Rattle.std.specs.Prelude.{IfSome, option_map}
+use Rattle.st_filter.specs.Formula.{FilterValue}
+use Rattle.st_filter.specs.declared.filter.Action.{Action}
+use Rattle.st_filter.specs.declared.filter.Action.TheVariants as action
+use Rattle.st_filter.specs.declared.set.Reply.{Reply}
+use Rattle.st_law.specs.declared.input.Options.{Options}
+use Rattle.st_lex.specs.Unquote.{unquoted}
+use Rattle.st_policy.specs.OneFilter.{FilterResult, ReadsFilter, filter_in}
+use Rattle.st_policy.specs.declared.env.Env.{Env}
+use Rattle.st_reached.specs.Grants.{IsUngrantedForSetting, RepliesUngranted}
+use Rattle.st_script_faults.specs.Faults.{answer_of, reply_in, unless_ask}
+use Rattle.st_script_faults.specs.Names.{Name}
+use Rattle.st_statements.specs.Parts.{is_normal}
+use Rattle.st_statements.specs.Statements.{lines_in}
+use Rattle.st_statements.specs.declared.statement.ScriptLine.{ScriptLine}
+use Rattle.st_statements.specs.declared.statement.Statement.{Statement}
+use Rattle.st_statements.specs.declared.statement.Statement.TheVariants as says
+use Rattle.st_script.specs.Reading.{reply_said, script_in}
+use Rattle.st_script.specs.declared.reading.ReadScript.{ReadScript}
+use Rattle.st_script.proofs.ReadTexts.{read_has, whole_in}
+use Rattle.st_script.proofs.Ungranted.{filter_ungranted}
+
+abbrev IsUngrantedReply : Reply → Type 0
+IsUngrantedReply reply = IsUngrantedForSetting reply.filter
+
+-- what is read as a filter is one by the grammar
+abbrev pub IsSound : Type 0
+IsSound = (text : List ℕ) (env : Env) (filter : FilterValue) → filter_in text env ≡ Ok filter → ReadsFilter text env filter
+
+unless_it_asks : (filter : FilterValue) (a : Action) → IsUngrantedForSetting filter → IfSome (unless_ask filter a) IsUngrantedForSetting
+unless_it_asks filter action.Permit clean = clean
+unless_it_asks filter (action.Deny errno) clean = clean
+unless_it_asks filter action.Ask clean = tt
+
+for_binary : (binary : Name) (b : Bool) (o : Option FilterValue) → IfSome o IsUngrantedForSetting → IfSome (if b then option_map (λ f. record { binary = binary; filter = f }) o else None) IsUngrantedReply
+for_binary binary true None clean = tt
+for_binary binary true (Some filter) clean = clean
+for_binary binary false o clean = tt
+
+with_reply : (o : Option Reply) (replies : List Reply) → IfSome o IsUngrantedReply → AllByRecursion IsUngrantedReply replies → AllByRecursion IsUngrantedReply (cons_option o replies)
+with_reply None replies clean all = all
+with_reply (Some reply) replies clean all = (clean, all)
+
+module _ (sound : IsSound) where
+  answer_ungranted : (text : List ℕ) (env : Env) (r : FilterResult) → filter_in text env ≡ r → IfSome (answer_of r) IsUngrantedForSetting
+  answer_ungranted text env (Ok filter) is = let read = sound text env filter is in unless_it_asks filter filter.action (filter_ungranted env read.row filter read.is)
+  answer_ungranted text env (Err fault) is = tt
+
+  reply_ungranted : (env : Env) (binary filter : List ℕ) → IfSome (reply_in env binary filter) IsUngrantedReply
+  reply_ungranted env binary filter =
+      for_binary (unquoted env.dollars binary) (is_normal (unquoted env.dollars binary)) (answer_of (filter_in filter env)) (answer_ungranted filter env (filter_in filter env) refl)
+
+  said_ungranted : (env : Env) (o : Option Statement) → IfSome (reply_said env o) IsUngrantedReply
+  said_ungranted env None = tt
+  said_ungranted env (Some (says.Reply binary filter)) = reply_ungranted env binary filter
+  said_ungranted env (Some other) = tt
+
+  lines_ungranted : (env : Env) (lines : List ScriptLine) → AllByRecursion IsUngrantedReply (filter_map (λ line. reply_said env line.says) lines)
+  lines_ungranted env [] = tt
+  lines_ungranted env (line ∷ lines) = with_reply (reply_said env line.says) (filter_map (λ line. reply_said env line.says) lines) (said_ungranted env line.says) (lines_ungranted env lines)
+
+  -- what is read grants none
+  pub replies_ungranted : (text : List ℕ) (options : Options) (script : ReadScript) → script_in text options ≡ Ok script → RepliesUngranted script.replies
+  replies_ungranted text options =
+      read_has (λ (script : ReadScript). RepliesUngranted script.replies) text options (λ uncut none. All-from_recursion IsUngrantedReply _ (lines_ungranted (whole_in text options).env (lines_in text)))
