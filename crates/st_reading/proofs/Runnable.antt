@@ -8,7 +8,8 @@ use Rattle.st_policy.specs.Grammar.{Reads}
 use Rattle.st_policy.specs.declared.env.Env.{Env}
 use Rattle.st_law.specs.declared.input.Input.{Input}
 use Rattle.st_law.specs.declared.input.ReadSchedule.{ReadSchedule}
-use Rattle.st_reached.specs.Grants.{SetIdsUngranted}
+use Rattle.st_law.specs.declared.input.Options.{Options}
+use Rattle.st_reached.specs.Grants.{RepliesUngranted, SetIdsUngranted}
 use Rattle.st_schedule.specs.Schedule.{schedule_in}
 use Rattle.st_script_faults.specs.declared.fault.ScriptFault.{ScriptFault}
 use Rattle.st_script.proofs.Bounded.{script_is_bounded}
@@ -90,8 +91,12 @@ abbrev input_or : Input → Meaning → Input
 input_or other (Runs i s) = i
 input_or other _ = other
 
-pub runnable : (held : Held) (step : StepWords) (input : Input) (schedule : ReadSchedule) → MeansStep held step (Runs input schedule) → IsRunnable step input
-runnable held step input schedule meant =
+-- the replies of each script that is read grant no ids for setting ids
+abbrev pub RepliesAreUngranted : Type 0
+RepliesAreUngranted = (text : List ℕ) (options : Options) (script : ReadScript) → script_in text options ≡ Ok script → RepliesUngranted script.replies
+
+pub runnable : RepliesAreUngranted → (held : Held) (step : StepWords) (input : Input) (schedule : ReadSchedule) → MeansStep held step (Runs input schedule) → IsRunnable step input
+runnable replies held step input schedule meant =
     let x = step_read held step (Runs input schedule) tt meant in
     record {
       script = x.script;
@@ -100,6 +105,7 @@ runnable held step input schedule meant =
       can_start = script_can_start x.script_text step.options x.script x.script_is;
       bounded = script_is_bounded x.script_text step.options x.script x.script_is;
       ungranted = x.ungranted;
+      replies = replies x.script_text step.options x.script x.script_is;
     }
 
 -- a text of no run

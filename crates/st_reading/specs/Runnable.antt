@@ -2,14 +2,14 @@
 use Rattle.std.specs.Prelude.{◌≡◌, List}
 use Rattle.st_filter.specs.declared.set.BinaryPolicy.{BinaryPolicy}
 use Rattle.st_law.specs.declared.input.Input.{Input}
-use Rattle.st_reached.specs.Grants.{SetIdsUngranted}
+use Rattle.st_reached.specs.Grants.{RepliesUngranted, SetIdsUngranted}
 use Rattle.st_reached.specs.Scripts.{IsBounded}
 use Rattle.st_script.specs.Startable.{CanStart, input_with}
 use Rattle.st_script.specs.declared.reading.ReadScript.{ReadScript}
 use Rattle.st_command.specs.Command.{StepWords}
 
--- an input is of a script that a run can start with and that isn't too long, under policies that grant no ids for setting ids, with the
--- options of the words
+-- an input is of a script that a run can start with and that isn't too long, under policies and with replies that grant no ids for
+-- setting ids, with the options of the words
 pub record IsRunnable (step : StepWords) (input : Input) : Type 0 where
   pub script : ReadScript
   pub policies : List BinaryPolicy
@@ -17,3 +17,4 @@ pub record IsRunnable (step : StepWords) (input : Input) : Type 0 where
   pub can_start : CanStart script
   pub bounded : IsBounded script.start
   pub ungranted : SetIdsUngranted policies
+  pub replies : RepliesUngranted script.replies

@@ -7,6 +7,8 @@ ghost use Rattle.st_command.specs.declared.command.Command.TheVariants as comman
 ghost use Rattle.st_reading.specs.Meaning.{Held, Meaning, Means, Runs, Prints, is_stop, AreTold, names_of};
 ghost use Rattle.st_reading.specs.Runnable.{IsRunnable};
 
+use st_script::policies::what_is_replied_grants_no_ids_for_setting;
+
 /// A command over files that are told means exactly one thing, beside the files at which reading may stop.
 pub fn a_command_has_one_meaning()
     ensures some { (held : Held) (c : Command) → AreTold held (names_of c) → (outcome : Meaning) × (is_stop outcome ≡ false) × Means held c outcome }
@@ -14,10 +16,12 @@ pub fn a_command_has_one_meaning()
         Means held c a → Means held c b → a ≡ b }
 {}
 
-/// What `step` means to run can be run: by what its script and its policies keep to, and with the options of its words.
+/// What `step` means to run can be run: by what its script, its policies and its replies keep to, and with the options of its words.
 pub fn what_is_meant_to_run_can_run()
     ensures { (held : Held) (step : StepWords) (input : Input) (schedule : ReadSchedule) → Means held (command.Step step) (Runs input schedule) → IsRunnable step input }
-{}
+{
+    what_is_replied_grants_no_ids_for_setting();
+}
 
 /// `step` means no text of no run, and `check` no run.
 pub fn each_command_means_its_own_kind()
