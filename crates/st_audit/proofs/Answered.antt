@@ -125,7 +125,7 @@ module _ (i : Input) (startable : IsStartable i) where
   question_answered : (h : History) (q : ℕ) → is_question i (looking_back i h) q ≡ true → is_answered_at h q ≡ true
   question_answered h q e = asked_answered (is_live (looking_back i h) q) (is_answered_at h q) (is_open_question i (looking_back i h) (snapshot_in (looking_back i h) q)) e
 
-  session_same : (h : History) → IsLawfulBack i h → session_told i h ≡ session_at i h
+  pub session_same : (h : History) → IsLawfulBack i h → session_told i h ≡ session_at i h
   session_same [] lawful = refl
   session_same (Learned q n ∷ h) lawful =
       let y : IsLearned i (looking_back i h) q n = lawful.0 in

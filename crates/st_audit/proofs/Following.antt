@@ -8,7 +8,7 @@ use Rattle.st_calls.specs.declared.call.SysCall.{SysCall}
 use Rattle.st_effects.specs.Changes.{owner_after}
 use Rattle.st_law.specs.declared.input.Input.{Input}
 use Rattle.st_law.specs.Processes.{process_at}
-use Rattle.st_law.specs.Sessions.{session_after}
+use Rattle.st_law.specs.Sessions.{SessionFilter, session_after}
 use Rattle.st_law.specs.Threads.{History, changes_of, left_at, owner_at, pending_at, thread_of}
 use Rattle.st_trace.specs.declared.entry.CallResult.{CallResult}
 use Rattle.st_trace.specs.declared.entry.Change.{Change}
@@ -18,7 +18,7 @@ use Rattle.st_audit.specs.AuditText.{call_line, ending_text, line_by}
 use Rattle.st_audit.specs.How.{Decided, args_used, decided_on, how_used, is_logged}
 use Rattle.st_audit.specs.Ledger.{IsLedger, answer_in, entered_after, entered_in, kept_line, owner_in, row_in}
 use Rattle.st_audit.specs.Rows.{Row, row_after}
-use Rattle.st_audit.specs.Told.{answer_after, audit_told, copies_of, decided_told, session_of, told_back, told_line}
+use Rattle.st_audit.specs.Told.{Answer, answer_after, answer_of, audit_told, copies_of, decided_told, session_of, session_told, told_back, told_line}
 use Rattle.st_audit.specs.declared.how.How.{How}
 use Rattle.st_audit.specs.declared.ledger.Ledger.{Ledger}
 use Rattle.st_audit.proofs.Rows.{entered_changed, row_of_changed}
@@ -71,6 +71,16 @@ module _ (i : Input) (trace : List Entry) (k : ℕ) (e : Entry) (low : k < lengt
 
   pub kept_more : (old new : Ledger) → IsLedger i old (reverse (take k trace)) → ((h : History) → IsLedger i old h → IsLedger i new (e ∷ h)) → IsLedger i new (reverse (take (k + 1) trace))
   kept_more old new kept noted = subst (IsLedger i new) (sym (one_more trace k e low is)) (noted (reverse (take k trace)) kept)
+
+  -- the session and the answers alone, behind one entry more
+  pub session_more : (answers : BTreeMap ℕ Answer) (old new : List SessionFilter) → old ≡ session_told i (reverse (take k trace)) → ((q : ℕ) → answer_in answers q ≡ answer_of (reverse (take k trace)) q)
+      → new ≡ session_after i.replies (λ q. copies_of (answer_in answers q)) e old → new ≡ session_told i (reverse (take (k + 1) trace))
+  session_more answers old new kept are noted =
+      noted ∙ (λ j. session_after i.replies (λ q. copies_of (are q j)) e (kept j)) ∙ ap (session_told i) (sym (one_more trace k e low is))
+
+  pub answers_more : (old new : BTreeMap ℕ Answer) → ((q : ℕ) → answer_in old q ≡ answer_of (reverse (take k trace)) q) → ((q : ℕ) → answer_in new q ≡ answer_after e q (answer_in old q))
+      → (q : ℕ) → answer_in new q ≡ answer_of (reverse (take (k + 1) trace)) q
+  answers_more old new are noted q = noted q ∙ ap (answer_after e q) (are q) ∙ ap (λ h. answer_of h q) (sym (one_more trace k e low is))
 
 -- what a call that was made prints, by what is told of it
 pub used_line : (i : Input) (ledger : Ledger) (e : Entry) (t : ℕ) (seq : Option ℕ) (call : SysCall) (regs : List ℕ) (args : List ArgText) (ids : Ids) (result : CallResult) (changes : List Change)

@@ -1,5 +1,6 @@
 pub mod AuditText
 pub mod How
 pub mod Ledger
+pub mod PolicyText
 pub mod Rows
 pub mod Told

@@ -1,4 +1,4 @@
-//! The audit of a run: a line for each call that a traced process made or was denied.
+//! The audit of a run: a line for each call that a traced process made or was denied; and the policies behind it, with what it has added.
 #![tactic(auto)]
 
 mod answer;
@@ -8,8 +8,10 @@ mod how;
 mod ledger;
 mod line;
 mod marks;
+mod policies;
 mod process;
 mod read;
 mod session;
 
 pub use audit::{audit_text, longer_runs_extend_the_audit, told_audit};
+pub use policies::{policy_text, told_session};

@@ -1,8 +1,9 @@
-use st_audit::told_audit;
+use st_audit::{told_audit, told_session};
 use st_base::{Errno, Ids, Sequence, Text};
 use st_calls::{ArgText, Label, Rule, Snapshot, SysCall, Verdict};
 use st_filter::{Action, Expr, Filter, FilterName, PolicySet, Reply};
 use st_law::{Input, Mode, Options};
+use st_learn::print_learnt;
 use st_names::AbsName;
 use st_trace::{CallResult, Cause, Change, Entry, ProcessRow, Start, ThreadRow, Way};
 use std::alloc::{AllocError, Global};
@@ -173,6 +174,28 @@ fn numbers_what_the_session_keeps(rt: HostRuntime) -> Result<(), Fail> {
     let text = told_audit(alloc, &trace, &input(alloc)?)?;
     let expected =
         b"1.1 \"/bin/sh\" native-fsread filename=\"/x\" permit#1 = 3\n1.1 \"/bin/sh\" native-fsread filename=\"/y\" nofilter = EPERM\n1.1 \"/bin/sh\" native-fsread filename=\"/x\" permit#2 = 3 log\n";
+    assert_eq!(rt; text.bytes(), expected.as_slice());
+    Ok(())
+}
+
+#[test]
+fn policies_have_what_the_session_keeps(rt: HostRuntime) -> Result<(), Fail> {
+    let alloc = rt.alloc();
+    let trace = [
+        answered(alloc, 1, b"/x")?,
+        answered(alloc, 2, b"/y")?,
+        Entry::Learned { seq: 1, number: 1 },
+        Entry::Replied {
+            seq: 2,
+            reply: 1,
+            number: 2,
+        },
+    ];
+    let input = input(alloc)?;
+    let session = told_session(alloc, &trace, &input)?;
+    let text = print_learnt(alloc, &input.policies, &session)?;
+    let expected =
+        b"Policy: /bin/sh, Emulation: native\nnative-fsread: filename eq \"/x\" then permit\nnative-fsread: permit log\n";
     assert_eq!(rt; text.bytes(), expected.as_slice());
     Ok(())
 }
