@@ -1,4 +1,4 @@
--- What the end of a served command says of its words, clause by clause.
+-- What the end of a command says of its words, clause by clause.
 use Rattle.std.proofs.Common.{◌≡◌, ◌≢◌, ◌⊎◌, ℕ, inl, inr, List, ◌++◌, Option, Some, None, refl, sym, ◌∙◌, subst}
 use Rattle.std.proofs.lemmas.Option.{same_Some}
 use Rattle.st_outside.specs.Count.{HasRisen}
@@ -11,6 +11,7 @@ use Rattle.st_law.specs.Machine.{run}
 use Rattle.st_law.specs.Schedules.{BadLine, Choices, played}
 use Rattle.st_policy.specs.declared.fault.PolicyFault.{PolicyFault}
 use Rattle.st_script_faults.specs.declared.fault.ScriptFault.{ScriptFault}
+use Rattle.st_command.specs.Reading.{command_in}
 use Rattle.st_command.specs.Words.{Word}
 use Rattle.st_command.specs.Command.{StepWords, CheckWords}
 use Rattle.st_command.specs.declared.command.Command.{Command}
@@ -21,33 +22,32 @@ use Rattle.st_reading.specs.declared.refusal.Which.{Which}
 use Rattle.st_reading.specs.declared.refusal.Which.TheVariants as which
 use Rattle.st_top.specs.Ends.{Ends, IsMeant, IsMeantBy, Meets, WantsMemory, WantsMemoryFor, names_asked}
 use Rattle.st_top.specs.Outcome.{printed}
-use Rattle.st_top.specs.Served.{served_in}
 use Rattle.st_top.specs.declared.status.Status.{Status}
 use Rattle.st_top.specs.declared.status.Status.TheVariants as status
 
 module _ (words : List Word) (held : Held) (c : Command) (faults faults_after : ℕ) (asked asked_after : List Word) (sink sink_after : ℕ) (old new : Option (List ℕ)) (end : Status)
-    (spelled : served_in words ≡ Some c) (ends : Ends held c faults faults_after asked asked_after sink sink_after old new end) where
+    (spelled : command_in words ≡ Some c) (ends : Ends held c faults faults_after asked asked_after sink sink_after old new end) where
   -- the end, as that of a status
   of : (other : Status) → end ≡ other → Ends held c faults faults_after asked asked_after sink sink_after old new other
   of other is = subst (Ends held c faults faults_after asked asked_after sink sink_after old new) is ends
 
   -- words spell one command
-  same : (d : Command) → served_in words ≡ Some d → c ≡ d
+  same : (d : Command) → command_in words ≡ Some d → c ≡ d
   same d is = same_Some c d (sym spelled ∙ is)
 
-  pub run_written : end ≡ status.Done → (step : StepWords) → served_in words ≡ Some (Step step) →
+  pub run_written : end ≡ status.Done → (step : StepWords) → command_in words ≡ Some (Step step) →
       (input : Input) × (schedule : ReadSchedule) × (choices : List Choice) × Means held (Step step) (Runs input schedule) × (played input schedule ≡ Choices choices) × Lawful input (run input choices) × Appends old new (printed step.print input choices)
   run_written is step spells =
       let x = (of status.Done is).0 in
       let m = subst (λ (d : Command). IsMeant held d x.0) (same (Step step) spells) x.1 in
       (m.input, m.schedule, m.choices, m.meant, m.played_to, m.lawful, subst (Appends old new) m.text_is x.2)
 
-  pub canon_written : end ≡ status.Done → (check : CheckWords) → served_in words ≡ Some (Check check) → (text : List ℕ) × Means held (Check check) (Prints text) × Appends old new text
+  pub canon_written : end ≡ status.Done → (check : CheckWords) → command_in words ≡ Some (Check check) → (text : List ℕ) × Means held (Check check) (Prints text) × Appends old new text
   canon_written is check spells =
       let x = (of status.Done is).0 in
       (x.0, subst (λ (d : Command). IsMeant held d x.0) (same (Check check) spells) x.1, x.2)
 
-  pub some_served : served_in words ≢ None
+  pub some_served : command_in words ≢ None
   some_served none = by (sym spelled ∙ none)
     where
       by : Some c ≡ None → ⊥
@@ -74,13 +74,13 @@ module _ (words : List Word) (held : Held) (c : Command) (faults faults_after : 
   pub unwritable : end ≡ status.WriteFault → HasRisen sink sink_after × ((text : List ℕ) × IsMeantBy words held text × AppendsFront old new text)
   unwritable is = let x = of status.WriteFault is in let y = x.1 in (x.0, (y.0, record { served = c; spelled = spelled; meant = y.1 }, y.2))
 
-  pub memory_wanting : end ≡ status.NoMemory → WantsMemoryFor held (served_in words) asked asked_after
+  pub memory_wanting : end ≡ status.NoMemory → WantsMemoryFor held (command_in words) asked asked_after
   memory_wanting is = subst (λ (o : Option Command). WantsMemoryFor held o asked asked_after) (sym spelled) (of status.NoMemory is).0
 
-  pub not_usage : end ≡ status.Usage → served_in words ≡ None
+  pub not_usage : end ≡ status.Usage → command_in words ≡ None
   not_usage is = absurd (of status.Usage is).0
 
-  pub all_asked : (end ≡ status.Done) ⊎ (end ≡ status.WriteFault) → asked_after ≡ asked ++ names_asked (served_in words)
+  pub all_asked : (end ≡ status.Done) ⊎ (end ≡ status.WriteFault) → asked_after ≡ asked ++ names_asked (command_in words)
   all_asked ends_so = subst (λ (o : Option Command). asked_after ≡ asked ++ names_asked o) (sym spelled) (by ends_so)
     where
       by : (end ≡ status.Done) ⊎ (end ≡ status.WriteFault) → asked_after ≡ asked ++ names_asked (Some c)

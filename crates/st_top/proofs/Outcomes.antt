@@ -4,6 +4,7 @@ use Rattle.st_outside.specs.Count.{HasRisen}
 use Rattle.st_outside.specs.Sink.{Appends}
 use Rattle.st_law.specs.declared.input.Input.{Input}
 use Rattle.st_law.specs.Schedules.{ScheduleOutcome, BadLine, Choices, played}
+use Rattle.st_command.specs.Reading.{command_in}
 use Rattle.st_command.specs.Words.{Word}
 use Rattle.st_command.specs.declared.command.Command.{Command}
 use Rattle.st_command.specs.declared.command.Command.TheVariants.{Step, Check}
@@ -14,7 +15,6 @@ use Rattle.st_reading.specs.declared.refusal.Refusal.TheVariants as refusal
 use Rattle.st_reading.proofs.Meanings.{one_meaning, some_meaning}
 use Rattle.st_top.specs.Ends.{Ends, EndsAs, IsMeant, names_asked}
 use Rattle.st_top.specs.Outcome.{Outcome, ComesTo, Refuses, Stops, WordsComeTo, Writes, is_stop, outcome_of, outcome_of_play, print_of, printed}
-use Rattle.st_top.specs.Served.{served_in}
 use Rattle.st_top.specs.declared.status.Status.{Status}
 use Rattle.st_top.specs.declared.status.Status.TheVariants as status
 
@@ -48,11 +48,11 @@ module _ (held : Held) where
       let x = some_meaning held c told in
       (outcome_of (print_of c) x.0, stops (print_of c) x.0 ∙ x.1, (x.0, x.2, refl))
 
-pub one_outcome : (words : List Word) (held : Held) (a b : Outcome) → AreTold held (names_asked (served_in words)) → is_stop a ≡ false → is_stop b ≡ false → WordsComeTo words held a → WordsComeTo words held b → a ≡ b
-one_outcome words held a b told u v p q = one_of held (served_in words) a b told u v p q
+pub one_outcome : (words : List Word) (held : Held) (a b : Outcome) → AreTold held (names_asked (command_in words)) → is_stop a ≡ false → is_stop b ≡ false → WordsComeTo words held a → WordsComeTo words held b → a ≡ b
+one_outcome words held a b told u v p q = one_of held (command_in words) a b told u v p q
 
-pub some_outcome : (words : List Word) (held : Held) → AreTold held (names_asked (served_in words)) → (o : Outcome) × (is_stop o ≡ false) × WordsComeTo words held o
-some_outcome words held told = some_of held (served_in words) told
+pub some_outcome : (words : List Word) (held : Held) → AreTold held (names_asked (command_in words)) → (o : Outcome) × (is_stop o ≡ false) × WordsComeTo words held o
+some_outcome words held told = some_of held (command_in words) told
 
 -- ---- the end of a command
 
@@ -87,7 +87,7 @@ module _ (held : Held) (faults faults_after : ℕ) (asked asked_after : List Wor
 
   -- so it ended as its words come to, unless memory was wanting
   pub ended_as : (c : Command) (end : Status) → Ends held c faults faults_after asked asked_after sink sink_after old new end → (HasRisen faults faults_after → ⊥) → (HasRisen sink sink_after → ⊥) →
-      (words : List Word) → served_in words ≡ Some c → AreTold held (names_asked (served_in words)) → (outcome : Outcome) → is_stop outcome ≡ false → WordsComeTo words held outcome →
+      (words : List Word) → command_in words ≡ Some c → AreTold held (names_asked (command_in words)) → (outcome : Outcome) → is_stop outcome ≡ false → WordsComeTo words held outcome →
       (end ≡ status.NoMemory) ⊎ EndsAs outcome old new end
   ended_as c end x quiet sink_quiet words spelled told outcome go comes = by (settled c end x quiet sink_quiet)
     where
@@ -98,6 +98,6 @@ module _ (held : Held) (faults faults_after : ℕ) (asked asked_after : List Wor
           inr (subst (λ (o : Outcome). EndsAs o old new end) one p.3)
 
 -- words that spell no command come to wrong usage, and that is the end
-pub ended_unserved : (words : List Word) (held : Held) (old new : Option (List ℕ)) (outcome : Outcome) → served_in words ≡ None → WordsComeTo words held outcome → EndsAs outcome old new status.Usage
+pub ended_unserved : (words : List Word) (held : Held) (old new : Option (List ℕ)) (outcome : Outcome) → command_in words ≡ None → WordsComeTo words held outcome → EndsAs outcome old new status.Usage
 ended_unserved words held old new outcome none comes =
     subst (λ (o : Outcome). EndsAs o old new status.Usage) (sym (subst (λ (o : Option Command). ComesTo held o outcome) none comes)) refl

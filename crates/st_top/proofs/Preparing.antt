@@ -1,16 +1,12 @@
 -- What is ready before anything is written, by what was read and shown.
 use native.Mathlib.Omega.{arith}
-use Rattle.std.proofs.Common.{◌≡◌, ◌≤◌, ◌<◌, ◌^◌, ◌⊎◌, ℕ, inl, inr, Bool, true, false, ◌&&◌, List, length, Option, Some, None, Result, Ok, Err, refl, sym, ap, ◌∙◌, subst}
-use Rattle.std.proofs.lemmas.Option.{none-some, same_Some}
-use Rattle.std.specs.Prelude.{if◌then◌else◌}
+use Rattle.std.proofs.Common.{◌≡◌, ◌≤◌, ◌<◌, ◌^◌, ◌⊎◌, ℕ, inl, inr, List, length, Option, Some, None, Result, Ok, Err, refl, sym, ap, ◌∙◌, subst}
 use Rattle.st_filter.specs.declared.set.BinaryPolicy.{BinaryPolicy}
 use Rattle.st_law.specs.Inputs.{IsStartable}
 use Rattle.st_law.specs.declared.input.Input.{Input}
-use Rattle.st_law.specs.declared.input.Mode.{Mode}
-use Rattle.st_law.specs.declared.input.Mode.TheVariants.{Enforce, Learn, AskText}
 use Rattle.st_law.specs.declared.input.ReadSchedule.{ReadSchedule}
 use Rattle.st_law.proofs.Laws.{run_lawful}
-use Rattle.st_reached.specs.Grants.{SetIdsUngranted}
+use Rattle.st_reached.specs.Grants.{RepliesUngranted, SetIdsUngranted}
 use Rattle.st_reached.specs.Scripts.{IsBounded}
 use Rattle.st_script.specs.Startable.{input_with}
 use Rattle.st_system.specs.Start.{CanStart}
@@ -27,10 +23,9 @@ use Rattle.st_reading.specs.declared.reading.Reading.{Reading}
 use Rattle.st_reading.specs.declared.reading.Reading.TheVariants as reading_is
 use Rattle.st_reading.specs.declared.refusal.Refusal.{Refusal}
 use Rattle.st_reading.specs.declared.refusal.Refusal.TheVariants as refusal
-use Rattle.st_reading.proofs.Runnable.{check_runs_nothing, runnable, step_prints_nothing}
+use Rattle.st_reading.proofs.Runnable.{check_runs_nothing, step_prints_nothing}
 use Rattle.st_top.specs.Ends.{IsMeant, Prepares, Refused, RunShown}
 use Rattle.st_top.specs.Outcome.{print_of, status_of}
-use Rattle.st_top.specs.Served.{if_served, is_served, is_served_mode, is_served_print}
 use Rattle.st_top.specs.declared.status.Status.{Status}
 use Rattle.st_top.specs.declared.status.Status.TheVariants as status
 
@@ -45,17 +40,6 @@ refused_as held c faults faults_after old new (refusal.Script fault) x = x
 refused_as held c faults faults_after old new (refusal.Policy n fault) x = x
 refused_as held c faults faults_after old new refusal.NoMemory x = inl x
 
--- ---- what is served
-
-served_of : (b : Bool) (d c : Command) → is_served d ≡ b → (if b then Some d else None) ≡ Some c → is_served c ≡ true
-served_of true d c served is = subst (λ (x : Command). is_served x ≡ true) (same_Some d c is) served
-served_of false d c served is = absurd (none-some c is)
-
--- a command that words spell and that is served is served
-pub spelled_is_served : (spelled : Option Command) (c : Command) → if_served spelled ≡ Some c → is_served c ≡ true
-spelled_is_served None c is = absurd (none-some c is)
-spelled_is_served (Some d) c is = served_of (is_served d) d c refl is
-
 -- ---- what can be run
 
 -- what the kernel asks of an input
@@ -64,16 +48,15 @@ pub record CanRun (i : Input) : Type 0 where
   pub system : CanStart i
   pub bounded : IsBounded i.start
   pub ungranted : SetIdsUngranted i.policies
-  pub enforces : i.options.mode ≡ Enforce
+  pub replies : RepliesUngranted i.replies
 
-served_mode : (m : Mode) (rest : Bool) → (is_served_mode m && rest) ≡ true → m ≡ Enforce
-served_mode Enforce rest e = refl
-served_mode Learn rest e = cc
-served_mode AskText rest e = cc
+-- what `step` means to run can be run
+abbrev pub AllRunnable : Type 0
+AllRunnable = (held : Held) (step : StepWords) (i : Input) (schedule : ReadSchedule) → Means held (Step step) (Runs i schedule) → IsRunnable step i
 
--- a run of a served command can be run
-runs_of_step : (held : Held) (step : StepWords) (i : Input) (schedule : ReadSchedule) → IsWithinLimits (Step step) → is_served (Step step) ≡ true → Means held (Step step) (Runs i schedule) → CanRun i
-runs_of_step held step i schedule limits served meant =
+-- a run that a command means can be run
+runs_of_step : AllRunnable → (held : Held) (step : StepWords) (i : Input) (schedule : ReadSchedule) → IsWithinLimits (Step step) → Means held (Step step) (Runs i schedule) → CanRun i
+runs_of_step runnable held step i schedule limits meant =
     let x = runnable held step i schedule meant in
     let startable : IsStartable (input_with x.policies step.options x.script) = x.can_start.startable x.policies step.options limits.1 limits.2 in
     let few = startable.few_threads in
@@ -89,12 +72,12 @@ runs_of_step held step i schedule limits served meant =
       };
       bounded = x.bounded;
       ungranted = x.ungranted;
-      enforces = served_mode step.options.mode (is_served_print step.print) served;
+      replies = x.replies;
     })
 
-pub can_run : (held : Held) (c : Command) (i : Input) (schedule : ReadSchedule) → IsWithinLimits c → is_served c ≡ true → Means held c (Runs i schedule) → CanRun i
-can_run held (Step step) i schedule limits served meant = runs_of_step held step i schedule limits served meant
-can_run held (Check check) i schedule limits served meant = absurd (check_runs_nothing held check check.script i schedule meant)
+pub can_run : AllRunnable → (held : Held) (c : Command) (i : Input) (schedule : ReadSchedule) → IsWithinLimits c → Means held c (Runs i schedule) → CanRun i
+can_run runnable held (Step step) i schedule limits meant = runs_of_step runnable held step i schedule limits meant
+can_run runnable held (Check check) i schedule limits meant = absurd (check_runs_nothing held check check.script i schedule meant)
 
 -- ---- what was read
 
@@ -103,8 +86,8 @@ module _ (held : Held) (c : Command) (old new : List Word) (read : Reading) (mea
   pub run_meant : Means held c (Runs i schedule)
   run_meant = subst (λ (other : Reading). Means held c (as_meaning other)) is meant.0
 
-  pub ready : IsWithinLimits c → is_served c ≡ true → CanRun i
-  ready limits served = can_run held c i schedule limits served run_meant
+  pub ready : AllRunnable → IsWithinLimits c → CanRun i
+  ready runnable limits = can_run runnable held c i schedule limits run_meant
 
 -- ---- what is ready
 

@@ -8,6 +8,7 @@ use Rattle.st_law.specs.declared.input.ReadSchedule.{ReadSchedule}
 use Rattle.st_law.specs.Lawful.{Lawful}
 use Rattle.st_law.specs.Machine.{run}
 use Rattle.st_law.specs.Schedules.{Choices, BadLine, played}
+use Rattle.st_command.specs.Reading.{command_in}
 use Rattle.st_command.specs.Words.{Word}
 use Rattle.st_command.specs.Command.{StepWords, CheckWords}
 use Rattle.st_command.specs.declared.command.Command.{Command}
@@ -21,7 +22,6 @@ use Rattle.st_reading.specs.declared.refusal.Which.{Which}
 use Rattle.st_reading.specs.declared.refusal.Which.TheVariants as which
 use Rattle.st_top.specs.Outcome as outcome
 use Rattle.st_top.specs.Outcome.{Outcome, printed}
-use Rattle.st_top.specs.Served.{served_in}
 use Rattle.st_top.specs.declared.status.Status.{Status}
 use Rattle.st_top.specs.declared.status.Status.TheVariants.{Done, Missing, Usage, Policy, Script, ReadFault, WriteFault, NoMemory, Schedule, TooLong}
 
@@ -95,17 +95,17 @@ RunShown print i schedule (Err _) = ⊥
 
 -- ---- by the words
 
--- words spell a command that is served, which with its files means this, and its names up to this file were asked for
+-- words spell a command, which with its files means this, and its names up to this file were asked for
 pub record Meets (words : List Word) (held : Held) (m : Meaning) (w : Which) (old new : List Word) : Type 0 where
   pub served : Command
-  pub spelled : served_in words ≡ Some served
+  pub spelled : command_in words ≡ Some served
   pub meant : Means held served m
   pub asked : AskedTo served w old new
 
 -- a text is what words and files mean to be written
 pub record IsMeantBy (words : List Word) (held : Held) (text : List ℕ) : Type 0 where
   pub served : Command
-  pub spelled : served_in words ≡ Some served
+  pub spelled : command_in words ≡ Some served
   pub meant : IsMeant held served text
 
 -- memory was wanting: before any file was asked for, or for a command

@@ -1,4 +1,3 @@
 pub mod Number
-pub mod Served
 pub mod Outcome
 pub mod Ends

@@ -1,5 +1,5 @@
 -- What words and files come to: a refusal, or a text that is written.
-use Rattle.std.specs.Prelude.{◌≡◌, ℕ, Bool, true, false, List, [], Option, Some, None}
+use Rattle.std.specs.Prelude.{◌≡◌, ℕ, Bool, true, false, List, Option, Some, None}
 use Rattle.st_trace.specs.declared.entry.Choice.{Choice}
 use Rattle.st_law.specs.declared.input.Input.{Input}
 use Rattle.st_law.specs.Machine.{run}
@@ -7,6 +7,8 @@ use Rattle.st_law.specs.Schedules.{ScheduleOutcome, Choices, BadLine, played}
 use Rattle.st_report.specs.TraceText.{trace_text}
 use Rattle.st_report.specs.ScheduleText.{schedule_text}
 use Rattle.st_audit.specs.AuditText.{audit}
+use Rattle.st_audit.specs.PolicyText.{policy_text}
+use Rattle.st_command.specs.Reading.{command_in}
 use Rattle.st_command.specs.Words.{Word}
 use Rattle.st_command.specs.declared.command.Command.{Command}
 use Rattle.st_command.specs.declared.command.Command.TheVariants as command
@@ -19,7 +21,6 @@ use Rattle.st_reading.specs.Meaning.{Held, Meaning, Means}
 use Rattle.st_reading.specs.declared.refusal.Refusal.{Refusal}
 use Rattle.st_reading.specs.declared.refusal.Refusal.TheVariants as refusal
 use Rattle.st_reading.specs.declared.refusal.Which.{Which}
-use Rattle.st_top.specs.Served.{served_in}
 use Rattle.st_top.specs.declared.status.Status.{Status}
 use Rattle.st_top.specs.declared.status.Status.TheVariants.{Missing, Usage, Policy, Script, ReadFault, NoMemory, Schedule, TooLong}
 
@@ -41,12 +42,12 @@ status_of_play play.NoMemory = NoMemory
 
 -- ---- what is printed of a run
 
--- the text that is asked for of the run by these choices; the policies with what was learnt aren't served yet
+-- the text that is asked for of the run by these choices
 abbrev pub printed : Print → Input → List Choice → List ℕ
 printed print.Audit i choices = audit i (run i choices)
 printed print.Trace i choices = trace_text (run i choices)
 printed print.Schedule i choices = schedule_text choices
-printed print.Policy i choices = []
+printed print.Policy i choices = policy_text i (run i choices)
 
 -- what a command asks to be printed of its run
 abbrev pub print_of : Command → Print
@@ -86,4 +87,4 @@ ComesTo held (Some c) outcome = (m : Meaning) × Means held c m × (outcome ≡ 
 
 -- what words come to over files of which this much is told
 abbrev pub WordsComeTo : List Word → Held → Outcome → Type 0
-WordsComeTo words held outcome = ComesTo held (served_in words) outcome
+WordsComeTo words held outcome = ComesTo held (command_in words) outcome

@@ -4,7 +4,6 @@
 pub mod law;
 pub mod plain;
 mod run;
-mod served;
 pub mod status;
 
 pub use plain::systrace_plain;

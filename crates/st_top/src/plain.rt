@@ -8,7 +8,7 @@ ghost use Rattle.st_law.specs.Lawful.{Lawful};
 ghost use Rattle.st_law.specs.Machine.{run};
 ghost use Rattle.st_law.specs.Schedules.{Choices, BadLine, played};
 ghost use Rattle.st_command.specs.Command.{StepWords, CheckWords};
-ghost use Rattle.st_command.specs.Reading.{IsWithinLimits};
+ghost use Rattle.st_command.specs.Reading.{command_in, IsWithinLimits};
 ghost use Rattle.st_command.specs.declared.command.Command.TheVariants.{Step, Check};
 ghost use Rattle.st_policy.specs.declared.fault.PolicyFault.{PolicyFault};
 ghost use Rattle.st_script_faults.specs.declared.fault.ScriptFault.{ScriptFault};
@@ -16,27 +16,36 @@ ghost use Rattle.st_reading.specs.Meaning.{Means, Stops, Refuses, Runs, Prints, 
 ghost use Rattle.st_reading.specs.declared.refusal.Refusal.TheVariants as refusal;
 ghost use Rattle.st_reading.specs.declared.refusal.Which.{Which};
 ghost use Rattle.st_reading.specs.declared.refusal.Which.TheVariants as which;
-ghost use Rattle.st_top.specs.Served.{is_served, served_in};
-ghost use Rattle.st_top.specs.Outcome.{Outcome, WordsComeTo, is_stop, printed};
+ghost use Rattle.st_top.specs.Outcome.{Outcome, WordsComeTo, is_stop, print_of, printed};
 ghost use Rattle.st_top.specs.Ends.{Prepares, Ends, IsMeantBy, Meets, WantsMemoryFor, EndsAs, names_asked};
 
 use crate::run::text_of_run;
-use crate::served::{print_of, served_in};
 use crate::status::Status;
 use st_base::Text;
-use st_command::Command;
+use st_command::{Command, Print, read_words};
 use st_outside::{Files, Sink, write_all};
+use st_reading::law::what_is_meant_to_run_can_run;
 use st_reading::{Reading, read_command};
 use std::alloc::Global;
+
+// What a command asks to be printed of its run.
+fn print_of(command: &Command<'_>) -> Print
+    ensures { result ≡ print_of command.now }
+{
+    match command {
+        Command::Step(step) => step.print,
+        Command::Check(_) => Print::Audit,
+    }
+}
 
 // What a command writes, or why it is refused.
 fn prepare<F: Files>(alloc: Global, command: &Command<'_>, files: &mut F) -> Result<Text, Status>
     requires limits { IsWithinLimits command.now }
-    requires served { is_served command.now ≡ true }
     ensures held { F.held files.new ≡ F.held files.old }
     ensures prepares { Prepares (F.held files.old) command.now (F.faults files.old) (F.faults files.new) (F.asked files.old) (F.asked files.new) result }
     ensures quiet { result ≢ Err Status.ReadFault → F.faults files.new ≡ F.faults files.old }
 {
+    what_is_meant_to_run_can_run();
     match read_command(alloc, command, files)? {
         Reading::Run(input, schedule) => text_of_run(alloc, print_of(command), &input, &schedule),
         Reading::Text(text) => Ok(text),
@@ -51,7 +60,6 @@ fn serve<F: Files, S: Sink>(
     out: &mut S,
 ) -> Status
     requires limits { IsWithinLimits command.now }
-    requires served { is_served command.now ≡ true }
     ensures held { F.held files.new ≡ F.held files.old }
     ensures ends { Ends (F.held files.old) command.now (F.faults files.old) (F.faults files.new) (F.asked files.old) (F.asked files.new) (S.faults out.old) (S.faults out.new) (S.written out.old) (S.written out.new) result }
     ensures quiet { result ≢ Status.ReadFault → F.faults files.new ≡ F.faults files.old }
@@ -76,21 +84,21 @@ pub fn systrace_plain<F: Files, S: Sink>(
     out: &mut S,
 ) -> Status
     // `step` writes what is asked for of the run that its words and files mean, and that run is lawful.
-    ensures step { result ≡ Status.Done → (step : StepWords) → served_in words.now ≡ Some (Step step) →
+    ensures step { result ≡ Status.Done → (step : StepWords) → command_in words.now ≡ Some (Step step) →
         (input : Input) × (schedule : ReadSchedule) × (choices : List Choice) ×
         Means (F.held files.old) (Step step) (Runs input schedule) ×
         (played input schedule ≡ Choices choices) ×
         Lawful input (run input choices) ×
         Appends (S.written out.old) (S.written out.new) (printed step.print input choices) }
     // `check` writes the canonical text of the policies that its words and files mean.
-    ensures check { result ≡ Status.Done → (check : CheckWords) → served_in words.now ≡ Some (Check check) →
+    ensures check { result ≡ Status.Done → (check : CheckWords) → command_in words.now ≡ Some (Check check) →
         (text : List ℕ) × Means (F.held files.old) (Check check) (Prints text) × Appends (S.written out.old) (S.written out.new) text }
-    ensures served { result ≡ Status.Done → served_in words.now ≢ None }
+    ensures served { result ≡ Status.Done → command_in words.now ≢ None }
     // Where a text was written, whole or not, all names of the command were asked for, in order.
-    ensures asked { (result ≡ Status.Done) ⊎ (result ≡ Status.WriteFault) → F.asked files.new ≡ F.asked files.old ++ names_asked (served_in words.now) }
+    ensures asked { (result ≡ Status.Done) ⊎ (result ≡ Status.WriteFault) → F.asked files.new ≡ F.asked files.old ++ names_asked (command_in words.now) }
 
     // Each refusal is the one that is meant, and the names that were asked for are those up to the file that it is of.
-    ensures usage { result ≡ Status.Usage → served_in words.now ≡ None }
+    ensures usage { result ≡ Status.Usage → command_in words.now ≡ None }
     ensures missing { (w : Which) → result ≡ Status.Missing w → Meets words.now (F.held files.old) (Refuses (refusal.Missing w)) w (F.asked files.old) (F.asked files.new) }
     ensures too_long { (w : Which) → result ≡ Status.TooLong w → Meets words.now (F.held files.old) (Refuses (refusal.TooLong w)) w (F.asked files.old) (F.asked files.new) }
     ensures script { (fault : ScriptFault) → result ≡ Status.Script fault → Meets words.now (F.held files.old) (Refuses (refusal.Script fault)) which.Script (F.asked files.old) (F.asked files.new) }
@@ -100,7 +108,7 @@ pub fn systrace_plain<F: Files, S: Sink>(
     ensures read_fault { result ≡ Status.ReadFault → HasRisen (F.faults files.old) (F.faults files.new) × ((w : Which) × Meets words.now (F.held files.old) (Stops w) w (F.asked files.old) (F.asked files.new)) }
     ensures write_fault { result ≡ Status.WriteFault → HasRisen (S.faults out.old) (S.faults out.new) ×
         ((text : List ℕ) × IsMeantBy words.now (F.held files.old) text × AppendsFront (S.written out.old) (S.written out.new) text) }
-    ensures no_memory { result ≡ Status.NoMemory → WantsMemoryFor (F.held files.old) (served_in words.now) (F.asked files.old) (F.asked files.new) }
+    ensures no_memory { result ≡ Status.NoMemory → WantsMemoryFor (F.held files.old) (command_in words.now) (F.asked files.old) (F.asked files.new) }
 
     // All else stays: nothing is written unless all is done or writing fails, and no count rises without its fault.
     ensures unwritten { result ≢ Status.Done → result ≢ Status.WriteFault → S.written out.new ≡ S.written out.old }
@@ -109,11 +117,11 @@ pub fn systrace_plain<F: Files, S: Sink>(
     ensures sink_quiet { result ≢ Status.WriteFault → S.faults out.new ≡ S.faults out.old }
 
     // Where each name of the words is told and no count rose, the answer is what the words come to, unless memory runs out.
-    ensures complete { AreTold (F.held files.old) (names_asked (served_in words.now)) → (HasRisen (F.faults files.old) (F.faults files.new) → ⊥) → (HasRisen (S.faults out.old) (S.faults out.new) → ⊥) →
+    ensures complete { AreTold (F.held files.old) (names_asked (command_in words.now)) → (HasRisen (F.faults files.old) (F.faults files.new) → ⊥) → (HasRisen (S.faults out.old) (S.faults out.new) → ⊥) →
         (outcome : Outcome) → is_stop outcome ≡ false → WordsComeTo words.now (F.held files.old) outcome →
         (result ≡ Status.NoMemory) ⊎ EndsAs outcome (S.written out.old) (S.written out.new) result }
 {
-    match served_in(alloc, words) {
+    match read_words(alloc, words) {
         Ok(Some(command)) => serve(alloc, &command, files, out),
         Ok(None) => Status::Usage,
         Err(_) => Status::NoMemory,

@@ -1,15 +1,14 @@
 // A run, and what is shown of it.
 ghost use Rattle.std.specs.Prelude.{◌≡◌, IfOk};
 ghost use Rattle.st_law.specs.Inputs.{IsStartable};
-ghost use Rattle.st_law.specs.declared.input.Mode.TheVariants.{Enforce};
-ghost use Rattle.st_reached.specs.Grants.{SetIdsUngranted};
+ghost use Rattle.st_reached.specs.Grants.{RepliesUngranted, SetIdsUngranted};
 ghost use Rattle.st_reached.specs.Scripts.{IsBounded};
 ghost use Rattle.st_system.specs.Start.{CanStart};
 ghost use Rattle.st_top.specs.Ends.{RunShown};
 ghost use Rattle.st_top.specs.Outcome.{printed};
 
 use crate::status::Status;
-use st_audit::audit_text;
+use st_audit::{audit_text, policy_text};
 use st_base::Text;
 use st_command::Print;
 use st_kernel::Kernel;
@@ -26,7 +25,7 @@ fn shown(alloc: Global, print: Print, kernel: &Kernel<'_>) -> Result<Text, Alloc
         Print::Audit => audit_text(alloc, kernel.trace(), kernel.input()),
         Print::Trace => render_trace(alloc, kernel.trace()),
         Print::Schedule => schedule_text(alloc, kernel.schedule()),
-        Print::Policy => Ok(Text::new(alloc)),
+        Print::Policy => policy_text(alloc, kernel.trace(), kernel.input()),
     }
 }
 
@@ -41,7 +40,7 @@ pub fn text_of_run(
     requires system { CanStart input.now }
     requires bounded { IsBounded input.now.start }
     requires ungranted { SetIdsUngranted input.now.policies }
-    requires enforces { input.now.options.mode ≡ Enforce }
+    requires replies { RepliesUngranted input.now.replies }
     ensures { RunShown print input.now schedule.now result }
 {
     let mut kernel = Kernel::start(alloc, input)?;

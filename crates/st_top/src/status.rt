@@ -14,7 +14,7 @@ pub enum Status {
     Done,
     /// No file of that name is held.
     Missing(Which),
-    /// The words are no command, or ask for what isn't built.
+    /// The words spell no command.
     Usage,
     /// The policy file of this number, from 1, is refused, with its leftmost fault.
     Policy(u32, PolicyFault),

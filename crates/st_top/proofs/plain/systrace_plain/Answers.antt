@@ -1,11 +1,6 @@
 use Rattle.std.proofs.Common.{sym, ◌∙◌}
-use Rattle.st_command.specs.Reading.{command_in}
 use Rattle.st_top.proofs.Outcomes.{ended_as}
-use Rattle.st_top.proofs.Preparing.{spelled_is_served}
 use Rattle.st_top.proofs.plain.systrace_plain.Goals as goal
-
-pub serve-requires-clause-served : goal.serve-requires-clause-served
-serve-requires-clause-served g c = spelled_is_served (command_in c.args.words.now) c.in-Ok-Some.command (sym c.in-Ok-Some.ensures.is ∙ c.in-Ok-Some.field-0-is)
 
 pub returns-in-Ok-Some-clause-complete : goal.returns-in-Ok-Some-clause-complete
 returns-in-Ok-Some-clause-complete g c = λ told quiet sink_quiet outcome go comes.
