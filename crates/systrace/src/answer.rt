@@ -18,6 +18,8 @@ Options of step, in any order, each once but for -f:
 
 -f POLICY      a file of policies; up to eight, each read behind those before it
 -a             denies a call that no filter decides, as is done without it
+-A             in its place, learns such a call: a filter that permits just this call is kept
+-t             in its place, asks about it: the operator's next reply to it in the script is kept as a filter
 -i             lets a process keep its policy when it executes another binary
 -u             judges each call under its own name, and not as fsread or fswrite
 -c U:G         the user and the group of each traced process, as decimals; with them filters may grant ids, by 'as'
@@ -25,14 +27,16 @@ Options of step, in any order, each once but for -f:
 --print KIND   audit: a line for each call of a traced process, as without it
                trace: a line for each thing that happens
                schedule: the choices that were made, as a schedule
+               policy: the policies, with the filters that were kept behind those that were read
 
 -c of check lets the filters of the policy grant ids.
 
 POLICY    for a binary, which of its system calls are permitted, and which are denied
 SCRIPT    the users, the files, the processes with their threads, and what each thread does: words that it stores
-          in memory, and system calls that it makes; check takes the names of users and groups from it
-SCHEDULE  who moves when: lines 'thread N' and 'worker N', behind which a count may stand, and 'rest', which goes
-          on until nobody can move
+          in memory, and system calls that it makes; and what the operator replies. check takes the names of users
+          and groups from it
+SCHEDULE  who moves when: lines 'thread N', 'worker N' and 'operator', behind which a count may stand, and 'rest',
+          which goes on until nobody can move
 
 The exit status is 0 where all was written. Else a line on standard error says why not.
 ";

@@ -8,11 +8,8 @@ use std::alloc::{AllocError, Global};
 pub const OUT_OF_MEMORY: &str = "systrace: out of memory";
 
 const USAGE: &str =
-    "usage: systrace step [-f POLICY]... [-a] [-i] [-u] [-c U:G] [-w N] [--print audit|trace|schedule] SCRIPT SCHEDULE
+    "usage: systrace step [-f POLICY]... [-a|-A|-t] [-i] [-u] [-c U:G] [-w N] [--print audit|trace|schedule|policy] SCRIPT SCHEDULE
        systrace check [-c U:G] POLICY [SCRIPT]";
-
-const NOT_BUILT: &str =
-    "systrace: '-A', '-t' and '--print policy' are not built yet: nothing is learnt, and nobody is asked";
 
 const REFUSED: &str = "refused, and no memory was left to tell why";
 
@@ -33,14 +30,6 @@ fn about_file(
     Ok(line)
 }
 
-// Of words that spell a command, the part that isn't built is told.
-fn usage(command: Option<&Command<'_>>) -> &'static str {
-    match command {
-        Some(_) => NOT_BUILT,
-        None => USAGE,
-    }
-}
-
 /// The line that tells a person of a status by itself, without its newline; of `Done` there is nothing to tell.
 pub fn message(
     alloc: Global,
@@ -58,7 +47,7 @@ pub fn message(
         }
         Status::Script(_) => return about_file(alloc, command, Which::Script, REFUSED),
         Status::Schedule(_) => return about_file(alloc, command, Which::Schedule, REFUSED),
-        Status::Usage => usage(command),
+        Status::Usage => USAGE,
         Status::ReadFault => "systrace: a file could not be read",
         Status::WriteFault => "systrace: standard output could not be written",
         Status::NoMemory => OUT_OF_MEMORY,

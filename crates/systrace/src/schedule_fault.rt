@@ -14,7 +14,7 @@ const FORM: &str =
 fn mover_of(row: &[u8]) -> &'static str {
     let word = first_word(row);
     if word == b"thread".as_slice() {
-        "a thread that can move at each turn: it has started, hasn't ended, and waits for no worker"
+        "a thread that can move at each turn: it has started, hasn't ended, and waits for neither a worker nor the operator"
     } else if word == b"worker".as_slice() {
         "a worker that can move at each turn: one of those of '-w N', with a call to serve"
     } else {

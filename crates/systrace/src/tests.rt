@@ -7,6 +7,7 @@ use st_top::{Status, Which, systrace_plain};
 use std::alloc::Global;
 use std::test::Fail;
 
+mod learning;
 mod transcripts;
 
 fn words_of(alloc: Global, line: &str) -> Result<Vec<Text>, Fail> {
@@ -37,11 +38,8 @@ fn told(alloc: Global, line: &str, held: &[(&[u8], &[u8])]) -> Result<Text, Fail
 const STEP: &str = "step -f p -f q s c";
 
 const USAGE: &[u8] =
-    b"usage: systrace step [-f POLICY]... [-a] [-i] [-u] [-c U:G] [-w N] [--print audit|trace|schedule] SCRIPT SCHEDULE
+    b"usage: systrace step [-f POLICY]... [-a|-A|-t] [-i] [-u] [-c U:G] [-w N] [--print audit|trace|schedule|policy] SCRIPT SCHEDULE
        systrace check [-c U:G] POLICY [SCRIPT]";
-
-const NOT_BUILT: &[u8] =
-    b"systrace: '-A', '-t' and '--print policy' are not built yet: nothing is learnt, and nobody is asked";
 
 // Words, how they end where no file can be read any more, and the line.
 #[test]
@@ -49,7 +47,7 @@ fn tells_a_status(rt: HostRuntime) -> Result<(), Fail> {
     let cases: [(&str, Status, &[u8]); 17] = [
         (STEP, Status::Done, b""),
         ("step", Status::Usage, USAGE),
-        ("step -A s c", Status::Usage, NOT_BUILT),
+        ("step -A -t s c", Status::Usage, USAGE),
         (
             STEP,
             Status::ReadFault,
@@ -309,11 +307,11 @@ fn tells_of_schedules(rt: HostRuntime) -> Result<(), Fail> {
     let cases: [(&[u8], &[u8]); 7] = [
         (
             b"rest\n thread 1\n",
-            b"systrace: c:2: found 'thread 1', expected a thread that can move at each turn: it has started, hasn't ended, and waits for no worker",
+            b"systrace: c:2: found 'thread 1', expected a thread that can move at each turn: it has started, hasn't ended, and waits for neither a worker nor the operator",
         ),
         (
             b"thread 1 1\nthread 1 2",
-            b"systrace: c:2: found 'thread 1 2', expected a thread that can move at each turn: it has started, hasn't ended, and waits for no worker",
+            b"systrace: c:2: found 'thread 1 2', expected a thread that can move at each turn: it has started, hasn't ended, and waits for neither a worker nor the operator",
         ),
         (
             b"worker 1",

@@ -2,10 +2,11 @@ use crate::telling::line_of;
 use crate::tests::{files_of, words_of};
 use st_outside::MemorySink;
 use st_top::systrace_plain;
+use std::process::Abort;
 use std::test::Fail;
 
-// A file of examples/: its name, and its bytes. Comments are left out where no message counts their lines.
-type Shown = (&'static [u8], &'static [u8]);
+/// A file of examples/: its name, and its bytes. Comments are left out where no message counts their lines.
+pub type Shown = (&'static [u8], &'static [u8]);
 
 const GETPID_POLICY: Shown = (
     b"getpid.policy",
@@ -27,7 +28,7 @@ end
 ",
 );
 
-const REST_SCHEDULE: Shown = (
+pub const REST_SCHEDULE: Shown = (
     b"rest.schedule",
     b"rest
 ",
@@ -41,7 +42,7 @@ native-exit: permit
 ",
 );
 
-const CAT_SCRIPT: Shown = (
+pub const CAT_SCRIPT: Shown = (
     b"cat.script",
     b"dir \"/etc\" 0 0 755
 file \"/etc/motd\" 0 0 644 \"welcome\"
@@ -298,17 +299,17 @@ thread 1
 ",
 );
 
-// Words, the files that they name, and how the program ends: its number, what it writes, and what it tells on standard error.
-struct Transcript {
-    words: &'static str,
-    files: &'static [Shown],
-    number: u8,
-    written: &'static [u8],
-    told: &'static [u8],
+/// Words, the files that they name, and how the program ends: its number, what it writes, and what it tells on standard error.
+pub struct Transcript {
+    pub words: &'static str,
+    pub files: &'static [Shown],
+    pub number: u8,
+    pub written: &'static [u8],
+    pub told: &'static [u8],
 }
 
 // What README.md and docs/TOUR.md show, and the manual pages with them. What stands elsewhere with the same bytes is left out: port.policy and
-// port.script are a row of st_top's tests/runs.rt, the run of httpd.policy and httpd.script that of its tests/web.rt, and the trace
+// port.script are a row of test_runs's runs.rt, the run of httpd.policy and httpd.script that of its web.rt, and the trace
 // by race-torn.schedule the stored run of this program.
 const TRANSCRIPTS: [Transcript; 15] = [
     Transcript {
@@ -477,15 +478,17 @@ native-write: permit
         files: &[GETPID_POLICY, GETPID_SCRIPT, MY_SCHEDULE],
         number: 8,
         written: b"",
-        told: b"systrace: my.schedule:2: found 'thread 1', expected a thread that can move at each turn: it has started, hasn't ended, and waits for no worker",
+        told: b"systrace: my.schedule:2: found 'thread 1', expected a thread that can move at each turn: it has started, hasn't ended, and waits for neither a worker nor the operator",
     },
 ];
 
-// What is shown to readers is what the program does.
-#[test]
-fn transcripts_are_as_shown(rt: HostRuntime) -> Result<(), Fail> {
+/// Runs each transcript, and compares how it ends.
+pub fn run_as_shown(
+    rt: &(impl Abort + AllocGlobal),
+    transcripts: &[Transcript],
+) -> Result<(), Fail> {
     let alloc = rt.alloc();
-    for transcript in &TRANSCRIPTS {
+    for transcript in transcripts {
         let words = words_of(alloc, transcript.words)?;
         let mut files = files_of(alloc, transcript.files)?;
         let mut out = MemorySink::new(alloc, 8000)?;
@@ -496,4 +499,10 @@ fn transcripts_are_as_shown(rt: HostRuntime) -> Result<(), Fail> {
         assert_eq!(rt; told.bytes(), transcript.told);
     }
     Ok(())
+}
+
+// What is shown to readers is what the program does.
+#[test]
+fn transcripts_are_as_shown(rt: HostRuntime) -> Result<(), Fail> {
+    run_as_shown(&rt, &TRANSCRIPTS)
 }
