@@ -4,6 +4,8 @@
 #[cfg(test)]
 mod checks;
 #[cfg(test)]
+mod learning;
+#[cfg(test)]
 mod races;
 #[cfg(test)]
 mod refusals;

@@ -10,7 +10,7 @@ use st_script_faults::ScriptFault;
 use st_top::{Status, Which, systrace_plain};
 use std::test::Fail;
 
-const WHAT_IS_REFUSED: [Case; 18] = [
+const WHAT_IS_REFUSED: [Case; 17] = [
     Case {
         words: STEP,
         policy: CAT_POLICY,
@@ -119,7 +119,7 @@ native-fsread: filename eq \"/etc",
         written: b"",
     },
     Case {
-        words: "step -A S C",
+        words: "step -A -t S C",
         policy: POLICY,
         script: SCRIPT,
         schedule: REST,
@@ -127,15 +127,7 @@ native-fsread: filename eq \"/etc",
         written: b"",
     },
     Case {
-        words: "step -t S C",
-        policy: POLICY,
-        script: SCRIPT,
-        schedule: REST,
-        status: Status::Usage,
-        written: b"",
-    },
-    Case {
-        words: "step --print policy -f P S C",
+        words: "step --print policies -f P S C",
         policy: POLICY,
         script: SCRIPT,
         schedule: REST,
