@@ -4,7 +4,7 @@ mod FewInstructions
 mod InMemory
 mod Placed
 mod PutTexts
-mod ReadTexts
+pub mod ReadTexts
 mod Replied
 mod Said
 mod Slashes

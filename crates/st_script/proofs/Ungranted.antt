@@ -53,7 +53,7 @@ filter_ungranted env row f filter is = ungranted env f.name f.action filter.tail
 
 -- ---- policies
 
-each_parts : {A : Type 0} (P : A → Type 0) (xs ys : List A) → AllByRecursion P (xs ++ ys) → AllByRecursion P xs × AllByRecursion P ys
+pub each_parts : {A : Type 0} (P : A → Type 0) (xs ys : List A) → AllByRecursion P (xs ++ ys) → AllByRecursion P xs × AllByRecursion P ys
 each_parts P [] ys all = (tt, all)
 each_parts P (x ∷ xs) ys all = let rest : AllByRecursion P xs × AllByRecursion P ys = each_parts P xs ys all.1 in ((all.0, rest.0), rest.1)
 
