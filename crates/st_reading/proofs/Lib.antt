@@ -3,3 +3,4 @@ pub mod Leads
 pub mod Meanings
 pub mod Refusals
 pub mod Runnable
+mod Unasked

@@ -2,6 +2,8 @@
 use Rattle.std.specs.Prelude.{◌≡◌, List}
 use Rattle.st_filter.specs.declared.set.BinaryPolicy.{BinaryPolicy}
 use Rattle.st_law.specs.declared.input.Input.{Input}
+use Rattle.st_law.specs.declared.input.Mode.TheVariants.{Learn}
+use Rattle.st_learn.specs.Learnt.{NoneAsks}
 use Rattle.st_reached.specs.Grants.{RepliesUngranted, SetIdsUngranted}
 use Rattle.st_reached.specs.Scripts.{IsBounded}
 use Rattle.st_script.specs.Startable.{CanStart, input_with}
@@ -9,7 +11,7 @@ use Rattle.st_script.specs.declared.reading.ReadScript.{ReadScript}
 use Rattle.st_command.specs.Command.{StepWords}
 
 -- an input is of a script that a run can start with and that isn't too long, under policies and with replies that grant no ids for
--- setting ids, with the options of the words
+-- setting ids, with the options of the words; where it learns, no filter asks
 pub record IsRunnable (step : StepWords) (input : Input) : Type 0 where
   pub script : ReadScript
   pub policies : List BinaryPolicy
@@ -18,3 +20,4 @@ pub record IsRunnable (step : StepWords) (input : Input) : Type 0 where
   pub bounded : IsBounded script.start
   pub ungranted : SetIdsUngranted policies
   pub replies : RepliesUngranted script.replies
+  pub unasked : step.options.mode ≡ Learn → NoneAsks policies
