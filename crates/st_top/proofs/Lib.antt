@@ -1,4 +1,5 @@
 mod Endings
+mod Learning
 mod Outcomes
 mod Preparing
 mod Runs

@@ -1,5 +1,5 @@
 -- What words come to is one thing, and the end of a command is what its words come to.
-use Rattle.std.proofs.Common.{◌≡◌, ◌⊎◌, ℕ, inl, inr, Bool, true, false, List, [], Option, Some, None, refl, sym, ap, ◌∙◌, subst}
+use Rattle.std.proofs.Common.{◌≡◌, ◌⊎◌, ℕ, inl, inr, false, List, Option, Some, None, refl, sym, ap, ◌∙◌, subst}
 use Rattle.st_outside.specs.Count.{HasRisen}
 use Rattle.st_outside.specs.Sink.{Appends}
 use Rattle.st_law.specs.declared.input.Input.{Input}
@@ -14,7 +14,7 @@ use Rattle.st_reading.specs.Meaning.{AreTold, Held, Meaning, Means, names_of}
 use Rattle.st_reading.specs.declared.refusal.Refusal.TheVariants as refusal
 use Rattle.st_reading.proofs.Meanings.{one_meaning, some_meaning}
 use Rattle.st_top.specs.Ends.{Ends, EndsAs, IsMeant, names_asked}
-use Rattle.st_top.specs.Outcome.{Outcome, ComesTo, Refuses, Stops, WordsComeTo, Writes, is_stop, outcome_of, outcome_of_play, print_of, printed}
+use Rattle.st_top.specs.Outcome.{Outcome, ComesTo, Refuses, WordsComeTo, is_stop, outcome_of, outcome_of_play, print_of}
 use Rattle.st_top.specs.declared.status.Status.{Status}
 use Rattle.st_top.specs.declared.status.Status.TheVariants as status
 

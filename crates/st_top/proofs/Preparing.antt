@@ -1,7 +1,6 @@
 -- What is ready before anything is written, by what was read and shown.
 use native.Mathlib.Omega.{arith}
-use Rattle.std.proofs.Common.{◌≡◌, ◌≤◌, ◌<◌, ◌^◌, ◌⊎◌, ℕ, inl, inr, List, length, Option, Some, None, Result, Ok, Err, refl, sym, ap, ◌∙◌, subst}
-use Rattle.st_filter.specs.declared.set.BinaryPolicy.{BinaryPolicy}
+use Rattle.std.proofs.Common.{◌≡◌, ℕ, inl, inr, List, Result, Ok, Err, sym, subst}
 use Rattle.st_law.specs.Inputs.{IsStartable}
 use Rattle.st_law.specs.declared.input.Input.{Input}
 use Rattle.st_law.specs.declared.input.ReadSchedule.{ReadSchedule}
@@ -11,7 +10,7 @@ use Rattle.st_reached.specs.Scripts.{IsBounded}
 use Rattle.st_script.specs.Startable.{input_with}
 use Rattle.st_system.specs.Start.{CanStart}
 use Rattle.st_command.specs.Words.{Word}
-use Rattle.st_command.specs.Command.{StepWords, CheckWords}
+use Rattle.st_command.specs.Command.{StepWords}
 use Rattle.st_command.specs.Reading.{IsWithinLimits}
 use Rattle.st_command.specs.declared.command.Command.{Command}
 use Rattle.st_command.specs.declared.command.Command.TheVariants.{Step, Check}
@@ -24,7 +23,7 @@ use Rattle.st_reading.specs.declared.reading.Reading.TheVariants as reading_is
 use Rattle.st_reading.specs.declared.refusal.Refusal.{Refusal}
 use Rattle.st_reading.specs.declared.refusal.Refusal.TheVariants as refusal
 use Rattle.st_reading.proofs.Runnable.{check_runs_nothing, step_prints_nothing}
-use Rattle.st_top.specs.Ends.{IsMeant, Prepares, Refused, RunShown}
+use Rattle.st_top.specs.Ends.{Prepares, Refused, RunShown}
 use Rattle.st_top.specs.Outcome.{print_of, status_of}
 use Rattle.st_top.specs.declared.status.Status.{Status}
 use Rattle.st_top.specs.declared.status.Status.TheVariants as status

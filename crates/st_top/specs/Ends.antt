@@ -10,13 +10,13 @@ use Rattle.st_law.specs.Machine.{run}
 use Rattle.st_law.specs.Schedules.{Choices, BadLine, played}
 use Rattle.st_command.specs.Reading.{command_in}
 use Rattle.st_command.specs.Words.{Word}
-use Rattle.st_command.specs.Command.{StepWords, CheckWords}
+use Rattle.st_command.specs.Command.{StepWords}
 use Rattle.st_command.specs.declared.command.Command.{Command}
 use Rattle.st_command.specs.declared.command.Command.TheVariants as command
 use Rattle.st_command.specs.declared.given.Print.{Print}
 use Rattle.st_reading.specs.Ends.{AskedTo, LastFits}
 use Rattle.st_reading.specs.Ends as reading
-use Rattle.st_reading.specs.Meaning.{Held, Meaning, Stops, Refuses, Runs, Prints, Means, names_of, names_to, last_file}
+use Rattle.st_reading.specs.Meaning.{Held, Meaning, Refuses, Runs, Prints, Means, names_of, last_file}
 use Rattle.st_reading.specs.declared.refusal.Refusal.TheVariants as refusal
 use Rattle.st_reading.specs.declared.refusal.Which.{Which}
 use Rattle.st_reading.specs.declared.refusal.Which.TheVariants as which

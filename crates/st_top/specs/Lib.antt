@@ -1,3 +1,4 @@
 pub mod Number
 pub mod Outcome
 pub mod Ends
+pub mod Learning

@@ -1,9 +1,22 @@
-ghost use Rattle.std.specs.Prelude.{◌≡◌, List, false};
-ghost use Rattle.st_command.specs.Reading.{command_in};
+ghost use Rattle.std.specs.Prelude.{◌≡◌, List, false, reverse};
+ghost use Rattle.st_command.specs.Command.{StepWords};
+ghost use Rattle.st_command.specs.Reading.{command_in, IsWithinLimits};
 ghost use Rattle.st_command.specs.Words.{Word};
-ghost use Rattle.st_reading.specs.Meaning.{Held, AreTold};
+ghost use Rattle.st_command.specs.declared.command.Command.TheVariants.{Step};
+ghost use Rattle.st_command.specs.declared.given.Print.TheVariants as print;
+ghost use Rattle.st_law.specs.Machine.{run};
+ghost use Rattle.st_law.specs.declared.input.Input.{Input};
+ghost use Rattle.st_law.specs.declared.input.Mode.TheVariants.{Learn};
+ghost use Rattle.st_law.specs.declared.input.ReadSchedule.{ReadSchedule};
+ghost use Rattle.st_policy.specs.Canon.{canon};
+ghost use Rattle.st_reading.specs.Meaning.{Held, AreTold, Means, Runs};
 ghost use Rattle.st_top.specs.Ends.{names_asked};
-ghost use Rattle.st_top.specs.Outcome.{Outcome, WordsComeTo, is_stop};
+ghost use Rattle.st_top.specs.Learning.{PermitsWhatWasMade, policies_behind};
+ghost use Rattle.st_top.specs.Outcome.{Outcome, WordsComeTo, is_stop, printed};
+ghost use Rattle.st_trace.specs.declared.entry.Choice.{Choice};
+
+use st_learn::law::what_was_made_is_permitted_by_what_was_learnt;
+use st_reading::law::what_is_meant_to_run_can_run;
 
 /// Words over files that are told come to exactly one thing, beside the files at which reading may stop.
 pub fn words_come_to_one_thing()
@@ -11,3 +24,14 @@ pub fn words_come_to_one_thing()
     ensures one { (words : List Word) (held : Held) (a b : Outcome) → AreTold held (names_asked (command_in words)) → is_stop a ≡ false → is_stop b ≡ false →
         WordsComeTo words held a → WordsComeTo words held b → a ≡ b }
 {}
+
+/// Each held call that a run which learns has made is permitted, under the ids that it was made under, by the policies alone whose text
+/// `step` writes of the run where policies are asked for.
+pub fn what_was_made_is_permitted_by_what_is_written()
+    ensures written { (input : Input) (choices : List Choice) → printed print.Policy input choices ≡ canon (policies_behind input choices) }
+    ensures permitted { (held : Held) (step : StepWords) (input : Input) (schedule : ReadSchedule) → IsWithinLimits (Step step) → step.options.mode ≡ Learn → Means held (Step step) (Runs input schedule) →
+        (choices : List Choice) → PermitsWhatWasMade input (policies_behind input choices) (reverse (run input choices)) }
+{
+    what_is_meant_to_run_can_run();
+    what_was_made_is_permitted_by_what_was_learnt();
+}
