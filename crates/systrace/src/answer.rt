@@ -18,8 +18,8 @@ Options of step, in any order, each once but for -f:
 
 -f POLICY      a file of policies; up to eight, each read behind those before it
 -a             denies a call that no filter decides, as is done without it
--A             in its place, learns such a call: a filter that permits just this call is kept
--t             in its place, asks about it: the operator's next reply to it in the script is kept as a filter
+-A             learns such a call instead: a filter that permits just this call is kept
+-t             asks the operator about it instead, whose next reply in the script is kept as a filter
 -i             lets a process keep its policy when it executes another binary
 -u             judges each call under its own name, and not as fsread or fswrite
 -c U:G         the user and the group of each traced process, as decimals; with them filters may grant ids, by 'as'
