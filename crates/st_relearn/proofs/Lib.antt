@@ -1,1 +1,3 @@
+mod LearntFilters
+mod Replies
 pub mod Writing
