@@ -1,3 +1,4 @@
 mod LearntFilters
 mod Replies
+mod Sessions
 pub mod Writing

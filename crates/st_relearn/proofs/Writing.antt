@@ -260,7 +260,7 @@ written_is_read env set w =
 
 -- ---- what was read can be written
 
-AreNew-append : (known ps qs : List BinaryPolicy) → AreNew known ps → AreNew (known ++ ps) qs → AreNew known (ps ++ qs)
+pub AreNew-append : (known ps qs : List BinaryPolicy) → AreNew known ps → AreNew (known ++ ps) qs → AreNew known (ps ++ qs)
 AreNew-append known [] qs a b = subst (λ (ks : List BinaryPolicy). AreNew ks qs) (append-nil known) b
 AreNew-append known (p ∷ ps) qs a b =
     (a.0, AreNew-append (known ++ p ∷ []) ps qs a.1 (subst (λ (ks : List BinaryPolicy). AreNew ks qs) (sym (append_assoc known (p ∷ []) ps)) b))
