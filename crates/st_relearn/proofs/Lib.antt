@@ -1,4 +1,7 @@
 mod LearntFilters
+mod Names
+mod Parts
 mod Replies
 mod Sessions
+mod Texts
 pub mod Writing
