@@ -1,7 +1,9 @@
 mod LearntFilters
 mod Names
+mod Outcomes
 mod Parts
 mod Replies
 mod Sessions
 mod Texts
+mod Trees
 pub mod Writing
