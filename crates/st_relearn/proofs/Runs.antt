@@ -27,7 +27,8 @@ use Rattle.st_law.specs.declared.input.Input.{Input}
 use Rattle.st_law.specs.declared.input.Mode.{Mode}
 use Rattle.st_law.specs.declared.input.Mode.TheVariants.{Enforce, Learn, AskText}
 use Rattle.st_learn.specs.Learnt.{NoneAsks, learnt_policies}
-use Rattle.st_learn.proofs.Permitting.{permits_made}
+use Rattle.st_learn.specs.Permitted.{IsPermittedBy}
+use Rattle.st_policy.specs.Grammar.{Reads}
 use Rattle.st_policy.specs.Readable.{WasRead, HasPlainDollars, HasSmallIds}
 use Rattle.st_policy.specs.declared.env.Env.{Env}
 use Rattle.st_relearn.specs.Plain.{HasPlainParts, HasPlainTexts}
@@ -90,17 +91,31 @@ module _ (env : Env) where
 pub run_adds_writable : (env : Env) (i : Input) → IsStartable i → HasPlainTexts i → HasWritableReplies env i → (h : History) → IsLawfulBack i h → All (IsWritableKept env) (session_at i h)
 run_adds_writable env i startable texts replies h lawful = All-from_recursion (IsWritableKept env) (session_at i h) (session_kept env i startable texts replies h lawful)
 
+-- the law that what was made is permitted by the policies with what was added
+abbrev pub PermitsMade : Type 0
+PermitsMade =
+    (i : Input) → NoneAsks i.policies → (later earlier : History) (t q : ℕ) (call : SysCall) (regs : List ℕ) (args : List ArgText) (ids : Ids) (result : CallResult) (changes : List Change) →
+    IsLawfulBack i (later ++ Used t (Some q) call regs args ids result changes ∷ earlier) →
+    IsPermittedBy (learnt_policies i.policies (session_at i (later ++ Used t (Some q) call regs args ids result changes ∷ earlier))) (looking_back i earlier) q ids
+
+-- the law that a text has one reading at most
+abbrev pub ReadsOnce : Type 0
+ReadsOnce = (text : List ℕ) (env : Env) (old a b : List BinaryPolicy) → Reads text env old a → Reads text env old b → a ≡ b
+
 -- what was made is permitted by what is read again
-pub read_permits_made : (env : Env) (i : Input) → IsStartable i → HasPlainTexts i → HasWritableReplies env i → AreWritable env i.policies → NoneAsks i.policies →
+pub read_permits_made : PermitsMade → ReadsOnce → (env : Env) (i : Input) → IsStartable i → HasPlainTexts i → HasWritableReplies env i → AreWritable env i.policies → NoneAsks i.policies →
     (later earlier : History) (t q : ℕ) (call : SysCall) (regs : List ℕ) (args : List ArgText) (ids : Ids) (result : CallResult) (changes : List Change) →
     IsLawfulBack i (later ++ Used t (Some q) call regs args ids result changes ∷ earlier) →
     filters_in (learnt_policies i.policies (session_at i (later ++ Used t (Some q) call regs args ids result changes ∷ earlier))) ≤ MOST_FILTERS →
     ReadsAndPermits (policy_text i.policies (session_at i (later ++ Used t (Some q) call regs args ids result changes ∷ earlier))) env (looking_back i earlier) q ids
-read_permits_made env i startable texts replies writable plain later earlier t q call regs args ids result changes lawful few =
+read_permits_made permits_made once env i startable texts replies writable plain later earlier t q call regs args ids result changes lawful few =
     let whole : History = later ++ Used t (Some q) call regs args ids result changes ∷ earlier in
+    let set : List BinaryPolicy = learnt_policies i.policies (session_at i whole) in
+    let reads : Reads (policy_text i.policies (session_at i whole)) env [] set = learnt_is_read env i.policies (session_at i whole) writable (run_adds_writable env i startable texts replies whole lawful) few in
     record {
-      set = learnt_policies i.policies (session_at i whole);
-      reads = learnt_is_read env i.policies (session_at i whole) writable (run_adds_writable env i startable texts replies whole lawful) few;
+      set = set;
+      reads = reads;
+      alone = λ other again. once (policy_text i.policies (session_at i whole)) env [] other set again reads;
       permitted = permits_made i plain later earlier t q call regs args ids result changes lawful;
     }
 
@@ -126,11 +141,11 @@ no_replies env i learns asks = absurd (clash (sym learns ∙ asks)) where
   clash : Learn ≡ AskText → ⊥
   clash f = cc
 
-pub learnt_permits_made : (env : Env) (i : Input) → IsStartable i → HasPlainTexts i → i.options.mode ≡ Learn → env.learn ≡ true → HasPlainDollars env → HasSmallIds env → WasRead env i.policies →
+pub learnt_permits_made : PermitsMade → ReadsOnce → (env : Env) (i : Input) → IsStartable i → HasPlainTexts i → i.options.mode ≡ Learn → env.learn ≡ true → HasPlainDollars env → HasSmallIds env → WasRead env i.policies →
     (later earlier : History) (t q : ℕ) (call : SysCall) (regs : List ℕ) (args : List ArgText) (ids : Ids) (result : CallResult) (changes : List Change) →
     IsLawfulBack i (later ++ Used t (Some q) call regs args ids result changes ∷ earlier) →
     filters_in (learnt_policies i.policies (session_at i (later ++ Used t (Some q) call regs args ids result changes ∷ earlier))) ≤ MOST_FILTERS →
     ReadsAndPermits (policy_text i.policies (session_at i (later ++ Used t (Some q) call regs args ids result changes ∷ earlier))) env (looking_back i earlier) q ids
-learnt_permits_made env i startable texts mode learns plain small was later earlier t q call regs args ids result changes lawful few =
+learnt_permits_made permits_made once env i startable texts mode learns plain small was later earlier t q call regs args ids result changes lawful few =
     let w : AreWritable env i.policies = read_is_writable env i.policies was plain small in
-    read_permits_made env i startable texts (no_replies env i mode) w (none_asks env i.policies learns w) later earlier t q call regs args ids result changes lawful few
+    read_permits_made permits_made once env i startable texts (no_replies env i mode) w (none_asks env i.policies learns w) later earlier t q call regs args ids result changes lawful few

@@ -1,4 +1,3 @@
 pub mod Plain
 pub mod Relearnt
 pub mod Writable
-pub mod Scratch

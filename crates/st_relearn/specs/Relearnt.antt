@@ -1,5 +1,5 @@
 -- What a session has added, read again.
-use Rattle.std.specs.Prelude.{◌≡◌, ◌≤◌, ℕ, List, []}
+use Rattle.std.specs.Prelude.{◌≡◌, ℕ, List, []}
 use Rattle.std.specs.List.{All}
 use Rattle.st_base.specs.declared.ids.Ids.{Ids}
 use Rattle.st_filter.specs.declared.set.BinaryPolicy.{BinaryPolicy}
@@ -27,8 +27,9 @@ HasWritableReplies env i = i.options.mode ≡ AskText → All (λ reply. IsWrita
 abbrev pub policy_text : List BinaryPolicy → List SessionFilter → List ℕ
 policy_text policies session = canon (learnt_policies policies session)
 
--- a text that is read alone, and policies that it gives, by which this call is permitted
+-- a text is read alone as these policies and no others, and they permit the call of a number under these ids
 pub record ReadsAndPermits (text : List ℕ) (env : Env) (st : State) (q : ℕ) (ids : Ids) : Type 0 where
   pub set : List BinaryPolicy
   pub reads : Reads text env [] set
+  pub alone : (other : List BinaryPolicy) → Reads text env [] other → other ≡ set
   pub permitted : IsPermittedBy set st q ids

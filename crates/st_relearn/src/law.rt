@@ -1,21 +1,37 @@
-ghost use Rattle.std.specs.Prelude.{◌≤◌, ℕ, [], List};
+ghost use Rattle.std.specs.Prelude.{◌≡◌, ◌≤◌, ◌++◌, ◌∷◌, ℕ, [], List, Some, true};
 ghost use Rattle.std.specs.List.{All};
+ghost use Rattle.st_base.specs.declared.ids.Ids.{Ids};
 ghost use Rattle.st_calls.specs.Argument.{args_of};
+ghost use Rattle.st_calls.specs.declared.argument.ArgText.{ArgText};
+ghost use Rattle.st_calls.specs.declared.call.SysCall.{SysCall};
 ghost use Rattle.st_calls.specs.declared.judged.Snapshot.{Snapshot};
 ghost use Rattle.st_filter.specs.Formula.{FilterValue};
 ghost use Rattle.st_filter.specs.Policies.{filters_in};
 ghost use Rattle.st_filter.specs.declared.set.BinaryPolicy.{BinaryPolicy};
 ghost use Rattle.st_filter.specs.declared.set.TheConstants.{MOST_FILTERS};
+ghost use Rattle.st_law.specs.History.{looking_back, session_at};
+ghost use Rattle.st_law.specs.Inputs.{IsStartable};
+ghost use Rattle.st_law.specs.Lawful.{IsLawfulBack};
 ghost use Rattle.st_law.specs.Sessions.{SessionFilter, learnt_filter};
-ghost use Rattle.st_learn.specs.Learnt.{learnt_policies};
+ghost use Rattle.st_law.specs.State.{snapshot_in};
+ghost use Rattle.st_law.specs.Threads.{History};
+ghost use Rattle.st_law.specs.declared.input.Input.{Input};
+ghost use Rattle.st_law.specs.declared.input.Mode.TheVariants.{Learn};
+ghost use Rattle.st_learn.specs.Learnt.{NoneAsks, learnt_policies};
 ghost use Rattle.st_policy.specs.Canon.{canon};
 ghost use Rattle.st_policy.specs.Grammar.{Reads};
 ghost use Rattle.st_policy.specs.OneFilter.{ReadsFilter};
 ghost use Rattle.st_policy.specs.Readable.{AreTextBytes, WasRead, HasPlainDollars, HasSmallIds};
 ghost use Rattle.st_policy.specs.declared.env.Env.{Env};
-ghost use Rattle.st_relearn.specs.Plain.{AreArguments};
-ghost use Rattle.st_relearn.specs.Relearnt.{IsWritableKept, policy_text};
+ghost use Rattle.st_relearn.specs.Plain.{AreArguments, HasPlainParts, HasPlainTexts};
+ghost use Rattle.st_relearn.specs.Relearnt.{HasWritableReplies, IsWritableKept, ReadsAndPermits, policy_text};
 ghost use Rattle.st_relearn.specs.Writable.{AreWritable, IsWritableFilter};
+ghost use Rattle.st_trace.specs.declared.entry.CallResult.{CallResult};
+ghost use Rattle.st_trace.specs.declared.entry.Change.{Change};
+ghost use Rattle.st_trace.specs.declared.entry.Entry.TheVariants.{Used};
+
+use st_learn::law::what_was_made_is_permitted_by_what_was_learnt;
+use st_policy::reading_is_one;
 
 /// Policies that can be written are read again from their canonical text.
 pub fn what_can_be_written_is_read_again()
@@ -42,3 +58,33 @@ pub fn what_is_learnt_can_be_written()
 pub fn learnt_text_is_read_again()
     ensures { (env : Env) (policies : List BinaryPolicy) (session : List SessionFilter) → AreWritable env policies → All (IsWritableKept env) session → filters_in (learnt_policies policies session) ≤ MOST_FILTERS → Reads (policy_text policies session) env [] (learnt_policies policies session) }
 {}
+
+/// Each copy that a lawful run makes has the arguments of its rule, and they and its policy's binary can be written, where the texts of
+/// the script can stand in quotes.
+pub fn what_a_run_copies_can_be_written()
+    ensures { (input : Input) → IsStartable input → HasPlainTexts input → (h : History) → IsLawfulBack input h → (q : ℕ) (s : Snapshot) → snapshot_in (looking_back input h) q ≡ Some s → HasPlainParts s }
+{}
+
+/// Each filter that a lawful run adds can be written, where the texts of the script can stand in quotes and its replies can be written.
+pub fn what_a_run_adds_can_be_written()
+    ensures { (env : Env) (input : Input) → IsStartable input → HasPlainTexts input → HasWritableReplies env input → (h : History) → IsLawfulBack input h → All (IsWritableKept env) (session_at input h) }
+{}
+
+/// The policies with what a run has added, written and read again, permit each held call that the run has made, under the ids that it
+/// was made under: where no filter that was read asks, all of them can be written, and there are not too many filters in all.
+pub fn what_is_read_again_permits_what_was_made()
+    ensures { (env : Env) (input : Input) → IsStartable input → HasPlainTexts input → HasWritableReplies env input → AreWritable env input.policies → NoneAsks input.policies → (later earlier : History) (t q : ℕ) (call : SysCall) (regs : List ℕ) (args : List ArgText) (ids : Ids) (result : CallResult) (changes : List Change) → IsLawfulBack input (later ++ Used t (Some q) call regs args ids result changes ∷ earlier) → filters_in (learnt_policies input.policies (session_at input (later ++ Used t (Some q) call regs args ids result changes ∷ earlier))) ≤ MOST_FILTERS → ReadsAndPermits (policy_text input.policies (session_at input (later ++ Used t (Some q) call regs args ids result changes ∷ earlier))) env (looking_back input earlier) q ids }
+{
+    what_was_made_is_permitted_by_what_was_learnt();
+    reading_is_one();
+}
+
+/// Where filters are learnt: the policies that were read and what the run has added, written and read again with the names, ids and
+/// texts with which they were read, permit each held call that the run has made, under the ids that it was made under, unless there
+/// are too many filters in all.
+pub fn learnt_text_permits_what_was_made()
+    ensures { (env : Env) (input : Input) → IsStartable input → HasPlainTexts input → input.options.mode ≡ Learn → env.learn ≡ true → HasPlainDollars env → HasSmallIds env → WasRead env input.policies → (later earlier : History) (t q : ℕ) (call : SysCall) (regs : List ℕ) (args : List ArgText) (ids : Ids) (result : CallResult) (changes : List Change) → IsLawfulBack input (later ++ Used t (Some q) call regs args ids result changes ∷ earlier) → filters_in (learnt_policies input.policies (session_at input (later ++ Used t (Some q) call regs args ids result changes ∷ earlier))) ≤ MOST_FILTERS → ReadsAndPermits (policy_text input.policies (session_at input (later ++ Used t (Some q) call regs args ids result changes ∷ earlier))) env (looking_back input earlier) q ids }
+{
+    what_was_made_is_permitted_by_what_was_learnt();
+    reading_is_one();
+}
