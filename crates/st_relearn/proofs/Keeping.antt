@@ -232,7 +232,7 @@ started_plain : (i : Input) (p : ℕ) (o : Option ProcessRow) → IsPlainRow o �
 started_plain i p None plain = record { cwd = tt; policy = λ traced. absurd (cc) }
 started_plain i p (Some row) plain = record { cwd = recursion_from_All AreBytes row.cwd plain.cwd; policy = λ traced. plain.binary }
 
-plain_first : (i : Input) → HasPlainTexts i → IsPlainState (first_state i)
+plain_first : (i : Input) → HasPlainTexts i.start → IsPlainState (first_state i)
 plain_first i texts = record {
   links = rows_plain i.start.tree root_only texts.targets (tt, tt);
   processes = λ p. started_plain i p (item_at_number i.start.processes p) (row_of i.start.processes p (recursion_from_All IsPlainProcess i.start.processes texts.processes));
@@ -240,11 +240,11 @@ plain_first i texts = record {
   looks = λ q j. tt;
 }
 
-plain_of : (i : Input) → IsStartable i → HasPlainTexts i → (h : History) → IsLawfulBack i h → IsPlainState (looking_back i h)
+plain_of : (i : Input) → IsStartable i → HasPlainTexts i.start → (h : History) → IsLawfulBack i h → IsPlainState (looking_back i h)
 plain_of i startable texts [] lawful = plain_first i texts
 plain_of i startable texts (e ∷ h) lawful =
     plain_behind i (looking_back i h) (short_of i startable h lawful.1) (plain_of i startable texts h lawful.1) e lawful.0
 
 -- the copies of every lawful run
-pub copies_of_runs : (i : Input) → IsStartable i → HasPlainTexts i → (h : History) → IsLawfulBack i h → (q : ℕ) (s : Snapshot) → snapshot_in (looking_back i h) q ≡ Some s → HasPlainParts s
+pub copies_of_runs : (i : Input) → IsStartable i → HasPlainTexts i.start → (h : History) → IsLawfulBack i h → (q : ℕ) (s : Snapshot) → snapshot_in (looking_back i h) q ≡ Some s → HasPlainParts s
 copies_of_runs i startable texts h lawful q s e = copies_plain (looking_back i h) q s (plain_of i startable texts h lawful) e

@@ -64,7 +64,7 @@ module _ (env : Env) where
   replied_kept (Some reply) None writable parts = tt
   replied_kept (Some reply) (Some s) writable parts = (record { policy = (parts s refl).policy; filter = writable }, tt)
 
-  module _ (i : Input) (startable : IsStartable i) (texts : HasPlainTexts i) (replies : HasWritableReplies env i) where
+  module _ (i : Input) (startable : IsStartable i) (texts : HasPlainTexts i.start) (replies : HasWritableReplies env i) where
     session_kept : (h : History) → IsLawfulBack i h → AllByRecursion (IsWritableKept env) (session_at i h)
     session_kept [] lawful = tt
     session_kept (Learned q n ∷ h) lawful =
@@ -88,7 +88,7 @@ module _ (env : Env) where
     session_kept (Ended u ∷ h) lawful = session_kept h lawful.1
 
 -- what a run adds
-pub run_adds_writable : (env : Env) (i : Input) → IsStartable i → HasPlainTexts i → HasWritableReplies env i → (h : History) → IsLawfulBack i h → All (IsWritableKept env) (session_at i h)
+pub run_adds_writable : (env : Env) (i : Input) → IsStartable i → HasPlainTexts i.start → HasWritableReplies env i → (h : History) → IsLawfulBack i h → All (IsWritableKept env) (session_at i h)
 run_adds_writable env i startable texts replies h lawful = All-from_recursion (IsWritableKept env) (session_at i h) (session_kept env i startable texts replies h lawful)
 
 -- the law that what was made is permitted by the policies with what was added
@@ -103,7 +103,7 @@ abbrev pub ReadsOnce : Type 0
 ReadsOnce = (text : List ℕ) (env : Env) (old a b : List BinaryPolicy) → Reads text env old a → Reads text env old b → a ≡ b
 
 -- what was made is permitted by what is read again
-pub read_permits_made : PermitsMade → ReadsOnce → (env : Env) (i : Input) → IsStartable i → HasPlainTexts i → HasWritableReplies env i → AreWritable env i.policies → NoneAsks i.policies →
+pub read_permits_made : PermitsMade → ReadsOnce → (env : Env) (i : Input) → IsStartable i → HasPlainTexts i.start → HasWritableReplies env i → AreWritable env i.policies → NoneAsks i.policies →
     (later earlier : History) (t q : ℕ) (call : SysCall) (regs : List ℕ) (args : List ArgText) (ids : Ids) (result : CallResult) (changes : List Change) →
     IsLawfulBack i (later ++ Used t (Some q) call regs args ids result changes ∷ earlier) →
     filters_in (learnt_policies i.policies (session_at i (later ++ Used t (Some q) call regs args ids result changes ∷ earlier))) ≤ MOST_FILTERS →
@@ -141,7 +141,7 @@ no_replies env i learns asks = absurd (clash (sym learns ∙ asks)) where
   clash : Learn ≡ AskText → ⊥
   clash f = cc
 
-pub learnt_permits_made : PermitsMade → ReadsOnce → (env : Env) (i : Input) → IsStartable i → HasPlainTexts i → i.options.mode ≡ Learn → env.learn ≡ true → HasPlainDollars env → HasSmallIds env → WasRead env i.policies →
+pub learnt_permits_made : PermitsMade → ReadsOnce → (env : Env) (i : Input) → IsStartable i → HasPlainTexts i.start → i.options.mode ≡ Learn → env.learn ≡ true → HasPlainDollars env → HasSmallIds env → WasRead env i.policies →
     (later earlier : History) (t q : ℕ) (call : SysCall) (regs : List ℕ) (args : List ArgText) (ids : Ids) (result : CallResult) (changes : List Change) →
     IsLawfulBack i (later ++ Used t (Some q) call regs args ids result changes ∷ earlier) →
     filters_in (learnt_policies i.policies (session_at i (later ++ Used t (Some q) call regs args ids result changes ∷ earlier))) ≤ MOST_FILTERS →

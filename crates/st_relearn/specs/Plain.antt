@@ -1,4 +1,4 @@
--- Texts that can stand in quotes: those of an input, and then those of every copy that a run makes.
+-- Texts that can stand in quotes: those of a script, and then those of every copy that a run makes.
 use Rattle.std.specs.Prelude.{◌≡◌, ℕ, List, [], ◌∷◌}
 use Rattle.std.specs.List.{All}
 use Rattle.st_calls.specs.Argument.{args_of}
@@ -10,10 +10,10 @@ use Rattle.st_model.specs.declared.object.NewKind.{NewKind}
 use Rattle.st_model.specs.declared.object.NewKind.TheVariants as kind
 use Rattle.st_names.specs.Name.{Components}
 use Rattle.st_trace.specs.declared.start.ProcessRow.{ProcessRow}
-use Rattle.st_law.specs.declared.input.Input.{Input}
+use Rattle.st_trace.specs.declared.start.Start.{Start}
 use Rattle.st_relearn.specs.Writable.{IsWritableBinary}
 
--- ---- inputs
+-- ---- scripts
 
 -- each component of a name can stand in quotes
 abbrev pub IsPlainName : Components → Type 0
@@ -31,9 +31,9 @@ HasPlainTarget (kind.File content) = Unit {0}
 HasPlainTarget (kind.Link target) = AreBytes target
 
 -- the texts of a script, from which all texts of a run come, can stand in quotes
-pub record HasPlainTexts (i : Input) : Type 0 where
-  pub processes : All IsPlainProcess i.start.processes
-  pub targets : All (λ row. HasPlainTarget row.new.kind) i.start.tree
+pub record HasPlainTexts (start : Start) : Type 0 where
+  pub processes : All IsPlainProcess start.processes
+  pub targets : All (λ row. HasPlainTarget row.new.kind) start.tree
 
 -- ---- copies
 

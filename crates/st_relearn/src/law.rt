@@ -62,18 +62,18 @@ pub fn learnt_text_is_read_again()
 /// Each copy that a lawful run makes has the arguments of its rule, and they and its policy's binary can be written, where the texts of
 /// the script can stand in quotes.
 pub fn what_a_run_copies_can_be_written()
-    ensures { (input : Input) → IsStartable input → HasPlainTexts input → (h : History) → IsLawfulBack input h → (q : ℕ) (s : Snapshot) → snapshot_in (looking_back input h) q ≡ Some s → HasPlainParts s }
+    ensures { (input : Input) → IsStartable input → HasPlainTexts input.start → (h : History) → IsLawfulBack input h → (q : ℕ) (s : Snapshot) → snapshot_in (looking_back input h) q ≡ Some s → HasPlainParts s }
 {}
 
 /// Each filter that a lawful run adds can be written, where the texts of the script can stand in quotes and its replies can be written.
 pub fn what_a_run_adds_can_be_written()
-    ensures { (env : Env) (input : Input) → IsStartable input → HasPlainTexts input → HasWritableReplies env input → (h : History) → IsLawfulBack input h → All (IsWritableKept env) (session_at input h) }
+    ensures { (env : Env) (input : Input) → IsStartable input → HasPlainTexts input.start → HasWritableReplies env input → (h : History) → IsLawfulBack input h → All (IsWritableKept env) (session_at input h) }
 {}
 
 /// The policies with what a run has added, written and read again, permit each held call that the run has made, under the ids that it
 /// was made under: where no filter that was read asks, all of them can be written, and there are not too many filters in all.
 pub fn what_is_read_again_permits_what_was_made()
-    ensures { (env : Env) (input : Input) → IsStartable input → HasPlainTexts input → HasWritableReplies env input → AreWritable env input.policies → NoneAsks input.policies → (later earlier : History) (t q : ℕ) (call : SysCall) (regs : List ℕ) (args : List ArgText) (ids : Ids) (result : CallResult) (changes : List Change) → IsLawfulBack input (later ++ Used t (Some q) call regs args ids result changes ∷ earlier) → filters_in (learnt_policies input.policies (session_at input (later ++ Used t (Some q) call regs args ids result changes ∷ earlier))) ≤ MOST_FILTERS → ReadsAndPermits (policy_text input.policies (session_at input (later ++ Used t (Some q) call regs args ids result changes ∷ earlier))) env (looking_back input earlier) q ids }
+    ensures { (env : Env) (input : Input) → IsStartable input → HasPlainTexts input.start → HasWritableReplies env input → AreWritable env input.policies → NoneAsks input.policies → (later earlier : History) (t q : ℕ) (call : SysCall) (regs : List ℕ) (args : List ArgText) (ids : Ids) (result : CallResult) (changes : List Change) → IsLawfulBack input (later ++ Used t (Some q) call regs args ids result changes ∷ earlier) → filters_in (learnt_policies input.policies (session_at input (later ++ Used t (Some q) call regs args ids result changes ∷ earlier))) ≤ MOST_FILTERS → ReadsAndPermits (policy_text input.policies (session_at input (later ++ Used t (Some q) call regs args ids result changes ∷ earlier))) env (looking_back input earlier) q ids }
 {
     what_was_made_is_permitted_by_what_was_learnt();
     reading_is_one();
@@ -83,7 +83,7 @@ pub fn what_is_read_again_permits_what_was_made()
 /// texts with which they were read, permit each held call that the run has made, under the ids that it was made under, unless there
 /// are too many filters in all.
 pub fn learnt_text_permits_what_was_made()
-    ensures { (env : Env) (input : Input) → IsStartable input → HasPlainTexts input → input.options.mode ≡ Learn → env.learn ≡ true → HasPlainDollars env → HasSmallIds env → WasRead env input.policies → (later earlier : History) (t q : ℕ) (call : SysCall) (regs : List ℕ) (args : List ArgText) (ids : Ids) (result : CallResult) (changes : List Change) → IsLawfulBack input (later ++ Used t (Some q) call regs args ids result changes ∷ earlier) → filters_in (learnt_policies input.policies (session_at input (later ++ Used t (Some q) call regs args ids result changes ∷ earlier))) ≤ MOST_FILTERS → ReadsAndPermits (policy_text input.policies (session_at input (later ++ Used t (Some q) call regs args ids result changes ∷ earlier))) env (looking_back input earlier) q ids }
+    ensures { (env : Env) (input : Input) → IsStartable input → HasPlainTexts input.start → input.options.mode ≡ Learn → env.learn ≡ true → HasPlainDollars env → HasSmallIds env → WasRead env input.policies → (later earlier : History) (t q : ℕ) (call : SysCall) (regs : List ℕ) (args : List ArgText) (ids : Ids) (result : CallResult) (changes : List Change) → IsLawfulBack input (later ++ Used t (Some q) call regs args ids result changes ∷ earlier) → filters_in (learnt_policies input.policies (session_at input (later ++ Used t (Some q) call regs args ids result changes ∷ earlier))) ≤ MOST_FILTERS → ReadsAndPermits (policy_text input.policies (session_at input (later ++ Used t (Some q) call regs args ids result changes ∷ earlier))) env (looking_back input earlier) q ids }
 {
     what_was_made_is_permitted_by_what_was_learnt();
     reading_is_one();
