@@ -29,7 +29,7 @@ each_take P zero xs x = tt
 each_take P (suc n) [] x = tt
 each_take P (suc n) (a ∷ xs) x = (x.0, each_take P n xs x.1)
 
-each_filter : {X : Type 0} (P : X → Type 0) (is : X → Bool) (xs : List X) → AllByRecursion P xs → AllByRecursion P (filter is xs)
+pub each_filter : {X : Type 0} (P : X → Type 0) (is : X → Bool) (xs : List X) → AllByRecursion P xs → AllByRecursion P (filter is xs)
 each_filter P is [] x = tt
 each_filter P is (a ∷ xs) x = by (is a) (each_filter P is xs x.1) where
   by : (b : Bool) → AllByRecursion P (filter is xs) → AllByRecursion P (cond b (a ∷ filter is xs) (filter is xs))

@@ -1,3 +1,4 @@
 pub mod Plain
 pub mod Relearnt
+pub mod Scripts
 pub mod Writable

@@ -1,4 +1,4 @@
-ghost use Rattle.std.specs.Prelude.{◌≡◌, ◌≤◌, ◌++◌, ◌∷◌, ℕ, [], List, Some, true};
+ghost use Rattle.std.specs.Prelude.{◌≡◌, ◌≤◌, ◌++◌, ◌∷◌, ℕ, [], List, Some, true, Ok};
 ghost use Rattle.std.specs.List.{All};
 ghost use Rattle.st_base.specs.declared.ids.Ids.{Ids};
 ghost use Rattle.st_calls.specs.Argument.{args_of};
@@ -17,6 +17,7 @@ ghost use Rattle.st_law.specs.State.{snapshot_in};
 ghost use Rattle.st_law.specs.Threads.{History};
 ghost use Rattle.st_law.specs.declared.input.Input.{Input};
 ghost use Rattle.st_law.specs.declared.input.Mode.TheVariants.{Learn};
+ghost use Rattle.st_law.specs.declared.input.Options.{Options};
 ghost use Rattle.st_learn.specs.Learnt.{NoneAsks, learnt_policies};
 ghost use Rattle.st_policy.specs.Canon.{canon};
 ghost use Rattle.st_policy.specs.Grammar.{Reads};
@@ -25,13 +26,18 @@ ghost use Rattle.st_policy.specs.Readable.{AreTextBytes, WasRead, HasPlainDollar
 ghost use Rattle.st_policy.specs.declared.env.Env.{Env};
 ghost use Rattle.st_relearn.specs.Plain.{AreArguments, HasPlainParts, HasPlainTexts};
 ghost use Rattle.st_relearn.specs.Relearnt.{HasWritableReplies, IsWritableKept, ReadsAndPermits, policy_text};
+ghost use Rattle.st_relearn.specs.Scripts.{HasPlainScript};
 ghost use Rattle.st_relearn.specs.Writable.{AreWritable, IsWritableFilter};
+ghost use Rattle.st_script.specs.Reading.{script_in};
+ghost use Rattle.st_script.specs.Startable.{input_with};
+ghost use Rattle.st_script.specs.declared.reading.ReadScript.{ReadScript};
 ghost use Rattle.st_trace.specs.declared.entry.CallResult.{CallResult};
 ghost use Rattle.st_trace.specs.declared.entry.Change.{Change};
 ghost use Rattle.st_trace.specs.declared.entry.Entry.TheVariants.{Used};
 
 use st_learn::law::what_was_made_is_permitted_by_what_was_learnt;
-use st_policy::reading_is_one;
+use st_policy::{reading_is_one, what_is_read_is_a_filter};
+use st_script::reading::what_is_read_can_start;
 
 /// Policies that can be written are read again from their canonical text.
 pub fn what_can_be_written_is_read_again()
@@ -87,4 +93,23 @@ pub fn learnt_text_permits_what_was_made()
 {
     what_was_made_is_permitted_by_what_was_learnt();
     reading_is_one();
+}
+
+/// A script that was read gives texts that can stand in quotes, ids of 32 bits, and replies that can be written.
+pub fn what_a_script_says_can_be_written()
+    ensures { (text : List ℕ) (options : Options) (script : ReadScript) → AreTextBytes text → script_in text options ≡ Ok script → HasPlainScript script }
+{
+    what_is_read_is_a_filter();
+}
+
+/// Where a script and policies were read and filters are learnt: the policies and what the run has added, written and read again as
+/// they were, permit each held call that the run has made, under the ids that it was made under, unless there are too many filters in
+/// all.
+pub fn what_a_script_learns_permits_what_was_made()
+    ensures { (text : List ℕ) (options : Options) (script : ReadScript) (policies : List BinaryPolicy) → AreTextBytes text → script_in text options ≡ Ok script → options.mode ≡ Learn → 1 ≤ options.workers → options.workers ≤ 8 → WasRead script.env policies → (later earlier : History) (t q : ℕ) (call : SysCall) (regs : List ℕ) (args : List ArgText) (ids : Ids) (result : CallResult) (changes : List Change) → IsLawfulBack (input_with policies options script) (later ++ Used t (Some q) call regs args ids result changes ∷ earlier) → filters_in (learnt_policies policies (session_at (input_with policies options script) (later ++ Used t (Some q) call regs args ids result changes ∷ earlier))) ≤ MOST_FILTERS → ReadsAndPermits (policy_text policies (session_at (input_with policies options script) (later ++ Used t (Some q) call regs args ids result changes ∷ earlier))) script.env (looking_back (input_with policies options script) earlier) q ids }
+{
+    what_was_made_is_permitted_by_what_was_learnt();
+    reading_is_one();
+    what_is_read_is_a_filter();
+    what_is_read_can_start();
 }
