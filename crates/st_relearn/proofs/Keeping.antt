@@ -44,7 +44,7 @@ use Rattle.st_law.proofs.ShortArguments.{HasShortFirst, arguments_short, copies_
 use Rattle.st_law.proofs.ShortLinks.{Short, short_of}
 use Rattle.st_law.proofs.ShortOutcomes.{Fits, fits_of}
 use Rattle.st_law.proofs.ShortTrees.{AreFit}
-use Rattle.st_relearn.specs.Plain.{AreArguments, HasPlainParts, HasPlainTexts, IsPlainProcess}
+use Rattle.st_relearn.specs.Plain.{AreArguments, AreWritableCopies, HasPlainTexts, IsPlainProcess}
 use Rattle.st_relearn.specs.Writable.{IsWritableBinary}
 use Rattle.st_relearn.proofs.Names.{AreNames, ArePlainLooks, HasPlainLinks, IsPlainSeen, each_append, look_plain}
 use Rattle.st_relearn.proofs.Outcomes.{ArePlainChanges, IsPlainChange, plain_effect}
@@ -72,16 +72,16 @@ record IsPlainState (st : State) : Type 0 where
 
 -- ---- copies
 
-copies_by : (q : ℕ) (s : Snapshot) (o : Option Head) (words : ℕ → List ℕ) (lookups : ℕ → List SeenText) → IsPlainHead o → ((j : ℕ) → ArePlainLooks (lookups j)) → snapshot_of_progress q o (progress_of_head o words lookups) ≡ Some s → HasPlainParts s
+copies_by : (q : ℕ) (s : Snapshot) (o : Option Head) (words : ℕ → List ℕ) (lookups : ℕ → List SeenText) → IsPlainHead o → ((j : ℕ) → ArePlainLooks (lookups j)) → snapshot_of_progress q o (progress_of_head o words lookups) ≡ Some s → AreWritableCopies s
 copies_by q s None words lookups head looks e = absurd (cc)
 copies_by q s (Some h) words lookups head looks e = by (progress (request_of_head h) words lookups) (held_plain (request_of_head h) words lookups head.0 looks) e where
-  by : (p : Progress) → IsReadyWith (args_of h.rule) p → snapshot_of_progress q (Some h) p ≡ Some s → HasPlainParts s
+  by : (p : Progress) → IsReadyWith (args_of h.rule) p → snapshot_of_progress q (Some h) p ≡ Some s → AreWritableCopies s
   by (Word part place) ready e = absurd (cc)
   by (Look part name) ready e = absurd (cc)
   by (Stuck errno) ready e = absurd (cc)
-  by (Ready args) ready e = subst HasPlainParts (same_Some (snapshot_with q h args) s e) (record { parts = ready; policy = head.1 })
+  by (Ready args) ready e = subst AreWritableCopies (same_Some (snapshot_with q h args) s e) (record { parts = ready; policy = head.1 })
 
-copies_plain : (st : State) (q : ℕ) (s : Snapshot) → IsPlainState st → snapshot_in st q ≡ Some s → HasPlainParts s
+copies_plain : (st : State) (q : ℕ) (s : Snapshot) → IsPlainState st → snapshot_in st q ≡ Some s → AreWritableCopies s
 copies_plain st q s x e = copies_by q s (st.messages q).head (st.messages q).words (st.messages q).lookups (x.heads q) (x.looks q) e
 
 -- ---- processes
@@ -183,7 +183,7 @@ module _ (i : Input) (st : State) (s : Short i st) (x : IsPlainState st) where
   call_plain : (t : ℕ) (seq : Option ℕ) (call : SysCall) (regs : List ℕ) (args : List ArgText) (ids : Ids) (result : CallResult) (changes : List Change) → IsUsed i st t seq call regs args ids result changes → IsPlainState (state_after i st (Used t seq call regs args ids result changes))
   call_plain t None call regs args ids result changes y = unheld_call t None call regs args ids result changes y.outcome
   call_plain t (Some q) call regs args ids result changes y =
-      let parts : HasPlainParts y.copies = copies_plain st q y.copies x y.permitted.judged.copies in
+      let parts : AreWritableCopies y.copies = copies_plain st q y.copies x y.permitted.judged.copies in
       effect_plain t (Some q) call regs args ids result changes y.outcome y.unlinked
       (subst (HasShortFirst call) (sym y.args_are) (copies_short i st q y.copies call (s.rules q) y.permitted.judged.copies y.call_is))
       (subst ArePlainArgs (sym y.args_are) (texts_plain (args_of y.copies.rule) y.copies.parts parts.parts))
@@ -246,5 +246,5 @@ plain_of i startable texts (e ∷ h) lawful =
     plain_behind i (looking_back i h) (short_of i startable h lawful.1) (plain_of i startable texts h lawful.1) e lawful.0
 
 -- the copies of every lawful run
-pub copies_of_runs : (i : Input) → IsStartable i → HasPlainTexts i.start → (h : History) → IsLawfulBack i h → (q : ℕ) (s : Snapshot) → snapshot_in (looking_back i h) q ≡ Some s → HasPlainParts s
+pub copies_of_runs : (i : Input) → IsStartable i → HasPlainTexts i.start → (h : History) → IsLawfulBack i h → (q : ℕ) (s : Snapshot) → snapshot_in (looking_back i h) q ≡ Some s → AreWritableCopies s
 copies_of_runs i startable texts h lawful q s e = copies_plain (looking_back i h) q s (plain_of i startable texts h lawful) e

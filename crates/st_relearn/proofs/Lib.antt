@@ -1,3 +1,4 @@
+mod Bytes
 mod Keeping
 mod LearntFilters
 mod Lines

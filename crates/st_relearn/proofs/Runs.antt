@@ -31,7 +31,7 @@ use Rattle.st_learn.specs.Permitted.{IsPermittedBy}
 use Rattle.st_policy.specs.Grammar.{Reads}
 use Rattle.st_policy.specs.Readable.{WasRead, HasPlainDollars, HasSmallIds}
 use Rattle.st_policy.specs.declared.env.Env.{Env}
-use Rattle.st_relearn.specs.Plain.{HasPlainParts, HasPlainTexts}
+use Rattle.st_relearn.specs.Plain.{AreWritableCopies, HasPlainTexts}
 use Rattle.st_relearn.specs.Relearnt.{HasWritableReplies, IsWritableKept, ReadsAndPermits, policy_text}
 use Rattle.st_relearn.specs.Writable.{AreWritable, IsWritableAction, IsWritableFilter, IsWritablePolicy}
 use Rattle.st_relearn.proofs.Keeping.{copies_of_runs}
@@ -41,7 +41,7 @@ use Rattle.st_relearn.proofs.Sessions.{learnt_is_read}
 use Rattle.st_relearn.proofs.Writing.{read_is_writable}
 
 module _ (env : Env) where
-  learnt_kept : (o : Option Snapshot) → ((s : Snapshot) → o ≡ Some s → HasPlainParts s) → AllByRecursion (IsWritableKept env) (learnt_by o)
+  learnt_kept : (o : Option Snapshot) → ((s : Snapshot) → o ≡ Some s → AreWritableCopies s) → AllByRecursion (IsWritableKept env) (learnt_by o)
   learnt_kept None parts = tt
   learnt_kept (Some s) parts = (record { policy = (parts s refl).policy; filter = learnt_is_writable env s (parts s refl).parts }, tt)
 
@@ -59,7 +59,7 @@ module _ (env : Env) where
   reply_of replies zero all = tt
   reply_of replies (suc place) all = reply_at replies place all
 
-  replied_kept : (r : Option Reply) (o : Option Snapshot) → IsWritableReply r → ((s : Snapshot) → o ≡ Some s → HasPlainParts s) → AllByRecursion (IsWritableKept env) (replied_by r o)
+  replied_kept : (r : Option Reply) (o : Option Snapshot) → IsWritableReply r → ((s : Snapshot) → o ≡ Some s → AreWritableCopies s) → AllByRecursion (IsWritableKept env) (replied_by r o)
   replied_kept None o writable parts = tt
   replied_kept (Some reply) None writable parts = tt
   replied_kept (Some reply) (Some s) writable parts = (record { policy = (parts s refl).policy; filter = writable }, tt)

@@ -245,10 +245,14 @@ writable_policies env (p ∷ ps) r = (writable_policy env p r.0, writable_polici
 
 -- ---- what can be written is read again
 
+-- the pieces of what can be written stand well
+pub well_written : (env : Env) (set : List BinaryPolicy) → AreWritable env set → StandWell (set_pieces set)
+well_written env set w = well_set env set (readable_policies env set (recursion_from_All (IsWritablePolicy env) set w.each))
+
 pub written_is_read : (env : Env) (set : List BinaryPolicy) → AreWritable env set → Reads (canon set) env [] set
 written_is_read env set w =
     let r : AreReadable env set = readable_policies env set (recursion_from_All (IsWritablePolicy env) set w.each) in
-    let well : StandWell (set_pieces set) = well_set env set r in
+    let well : StandWell (set_pieces set) = well_written env set w in
     record {
       whole = (print_is_read (set_pieces set) well).faultless;
       policies = set;

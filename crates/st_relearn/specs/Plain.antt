@@ -46,6 +46,6 @@ AreArguments (spec ∷ specs) (arg ∷ args) =
     (arg.label ≡ spec.label) × (arg.index ≡ spec.index) × AreBytes arg.text × AreArguments specs args
 
 -- the parts of some copies are the arguments of their rule, and their policy can be written
-pub record HasPlainParts (s : Snapshot) : Type 0 where
+pub record AreWritableCopies (s : Snapshot) : Type 0 where
   pub parts : AreArguments (args_of s.rule) s.parts
   pub policy : IsWritableBinary s.policy

@@ -1,4 +1,4 @@
-ghost use Rattle.std.specs.Prelude.{◌≡◌, ◌≤◌, ◌++◌, ◌∷◌, ℕ, [], List, Some, true, Ok};
+ghost use Rattle.std.specs.Prelude.{◌≡◌, ◌↔◌, ◌≤◌, ◌++◌, ◌∷◌, ℕ, [], List, Some, true, Ok};
 ghost use Rattle.std.specs.List.{All};
 ghost use Rattle.st_base.specs.declared.ids.Ids.{Ids};
 ghost use Rattle.st_calls.specs.Argument.{args_of};
@@ -24,7 +24,7 @@ ghost use Rattle.st_policy.specs.Grammar.{Reads};
 ghost use Rattle.st_policy.specs.OneFilter.{ReadsFilter};
 ghost use Rattle.st_policy.specs.Readable.{AreTextBytes, WasRead, HasPlainDollars, HasSmallIds};
 ghost use Rattle.st_policy.specs.declared.env.Env.{Env};
-ghost use Rattle.st_relearn.specs.Plain.{AreArguments, HasPlainParts, HasPlainTexts};
+ghost use Rattle.st_relearn.specs.Plain.{AreArguments, AreWritableCopies, HasPlainTexts};
 ghost use Rattle.st_relearn.specs.Relearnt.{HasWritableReplies, IsWritableKept, ReadsAndPermits, policy_text};
 ghost use Rattle.st_relearn.specs.Scripts.{HasPlainScript};
 ghost use Rattle.st_relearn.specs.Writable.{AreWritable, IsWritableFilter};
@@ -44,9 +44,9 @@ pub fn what_can_be_written_is_read_again()
     ensures { (env : Env) (set : List BinaryPolicy) → AreWritable env set → Reads (canon set) env [] set }
 {}
 
-/// Policies that were read can be written.
-pub fn what_was_read_can_be_written()
-    ensures { (env : Env) (set : List BinaryPolicy) → WasRead env set → HasPlainDollars env → HasSmallIds env → AreWritable env set }
+/// Policies were read from texts exactly where they can be written.
+pub fn what_was_read_is_what_can_be_written()
+    ensures { (env : Env) (set : List BinaryPolicy) → HasPlainDollars env → HasSmallIds env → WasRead env set ↔ AreWritable env set }
 {}
 
 /// A filter that was read alone, as a reply is, can be written.
@@ -68,7 +68,7 @@ pub fn learnt_text_is_read_again()
 /// Each copy that a lawful run makes has the arguments of its rule, and they and its policy's binary can be written, where the texts of
 /// the script can stand in quotes.
 pub fn what_a_run_copies_can_be_written()
-    ensures { (input : Input) → IsStartable input → HasPlainTexts input.start → (h : History) → IsLawfulBack input h → (q : ℕ) (s : Snapshot) → snapshot_in (looking_back input h) q ≡ Some s → HasPlainParts s }
+    ensures { (input : Input) → IsStartable input → HasPlainTexts input.start → (h : History) → IsLawfulBack input h → (q : ℕ) (s : Snapshot) → snapshot_in (looking_back input h) q ≡ Some s → AreWritableCopies s }
 {}
 
 /// Each filter that a lawful run adds can be written, where the texts of the script can stand in quotes and its replies can be written.
