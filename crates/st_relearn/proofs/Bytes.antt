@@ -1,26 +1,22 @@
 -- What is written is bytes, so that what can be written was read.
-use Rattle.std.proofs.Common.{◌≡◌, ◌==◌, ◌↔◌, ◌<◌, ◌+◌, ◌-◌, ◌/◌, ◌%◌, ◌||◌, ◌++◌, ℕ, Bool, true, false, cond, nat_lt, List, [], ◌∷◌, flat_map, codes, refl, arith}
+use Rattle.std.proofs.Common.{◌==◌, ◌↔◌, ◌<◌, ◌+◌, ◌-◌, ◌/◌, ◌%◌, ◌||◌, ℕ, Bool, true, false, cond, nat_lt, List, [], ◌∷◌, arith}
 use Rattle.std.proofs.lemmas.List.Elements.{All-from_recursion}
-use Rattle.std.specs.List.{AllByRecursion}
 use Rattle.st_filter.specs.declared.set.BinaryPolicy.{BinaryPolicy}
-use Rattle.st_lex.specs.Pieces.{Piece, PlainWord, QuotedText, Sign, Space, StandWell, is_word_text, piece_bytes, print, sign_bytes}
+use Rattle.st_lex.specs.Pieces.{Piece, PlainWord, QuotedText, Sign, Space, StandWell, print, sign_bytes}
 use Rattle.st_lex.specs.Quote.{AreBytes, escaped_byte, hex_digit, quoted, quoted_byte, quoted_bytes}
 use Rattle.st_lex.specs.Quoted.{backslash, quote_mark}
 use Rattle.st_lex.specs.declared.token.TokenKind.{TokenKind}
 use Rattle.st_lex.specs.declared.token.TokenKind.TheVariants as kind
 use Rattle.st_policy.specs.Canon.{canon, set_pieces}
-use Rattle.st_policy.specs.Grammar.{Reads}
 use Rattle.st_policy.specs.Readable.{AreTextBytes, Behind, HasPlainDollars, HasSmallIds, Nothing, WasRead}
 use Rattle.st_policy.specs.declared.env.Env.{Env}
 use Rattle.st_relearn.specs.Writable.{AreWritable}
 use Rattle.st_relearn.proofs.Names.{each_append}
+use Rattle.st_relearn.proofs.Texts.{AreSmall}
 use Rattle.st_relearn.proofs.Writing.{read_is_writable, well_written, word_text, written_is_read}
 
 abbrev IsByte : ℕ → Type 0
 IsByte b = b < 256
-
-abbrev AreSmall : List ℕ → Type 0
-AreSmall bytes = AllByRecursion IsByte bytes
 
 text_small : (bs : List ℕ) → AreBytes bs → AreSmall bs
 text_small [] plain = tt
@@ -60,7 +56,7 @@ pieces_small (Sign k ∷ ps) well = each_append IsByte (sign_bytes k) (print ps)
 pieces_small (Space ∷ ps) well = (omega arith, pieces_small ps well)
 
 -- what can be written was read from what is written
-pub writable_is_read : (env : Env) (set : List BinaryPolicy) → AreWritable env set → WasRead env set
+writable_is_read : (env : Env) (set : List BinaryPolicy) → AreWritable env set → WasRead env set
 writable_is_read env set w =
     let bytes : AreTextBytes (canon set) = All-from_recursion IsByte (canon set) (pieces_small (set_pieces set) (well_written env set w)) in
     Behind (canon set) [] set bytes Nothing (written_is_read env set w)

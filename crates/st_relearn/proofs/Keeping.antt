@@ -1,5 +1,5 @@
 -- The texts that a lawful run keeps can stand in quotes, so that its copies can.
-use Rattle.std.proofs.Common.{◌≡◌, ◌==◌, ◌&&◌, ◌++◌, ◌∙◌, ℕ, zero, suc, Bool, true, false, cond, List, [], ◌∷◌, slice_get, option_map, Option, Some, None, refl, sym, subst}
+use Rattle.std.proofs.Common.{◌≡◌, ◌==◌, ◌&&◌, ◌++◌, ℕ, zero, suc, Bool, true, false, cond, List, [], ◌∷◌, slice_get, option_map, Option, Some, None, refl, sym, subst}
 use Rattle.std.proofs.lemmas.List.Elements.{recursion_from_All}
 use Rattle.std.proofs.lemmas.Option.{same_Some}
 use Rattle.std.specs.List.{AllByRecursion, fold}
@@ -11,10 +11,9 @@ use Rattle.st_calls.specs.Call.{rule_of}
 use Rattle.st_calls.specs.declared.argument.ArgText.{ArgText}
 use Rattle.st_calls.specs.declared.call.SysCall.{SysCall}
 use Rattle.st_calls.specs.declared.judged.Snapshot.{Snapshot}
-use Rattle.st_filter.specs.declared.set.BinaryPolicy.{BinaryPolicy}
 use Rattle.st_lex.specs.Quote.{AreBytes}
 use Rattle.st_model.specs.Process.{Process}
-use Rattle.st_model.specs.Tree.{look, root_only}
+use Rattle.st_model.specs.Tree.{root_only}
 use Rattle.st_names.specs.Name.{Components}
 use Rattle.st_names.specs.declared.seen.SeenText.{SeenText}
 use Rattle.st_effects.specs.Changes.{process_after, process_after_change}
@@ -22,7 +21,6 @@ use Rattle.st_effects.specs.Effect.{effect}
 use Rattle.st_effects.specs.Progress.{ArgRequest, Look, Progress, Ready, Stuck, Word, progress}
 use Rattle.st_effects.specs.System.{Outcome}
 use Rattle.st_trace.specs.declared.entry.CallResult.{CallResult}
-use Rattle.st_trace.specs.declared.entry.CallResult.TheVariants.{Failed}
 use Rattle.st_trace.specs.declared.entry.Change.{Change}
 use Rattle.st_trace.specs.declared.entry.Change.TheVariants.{Cwd, Execed, Forked, Policy, Renewed, SetIds}
 use Rattle.st_trace.specs.declared.entry.Entry.{Entry}
@@ -33,10 +31,10 @@ use Rattle.st_trace.specs.declared.start.ProcessRow.{ProcessRow}
 use Rattle.st_law.specs.Arguments.{Surroundings}
 use Rattle.st_law.specs.History.{looking_back}
 use Rattle.st_law.specs.Inputs.{IsStartable}
-use Rattle.st_law.specs.Lawful.{IsEffect, IsEntered, IsFailure, IsLawful, IsLawfulBack, IsUnheldOutcome, IsUnlinkedOutcome, IsUsed, IsWay}
+use Rattle.st_law.specs.Lawful.{IsEffect, IsFailure, IsLawful, IsLawfulBack, IsUnheldOutcome, IsUnlinkedOutcome, IsUsed, IsWay}
 use Rattle.st_law.specs.Machine.{first_state, state_after}
 use Rattle.st_law.specs.Messages.{Head, head_after, head_after_change, new_head, renewed_head}
-use Rattle.st_law.specs.Processes.{first_tree, process_of_row}
+use Rattle.st_law.specs.Processes.{process_of_row}
 use Rattle.st_law.specs.State.{State, answer_in, arguments_now, link_now, process_in, progress_of_head, request_of, request_of_head, snapshot_in, snapshot_of_progress, snapshot_with, system_of}
 use Rattle.st_law.specs.Threads.{History}
 use Rattle.st_law.specs.declared.input.Input.{Input}
@@ -44,7 +42,7 @@ use Rattle.st_law.proofs.ShortArguments.{HasShortFirst, arguments_short, copies_
 use Rattle.st_law.proofs.ShortLinks.{Short, short_of}
 use Rattle.st_law.proofs.ShortOutcomes.{Fits, fits_of}
 use Rattle.st_law.proofs.ShortTrees.{AreFit}
-use Rattle.st_relearn.specs.Plain.{AreArguments, AreWritableCopies, HasPlainTexts, IsPlainProcess}
+use Rattle.st_relearn.specs.Plain.{AreWritableCopies, HasPlainTexts, IsPlainProcess}
 use Rattle.st_relearn.specs.Writable.{IsWritableBinary}
 use Rattle.st_relearn.proofs.Names.{AreNames, ArePlainLooks, HasPlainLinks, IsPlainSeen, each_append, look_plain}
 use Rattle.st_relearn.proofs.Outcomes.{ArePlainChanges, IsPlainChange, plain_effect}

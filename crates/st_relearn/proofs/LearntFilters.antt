@@ -1,11 +1,8 @@
 -- A filter that was learnt can be written.
-use Rattle.std.proofs.Common.{◌≡◌, ◌==◌, ℕ, zero, suc, ◌+◌, ◌*◌, ◌^◌, ◌<◌, ◌≤◌, Bool, true, false, cond, ◌||◌, ◌&&◌, nat_eq, nat_le, List, [], ◌∷◌, ◌++◌, length, codes, decimal, sum_by, refl, ap, sym, subst, ◌∙◌, append_assoc, leb-true, arith}
-use Rattle.std.proofs.lemmas.Bool.{and_parts}
+use Rattle.std.proofs.Common.{◌≡◌, ℕ, suc, ◌+◌, ◌*◌, ◌<◌, ◌≤◌, Bool, true, false, cond, nat_eq, nat_le, List, [], ◌∷◌, length, codes, decimal, sum_by, refl, ap, ◌∙◌, leb-true, arith}
 use Rattle.std.proofs.lemmas.List.{length-append}
 use Rattle.std.proofs.lemmas.List.Sums.{sum_by-append}
-use Rattle.std.proofs.lemmas.Slice.Eq.{bytes_eq-Decides}
-use Rattle.std.specs.List.{fold, list_any}
-use Rattle.std.specs.Str.{bytes_eq}
+use Rattle.std.specs.List.{fold}
 use Rattle.st_calls.specs.Argument.{args_of, has_argument, name_of_label}
 use Rattle.st_calls.specs.declared.argument.ArgSpec.{ArgSpec}
 use Rattle.st_calls.specs.declared.argument.ArgText.{ArgText}
@@ -18,20 +15,18 @@ use Rattle.st_calls.specs.declared.rule.Rule.{Rule}
 use Rattle.st_calls.specs.declared.rule.Rule.TheVariants.{Call, FsRead, FsWrite}
 use Rattle.st_lex.specs.Pieces.{Piece, PlainWord, QuotedText, Sign, Space, is_word_text, sign_bytes}
 use Rattle.st_lex.specs.Quote.{AreBytes}
-use Rattle.st_lex.specs.declared.token.TokenKind.{TokenKind}
 use Rattle.st_lex.specs.declared.token.TokenKind.TheVariants as kind
-use Rattle.st_filter.specs.Formula.{Formula, True, Test, And, FilterValue}
+use Rattle.st_filter.specs.Formula.{Formula, And}
 use Rattle.st_filter.specs.declared.filter.FilterName.TheVariants as name
-use Rattle.st_filter.specs.declared.filter.Op.TheVariants.{Eq}
 use Rattle.st_law.specs.Sessions.{learnt_filter, learnt_formula, test_of}
-use Rattle.st_policy.specs.Canon.{expression_pieces, in_parens, index_pieces, needs_no_parens, test_pieces}
-use Rattle.st_policy.specs.Grammar.{Conjunction, Operand, is_join, most_joins}
+use Rattle.st_policy.specs.Canon.{expression_pieces, in_parens, index_pieces, needs_no_parens}
+use Rattle.st_policy.specs.Grammar.{Conjunction, is_join}
 use Rattle.st_policy.specs.Symbol.{Symbol, Word, symbol_by}
 use Rattle.st_policy.specs.Symbol as symbol
 use Rattle.st_policy.specs.Words.{is_label}
 use Rattle.st_policy.specs.declared.env.Env.{Env}
 use Rattle.st_relearn.specs.Plain.{AreArguments}
-use Rattle.st_relearn.specs.Writable.{HasWritableTests, IsWritableExpression, IsWritableFilter, IsWritableTest, joins_of, written_joins}
+use Rattle.st_relearn.specs.Writable.{HasWritableTests, IsWritableFilter, IsWritableTest, joins_of}
 
 -- ---- the arguments of a rule
 
@@ -44,10 +39,7 @@ label_free : (l : Label) → is_label (name_of_label l) ≡ true
 label_free Filename = refl
 label_free _ = refl
 
--- a specified argument has one of these, and an index that is small
-abbrev is_arg : List ℕ → ℕ → ArgSpec → Bool
-is_arg word index spec = bytes_eq (name_of_label spec.label) word && spec.index == index
-
+-- a rule has each of these arguments, and their indices are small
 abbrev AreKnown : Rule → List ArgSpec → Type 0
 AreKnown rule [] = Unit {0}
 AreKnown rule (spec ∷ specs) = (has_argument rule (name_of_label spec.label) spec.index ≡ true) × (spec.index < 2) × AreKnown rule specs

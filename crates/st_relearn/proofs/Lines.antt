@@ -1,5 +1,5 @@
 -- What the lines of a script say can stand in quotes, and its ids have 32 bits.
-use Rattle.std.proofs.Common.{◌≡◌, ◌<◌, ◌-◌, ◌^◌, ◌&&◌, ◌||◌, ℕ, zero, suc, Bool, true, false, cond, if◌then◌else◌, nat_eq, nat_le, nat_lt, List, [], ◌∷◌, codes, filter, length, take, drop, Option, Some, None, refl, ltb-true}
+use Rattle.std.proofs.Common.{◌≡◌, ◌-◌, ◌^◌, ◌||◌, ℕ, zero, suc, Bool, true, false, cond, if◌then◌else◌, nat_eq, nat_le, nat_lt, List, [], ◌∷◌, codes, filter, length, take, drop, Option, Some, None, refl, ltb-true}
 use Rattle.std.proofs.lemmas.Bool.{and_parts}
 use Rattle.std.specs.List.{AllByRecursion, list_all, list_any, onto_first, slice_split, starts_with}
 use Rattle.std.specs.Prelude.{IfSome, option_and_then, option_map}
@@ -14,12 +14,11 @@ use Rattle.st_model.specs.declared.object.NewKind.{NewKind}
 use Rattle.st_model.specs.declared.object.NewKind.TheVariants as made
 use Rattle.st_model.specs.declared.object.NewNode.{NewNode}
 use Rattle.st_names.specs.Name.{split_at_slashes}
-use Rattle.st_policy.specs.Grammar.{if_absolute}
 use Rattle.st_statements.specs.Accounts.{group_row, user_row}
 use Rattle.st_statements.specs.Instructions.{call_at, call_row, end_row, fork_row, put_row, registers, store_row}
 use Rattle.st_statements.specs.Lines.{looked_at, up_to_last_line, whole_lines}
 use Rattle.st_statements.specs.Objects.{dir_row, file_at, file_node, file_row, link_at, link_row, link_to, node_of, object_of}
-use Rattle.st_statements.specs.Parts.{between, end_of, if_normal, is_normal, is_plain_part, path_at, place_at, quoted_at, text_of_tokens, word_at}
+use Rattle.st_statements.specs.Parts.{end_of, if_normal, is_normal, is_plain_part, path_at, place_at, quoted_at, text_of_tokens, word_at}
 use Rattle.st_statements.specs.Statements.{inner_row, is_inside_behind, lines_from, lines_in, outer_row, statement_of}
 use Rattle.st_statements.specs.Tasks.{process_row, reply_row, thread_row, traced_at}
 use Rattle.st_statements.specs.Values.{id_at, mode_at, number_at, number_below}
@@ -30,10 +29,8 @@ use Rattle.st_statements.specs.declared.statement.Statement.TheVariants as says
 use Rattle.st_relearn.specs.Plain.{HasPlainTarget}
 use Rattle.st_relearn.specs.Writable.{IsId, IsWritableBinary}
 use Rattle.st_relearn.proofs.Names.{each_filter}
+use Rattle.st_relearn.proofs.Texts.{AreSmall, small_drop}
 use Rattle.st_relearn.proofs.Quoting.{IsGood, quoted_plain, word_plain}
-
-abbrev AreSmall : List ℕ → Type 0
-AreSmall bytes = AllByRecursion (λ b. b < 256) bytes
 
 -- the texts of a statement can stand in quotes, its binary can be written, and its ids have 32 bits
 abbrev pub IsPlainStatement : Statement → Type 0
@@ -147,11 +144,6 @@ small_take zero bs small = tt
 small_take (suc n) [] small = tt
 small_take (suc n) (b ∷ bs) small = (small.0, small_take n bs small.1)
 
-small_drop : (n : ℕ) (bs : List ℕ) → AreSmall bs → AreSmall (drop n bs)
-small_drop zero bs small = small
-small_drop (suc n) [] small = tt
-small_drop (suc n) (b ∷ bs) small = small_drop n bs small.1
-
 tokens_small : (text : List ℕ) (tokens : List Token) → AreSmall text → AreSmall (text_of_tokens text tokens)
 tokens_small text [] small = tt
 tokens_small text (token ∷ tokens) small = small_take (end_of token tokens - token.at) (drop token.at text) (small_drop token.at text small)
@@ -243,7 +235,7 @@ both_each P Q [] x y = tt
 both_each P Q (token ∷ tokens) x y = ((x.0, y.0), both_each P Q tokens x.1 y.1)
 
 -- the lines of a text of bytes
-pub script_lines : (text : List ℕ) → AllByRecursion (λ b. b < 256) text → ArePlainLines (lines_in text)
+pub script_lines : (text : List ℕ) → AreSmall text → ArePlainLines (lines_in text)
 script_lines text small =
     let good : AllByRecursion (IsGood text) (lexed_text text).tokens = both_each (IsWholeToken text) (HasInside text) (lexed_text text).tokens (words_whole text) (quotes_inside text small) in
     lines_plain text false (rows (looked_at (lexed_text text))) small (rows_each (IsGood text) (looked_at (lexed_text text)) (whole_each (IsGood text) (lexed_text text).tokens (lexed_text text).fault good))

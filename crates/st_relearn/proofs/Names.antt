@@ -1,10 +1,10 @@
 -- Names of which each component can stand in quotes: what walks come to.
-use Rattle.std.proofs.Common.{◌≡◌, ◌==◌, ◌<◌, ◌+◌, ◌-◌, ◌&&◌, ◌++◌, ℕ, zero, suc, Bool, true, false, cond, not, nat_eq, nat_lt, List, [], ◌∷◌, length, take, filter, flat_map, codes, slice_get, Option, Some, None, refl, arith}
+use Rattle.std.proofs.Common.{◌==◌, ◌<◌, ◌+◌, ◌-◌, ◌&&◌, ◌++◌, ℕ, zero, suc, Bool, true, false, cond, not, nat_eq, nat_lt, List, [], ◌∷◌, length, take, filter, flat_map, codes, slice_get, Option, Some, None, arith}
 use Rattle.std.specs.List.{AllByRecursion, onto_first, slice_split, starts_with}
 use Rattle.st_base.specs.declared.errno.Errno.TheVariants.{ENOENT, ENOTDIR, ELOOP, ENAMETOOLONG}
 use Rattle.st_lex.specs.Quote.{AreBytes}
 use Rattle.st_model.specs.Tree.{Node, Tree, is_directory, look, look_along, node_at, node_of, object_of, seen_of, seen_of_kind, seen_through}
-use Rattle.st_model.specs.Walk.{Fault, Name, Next, WalkState, is_last, is_up, name_after_ups, needs_lookup, resolve_within, rest_after_ups, start_of_name, start_walk, walk_end, walk_on, walk_through}
+use Rattle.st_model.specs.Walk.{Fault, Name, Next, WalkState, is_last, is_up, name_after_ups, resolve_within, rest_after_ups, start_of_name, start_walk, walk_end, walk_on, walk_through}
 use Rattle.st_model.specs.declared.limits.TheConstants.{MOST_LINKS}
 use Rattle.st_model.specs.declared.object.Kind.{Kind}
 use Rattle.st_model.specs.declared.object.Kind.TheVariants as object_kind

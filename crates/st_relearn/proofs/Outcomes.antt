@@ -1,9 +1,8 @@
 -- What calls change, where the texts of their arguments can stand in quotes: the targets, directories and policies that they leave can too.
-use Rattle.std.proofs.Common.{◌≡◌, ◌+◌, ◌==◌, ℕ, zero, suc, Bool, true, false, cond, not, List, [], ◌∷◌, length, slice_get, unwrap_or, option_map, Option, Some, None, refl}
+use Rattle.std.proofs.Common.{◌≡◌, ◌+◌, ◌==◌, ℕ, zero, suc, Bool, true, false, cond, List, [], ◌∷◌, slice_get, unwrap_or, option_map, Option, Some, None, refl}
 use Rattle.std.specs.List.{AllByRecursion}
-use Rattle.st_base.specs.Errno.{error_if, first_error}
+use Rattle.st_base.specs.Errno.{first_error}
 use Rattle.st_base.specs.declared.errno.Errno.{Errno}
-use Rattle.st_base.specs.declared.errno.Errno.TheVariants.{EISDIR, EACCES}
 use Rattle.st_calls.specs.Call.{has_flag}
 use Rattle.st_calls.specs.declared.argument.ArgText.{ArgText}
 use Rattle.st_calls.specs.declared.call.SysCall.{SysCall}
@@ -12,13 +11,12 @@ use Rattle.st_calls.specs.declared.flags.TheConstants.{O_TRUNC}
 use Rattle.st_lex.specs.Quote.{AreBytes}
 use Rattle.st_model.specs.Descriptors.{Table, file_at}
 use Rattle.st_model.specs.Identity.{set_refused}
-use Rattle.st_model.specs.Tree.{is_directory}
 use Rattle.st_model.specs.declared.object.NewKind.{NewKind}
 use Rattle.st_model.specs.declared.object.NewKind.TheVariants as made
 use Rattle.st_model.specs.declared.open_file.FileKind.{FileKind}
 use Rattle.st_model.specs.declared.open_file.FileKind.TheVariants as kind
 use Rattle.st_model.specs.declared.open_file.OpenFile.{OpenFile}
-use Rattle.st_names.specs.Name.{Components, components_of, printed_name}
+use Rattle.st_names.specs.Name.{Components, printed_name}
 use Rattle.st_policy.specs.Grammar.{if_absolute}
 use Rattle.st_effects.specs.Descriptors.{low_mode, open_node_outcome, put_changes, read_file_outcome, seek_file_outcome, seek_offset, seek_outcome, truncation, write_bytes_outcome, write_file_outcome, write_kind_outcome, write_offset}
 use Rattle.st_effects.specs.Effect.{effect}
@@ -28,7 +26,7 @@ use Rattle.st_effects.specs.Processes.{policy_changes, renewals, set_ids_outcome
 use Rattle.st_effects.specs.System.{HeldCall, Outcome, Request, System, arg_name_at, arg_text_at, register, success, unless_error, unless_refused}
 use Rattle.st_trace.specs.declared.entry.CallResult.{CallResult}
 use Rattle.st_trace.specs.declared.entry.Change.{Change}
-use Rattle.st_trace.specs.declared.entry.Change.TheVariants.{Made, Cut, Cwd, Dying, Execed, Policy, Renewed, SetIds}
+use Rattle.st_trace.specs.declared.entry.Change.TheVariants.{Made, Cut, Cwd, Dying, Execed, Policy, Renewed}
 use Rattle.st_relearn.specs.Plain.{HasPlainTarget}
 use Rattle.st_relearn.specs.Writable.{IsWritableBinary}
 use Rattle.st_relearn.proofs.Names.{AreNames, components_plain, printed_plain}

@@ -1,5 +1,5 @@
 -- Arguments that are all there can stand in quotes, and are those of their rule.
-use Rattle.std.proofs.Common.{◌≡◌, ◌+◌, ◌++◌, ℕ, zero, suc, Bool, List, [], ◌∷◌, slice_index_or, Option, Some, None, refl, subst}
+use Rattle.std.proofs.Common.{◌+◌, ◌++◌, ℕ, zero, suc, Bool, List, [], ◌∷◌, slice_index_or, refl}
 use Rattle.std.specs.List.{AllByRecursion}
 use Rattle.st_calls.specs.Argument.{args_of}
 use Rattle.st_calls.specs.Call.{follows}

@@ -11,7 +11,7 @@ use Rattle.st_lex.specs.declared.token.Token.{Token}
 use Rattle.st_lex.specs.declared.token.TokenKind.{TokenKind}
 use Rattle.st_lex.specs.declared.token.TokenKind.TheVariants as kind
 use Rattle.st_lex.proofs.Holdings.{NoMarks}
-use Rattle.st_lex.proofs.Insides.{Escaped, IsHexByte, IsInside, IsPlainByte, Lone, Marked, Nothing, Plain}
+use Rattle.st_lex.proofs.Insides.{Escaped, IsInside, IsPlainByte, Lone, Marked, Nothing, Plain}
 use Rattle.st_lex.proofs.Unquotes.{hex_byte-some}
 use Rattle.st_lex.proofs.Wholes.{HasInside, IsWholeToken}
 use Rattle.st_statements.specs.Parts.{quoted_at, word_at}

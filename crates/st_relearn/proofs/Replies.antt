@@ -1,7 +1,6 @@
 -- A filter that was read alone can be written.
-use Rattle.std.proofs.Common.{List, [], ◌∷◌, ◌++◌, ℕ, subst, sym}
+use Rattle.std.proofs.Common.{List, [], ◌∷◌, ℕ}
 use Rattle.st_filter.specs.Formula.{FilterValue}
-use Rattle.st_policy.specs.Grammar.{symbols_in}
 use Rattle.st_policy.specs.OneFilter.{IsOneRow, ReadsFilter, ToALine, ToTheEnd}
 use Rattle.st_policy.specs.Readable.{AreTextBytes, HasPlainDollars, HasSmallIds}
 use Rattle.st_policy.specs.Symbol.{Symbol, Line}

@@ -7,7 +7,6 @@ use Rattle.st_base.specs.declared.ids.Ids.{Ids}
 use Rattle.st_calls.specs.declared.argument.ArgText.{ArgText}
 use Rattle.st_calls.specs.declared.call.SysCall.{SysCall}
 use Rattle.st_calls.specs.declared.judged.Snapshot.{Snapshot}
-use Rattle.st_filter.specs.Formula.{FilterValue}
 use Rattle.st_filter.specs.Policies.{filters_in}
 use Rattle.st_filter.specs.declared.filter.Action.{Action}
 use Rattle.st_filter.specs.declared.filter.Action.TheVariants.{Permit, Deny, Ask}
@@ -20,12 +19,11 @@ use Rattle.st_trace.specs.declared.entry.Entry.TheVariants.{Stored, Entered, Cla
 use Rattle.st_law.specs.History.{looking_back, message_at, session_at}
 use Rattle.st_law.specs.Inputs.{IsStartable}
 use Rattle.st_law.specs.Lawful.{IsLawfulBack, IsReplied}
-use Rattle.st_law.specs.Sessions.{SessionFilter, learnt_by, replied_by}
+use Rattle.st_law.specs.Sessions.{learnt_by, replied_by}
 use Rattle.st_law.specs.State.{snapshot_of_message}
 use Rattle.st_law.specs.Threads.{History}
 use Rattle.st_law.specs.declared.input.Input.{Input}
-use Rattle.st_law.specs.declared.input.Mode.{Mode}
-use Rattle.st_law.specs.declared.input.Mode.TheVariants.{Enforce, Learn, AskText}
+use Rattle.st_law.specs.declared.input.Mode.TheVariants.{Learn, AskText}
 use Rattle.st_learn.specs.Learnt.{NoneAsks, learnt_policies}
 use Rattle.st_learn.specs.Permitted.{IsPermittedBy}
 use Rattle.st_policy.specs.Grammar.{Reads}

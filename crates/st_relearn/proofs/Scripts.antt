@@ -1,8 +1,8 @@
 -- What a script that is read gives can be written.
-use Rattle.std.proofs.Common.{◌≡◌, ◌≤◌, ◌<◌, ◌==◌, ◌∙◌, ◌++◌, ℕ, Bool, true, false, cond, if◌then◌else◌, List, [], ◌∷◌, codes, decimal, map, Option, Some, None, Result, Ok, Err, refl, sym, subst, ap}
+use Rattle.std.proofs.Common.{◌≡◌, ◌≤◌, ◌<◌, ◌==◌, ◌∙◌, ◌++◌, ℕ, Bool, true, false, cond, if◌then◌else◌, List, [], ◌∷◌, codes, map, Option, Some, None, Ok, Err, refl, sym, subst, ap}
 use Rattle.std.proofs.lemmas.List.Elements.{All-from_recursion, recursion_from_All}
-use Rattle.std.specs.List.{All, AllByRecursion, cons_option, filter_map}
-use Rattle.std.specs.Prelude.{IfSome, find, option_map}
+use Rattle.std.specs.List.{AllByRecursion, cons_option, filter_map}
+use Rattle.std.specs.Prelude.{IfSome, find}
 use Rattle.st_base.specs.declared.ids.Ids.{Ids}
 use Rattle.st_calls.specs.declared.argument.ArgText.{ArgText}
 use Rattle.st_calls.specs.declared.call.SysCall.{SysCall}
@@ -26,12 +26,11 @@ use Rattle.st_names.specs.Name.{components_of}
 use Rattle.st_policy.specs.OneFilter.{FilterResult, ReadsFilter, filter_in}
 use Rattle.st_policy.specs.Readable.{AreTextBytes, HasPlainDollars, HasSmallIds, WasRead}
 use Rattle.st_policy.specs.declared.env.Env.{Env}
-use Rattle.st_policy.specs.declared.env.NamedId.{NamedId}
 use Rattle.st_script_faults.specs.Environment.{dollars_by, dollars_of, environment_of, first_traced, group_id, groups_below, is_given, learns, new_group, new_user, process_of, user_id, user_of, users_below}
-use Rattle.st_script_faults.specs.Faults.{answer_of, reply_for, reply_in, script_fault, unless_ask}
+use Rattle.st_script_faults.specs.Faults.{answer_of, script_fault, unless_ask}
 use Rattle.st_script_faults.specs.Names.{Name, has_name, with_name}
 use Rattle.st_script_faults.specs.declared.fault.ScriptFault.{ScriptFault}
-use Rattle.st_script.specs.Reading.{object_said, process_said, reply_said, script_in, script_with, start_of, started_process, unless_faulty}
+use Rattle.st_script.specs.Reading.{object_said, process_said, reply_said, script_in, script_with, start_of, unless_faulty}
 use Rattle.st_script.specs.Startable.{CanStart, input_with}
 use Rattle.st_script.specs.declared.reading.ReadScript.{ReadScript}
 use Rattle.st_statements.specs.Parts.{is_normal}
@@ -44,14 +43,12 @@ use Rattle.st_trace.specs.declared.entry.CallResult.{CallResult}
 use Rattle.st_trace.specs.declared.entry.Change.{Change}
 use Rattle.st_trace.specs.declared.entry.Entry.TheVariants.{Used}
 use Rattle.st_trace.specs.declared.start.GroupRow.{GroupRow}
-use Rattle.st_trace.specs.declared.start.ProcessRow.{ProcessRow}
-use Rattle.st_trace.specs.declared.start.Start.{Start}
 use Rattle.st_trace.specs.declared.start.TreeRow.{TreeRow}
 use Rattle.st_trace.specs.declared.start.UserRow.{UserRow}
 use Rattle.st_relearn.specs.Plain.{HasPlainTarget, HasPlainTexts, IsPlainProcess}
 use Rattle.st_relearn.specs.Relearnt.{ReadsAndPermits, policy_text}
 use Rattle.st_relearn.specs.Scripts.{HasPlainScript}
-use Rattle.st_relearn.specs.Writable.{IsId, IsWritableBinary, IsWritableFilter}
+use Rattle.st_relearn.specs.Writable.{IsId, IsWritableFilter}
 use Rattle.st_relearn.proofs.Lines.{ArePlainLines, IsPlainStatement, if_either, if_map, script_lines}
 use Rattle.st_relearn.proofs.Names.{components_plain}
 use Rattle.st_relearn.proofs.Replies.{reply_is_writable}
@@ -101,7 +98,7 @@ users_plain : (known : List Name) (lines : List ScriptLine) → ArePlainLines li
 users_plain known [] plain = tt
 users_plain known (line ∷ lines) plain = by (new_user known line.says) (new_user_plain known line.says plain.0) (λ names. users_plain names lines plain.1) where
   by : (o : Option UserRow) → IfSome o IsPlainUser → ((names : List Name) → AllByRecursion IsPlainUser (users_below names lines))
-      → AllByRecursion IsPlainUser (elim o [ | Some user ↦ user ∷ users_below (with_name known user.name) lines | None ↦ users_below known lines ])
+      → AllByRecursion IsPlainUser (elim o [ Some user ↦ user ∷ users_below (with_name known user.name) lines | None ↦ users_below known lines ])
   by None here rest = rest known
   by (Some user) here rest = (here, rest (with_name known user.name))
 
@@ -116,7 +113,7 @@ groups_plain : (known : List Name) (lines : List ScriptLine) → ArePlainLines l
 groups_plain known [] plain = tt
 groups_plain known (line ∷ lines) plain = by (new_group known line.says) (new_group_plain known line.says plain.0) (λ names. groups_plain names lines plain.1) where
   by : (o : Option GroupRow) → IfSome o IsPlainGroup → ((names : List Name) → AllByRecursion IsPlainGroup (groups_below names lines))
-      → AllByRecursion IsPlainGroup (elim o [ | Some group ↦ group ∷ groups_below (with_name known group.name) lines | None ↦ groups_below known lines ])
+      → AllByRecursion IsPlainGroup (elim o [ Some group ↦ group ∷ groups_below (with_name known group.name) lines | None ↦ groups_below known lines ])
   by None here rest = rest known
   by (Some group) here rest = (here, rest (with_name known group.name))
 
@@ -131,7 +128,7 @@ traced_plain : (known : List Name) (lines : List ScriptLine) → ArePlainLines l
 traced_plain known [] plain = tt
 traced_plain known (line ∷ lines) plain = by (process_of line.says) (process_given line.says plain.0) (λ names. traced_plain names lines plain.1) where
   by : (o : Option ScriptProcess) → IfSome o IsPlainTraced → ((names : List Name) → IfSome (first_traced names lines) IsPlainTraced)
-      → IfSome (elim o [ | Some process ↦ if is_given known process then Some process else first_traced (with_name known process.name) lines | None ↦ first_traced known lines ]) IsPlainTraced
+      → IfSome (elim o [ Some process ↦ if is_given known process then Some process else first_traced (with_name known process.name) lines | None ↦ first_traced known lines ]) IsPlainTraced
   by None here rest = rest known
   by (Some process) here rest = if_either IsPlainTraced (is_given known process) (Some process) (first_traced (with_name known process.name) lines) here (rest (with_name known process.name))
 
@@ -210,7 +207,7 @@ module _ (options : Options) (lines : List ScriptLine) (plain : ArePlainLines li
 -- ---- scripts
 
 -- the law that what is read as a filter is one
-abbrev pub ReadsFilters : Type 0
+abbrev ReadsFilters : Type 0
 ReadsFilters = (text : List ℕ) (env : Env) (f : FilterValue) → filter_in text env ≡ Ok f → ReadsFilter text env f
 
 read_by : (o : Option ScriptFault) (read script : ReadScript) → unless_faulty o read ≡ Ok script → read ≡ script
@@ -228,7 +225,7 @@ script_is_plain sound text options script bytes e =
 -- ---- where a script's run learns
 
 -- the law that a run can start with what is read
-abbrev pub ScriptsStart : Type 0
+abbrev ScriptsStart : Type 0
 ScriptsStart = (text : List ℕ) (options : Options) (script : ReadScript) → script_in text options ≡ Ok script → CanStart script
 
 pub script_permits_made : PermitsMade → ReadsOnce → ReadsFilters → ScriptsStart → (text : List ℕ) (options : Options) (script : ReadScript) (policies : List BinaryPolicy) →

@@ -1,14 +1,14 @@
 -- Texts that can stand in quotes: what words spell.
-use Rattle.std.proofs.Common.{◌≡◌, ◌==◌, ◌<◌, ◌≤◌, ◌+◌, ◌*◌, ◌/◌, ◌%◌, ◌||◌, ◌&&◌, ◌++◌, ℕ, zero, suc, Bool, true, false, cond, not, nat_lt, nat_le, List, [], ◌∷◌, length, take, drop, flat_map, codes, decimal, position, slice_index, Some, None, refl, subst, ltb-true, arith}
+use Rattle.std.proofs.Common.{◌≡◌, ◌==◌, ◌<◌, ◌+◌, ◌*◌, ◌/◌, ◌%◌, ◌||◌, ◌&&◌, ◌++◌, ℕ, zero, suc, Bool, true, false, cond, not, nat_lt, nat_le, List, [], ◌∷◌, length, take, drop, flat_map, codes, decimal, slice_index, Some, None, refl, subst, ltb-true, arith}
 use Rattle.std.proofs.lemmas.Bool.{and_parts}
-use Rattle.std.specs.Fmt.{digit_glyph, digits, digits_onto, radix_digits}
+use Rattle.std.specs.Fmt.{digit_glyph, digits, digits_onto}
 use Rattle.std.specs.Int.{w64, to_le_bytes}
 use Rattle.std.specs.List.{AllByRecursion, concat, join_with_byte, list_all, list_any, position_or_len, prefix_len, take_while}
 use Rattle.st_calls.specs.declared.argument.PartKind.{PartKind}
 use Rattle.st_calls.specs.declared.argument.PartKind.TheVariants as kind
 use Rattle.st_base.specs.declared.errno.Errno.TheVariants.{E2BIG, EFAULT, EINVAL, ENAMETOOLONG}
 use Rattle.st_lex.specs.Quote.{AreBytes}
-use Rattle.st_model.specs.Spelling.{ArgvPart, Fault, More, Part, Pointer, Spelled, Text, address_text, blank, bytes_before_part, bytes_of_words, domain_text, internet, is_zero, mode_text, next_word, next_word_of_text, spell, spell_address, spell_argv, spell_parts, spell_text, text_before_zero, type_text}
+use Rattle.st_model.specs.Spelling.{ArgvPart, Fault, More, Part, Pointer, Spelled, Text, address_text, blank, bytes_before_part, bytes_of_words, domain_text, internet, is_zero, next_word, spell, spell_address, spell_argv, spell_parts, spell_text, text_before_zero, type_text}
 use Rattle.st_model.specs.declared.limits.TheConstants.{ARGV_BYTES, ARGV_PARTS, LONGEST_TEXT, SPACE_WORDS}
 use Rattle.st_names.specs.declared.limits.TheConstants.{LONGEST_NAME}
 
@@ -27,14 +27,14 @@ plain_test (b ∷ bs) e =
     (ltb-true 0 b here.0, ltb-true b 256 here.1, plain_test bs both.1)
 
 -- numbers that are bytes, zero too
-abbrev AreSmall : List ℕ → Type 0
+abbrev pub AreSmall : List ℕ → Type 0
 AreSmall bytes = AllByRecursion (λ b. b < 256) bytes
 
 small_append : (xs ys : List ℕ) → AreSmall xs → AreSmall ys → AreSmall (xs ++ ys)
 small_append [] ys x y = y
 small_append (b ∷ xs) ys x y = (x.0, small_append xs ys x.1 y)
 
-small_drop : (n : ℕ) (xs : List ℕ) → AreSmall xs → AreSmall (drop n xs)
+pub small_drop : (n : ℕ) (xs : List ℕ) → AreSmall xs → AreSmall (drop n xs)
 small_drop zero xs x = x
 small_drop (suc n) [] x = tt
 small_drop (suc n) (b ∷ xs) x = small_drop n xs x.1

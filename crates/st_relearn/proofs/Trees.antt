@@ -1,5 +1,4 @@
 -- Trees whose links have targets that can stand in quotes, and what changes leave of that.
-use native.Mathlib.Omega.{arith}
 use Rattle.std.proofs.Common.{◌≡◌, ◌-◌, ◌++◌, ℕ, zero, suc, false, List, [], ◌∷◌, slice_index_or, slice_set}
 use Rattle.std.specs.List.{All, fold}
 use Rattle.std.proofs.lemmas.List.Elements.{All-head, All-tail}

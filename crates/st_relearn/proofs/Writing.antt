@@ -1,12 +1,12 @@
 -- What can be written is read again, and what was read can be written.
-use Rattle.std.proofs.Common.{◌≡◌, ◌==◌, ℕ, ◌+◌, ◌^◌, ◌<◌, ◌≤◌, Bool, true, false, cond, ◌||◌, ◌&&◌, nat_lt, List, [], ◌∷◌, ◌++◌, length, codes, sum_by, Option, Some, None, option_map, refl, ap, sym, subst, ◌∙◌, append_assoc, append-nil, arith}
+use Rattle.std.proofs.Common.{◌≡◌, ◌==◌, ℕ, ◌+◌, ◌<◌, ◌≤◌, Bool, true, false, cond, ◌||◌, ◌&&◌, nat_lt, List, [], ◌∷◌, ◌++◌, length, codes, sum_by, Option, Some, None, option_map, refl, ap, sym, subst, ◌∙◌, append_assoc, append-nil, arith}
 use Rattle.std.proofs.lemmas.Bool.{and_parts}
 use Rattle.std.proofs.lemmas.Bool.Decides.{nat_tests}
 use Rattle.std.proofs.lemmas.List.Elements.{All-from_recursion, recursion_from_All}
 use Rattle.std.proofs.lemmas.List.Sums.{sum_by-append}
 use Rattle.std.proofs.lemmas.Option.{same_Some}
 use Rattle.std.specs.Char.{is_ascii_alphanumeric}
-use Rattle.std.specs.List.{All, AllByRecursion, list_all, list_any}
+use Rattle.std.specs.List.{AllByRecursion, list_all, list_any}
 use Rattle.st_calls.specs.declared.call.SysCall.{SysCall}
 use Rattle.st_calls.specs.declared.call.SysCall.TheVariants.{Open}
 use Rattle.st_calls.specs.declared.rule.Rule.{Rule}
@@ -15,7 +15,6 @@ use Rattle.st_calls.specs.Call.{rule_named}
 use Rattle.st_lex.specs.Pieces.{Piece, PlainWord, QuotedText, Sign, Space, StandWell, is_word_text, sign_bytes}
 use Rattle.st_lex.specs.Quote.{AreBytes, quoted}
 use Rattle.st_lex.specs.Tokens.{is_word_byte}
-use Rattle.st_lex.specs.declared.token.TokenKind.{TokenKind}
 use Rattle.st_lex.proofs.Pieces.{print_is_read}
 use Rattle.st_filter.specs.Formula.{Formula, True, Test, Not, And, Or, FilterValue}
 use Rattle.st_filter.specs.Policies.{filters_in}
@@ -28,10 +27,10 @@ use Rattle.st_filter.specs.declared.filter.Predicate.{Predicate}
 use Rattle.st_filter.specs.declared.set.BinaryPolicy.{BinaryPolicy}
 use Rattle.st_filter.specs.declared.set.TheConstants.{MOST_FILTERS}
 use Rattle.st_policy.specs.Canon.{canon, expression_pieces, set_pieces}
-use Rattle.st_policy.specs.Grammar.{AreRows, AreNew, Reads, MayGrant, is_join, most_joins, symbols_in}
+use Rattle.st_policy.specs.Grammar.{AreRows, AreNew, Reads, is_join, symbols_in}
 use Rattle.st_policy.specs.Readable.{WasRead, Nothing, Behind, HasPlainDollars, HasSmallIds}
 use Rattle.st_policy.specs.Symbol.{Symbol, Word, Quoted, Line, symbol_by}
-use Rattle.st_policy.specs.Words.{filter_name, if_name, is_name_byte, name_by}
+use Rattle.st_policy.specs.Words.{if_name, is_name_byte, name_by}
 use Rattle.st_policy.specs.declared.env.Env.{Env}
 use Rattle.st_policy.proofs.Headers.{IsReadableBinary}
 use Rattle.st_policy.proofs.Names.{IsReadableName}
@@ -41,7 +40,7 @@ use Rattle.st_policy.proofs.PrintedFilters.{IsReadableFilter}
 use Rattle.st_policy.proofs.PrintedTexts.{symbols_in-print, printable_symbols}
 use Rattle.st_policy.proofs.Rows.{AreReadable, IsReadablePolicy, each-append, readable_rows, are_rows, well_set}
 use Rattle.st_policy.proofs.Symbols.{piece_symbols, ArePrintable, ArePrintable-append}
-use Rattle.st_relearn.specs.Writable.{AreGranted, AreWritable, HasWritableTests, IsWritableAction, IsWritableBinary, IsWritableExpression, IsWritableFilter, IsWritableGrant, IsWritableName, IsWritablePolicy, IsWritablePredicate, IsWritableTest, joins_of, written_joins}
+use Rattle.st_relearn.specs.Writable.{AreGranted, AreWritable, HasWritableTests, IsWritableAction, IsWritableBinary, IsWritableExpression, IsWritableFilter, IsWritableGrant, IsWritableName, IsWritablePolicy, IsWritablePredicate, joins_of}
 
 -- ---- names
 
@@ -66,7 +65,6 @@ named_bytes : (some all : Bool) (word : List ℕ) → cond (some && all) (Some w
 named_bytes true true word e = refl
 named_bytes true false word e = absurd (cc)
 named_bytes false all word e = absurd (cc)
-
 
 -- a name outside the rules
 readable_other : (word : List ℕ) → if_name word ≡ Some word → rule_named word ≡ None → IsReadableName (name.Other word)

@@ -1,5 +1,5 @@
 -- Texts that can stand in quotes: those of a script, and then those of every copy that a run makes.
-use Rattle.std.specs.Prelude.{◌≡◌, ℕ, List, [], ◌∷◌}
+use Rattle.std.specs.Prelude.{◌≡◌, List, [], ◌∷◌}
 use Rattle.std.specs.List.{All}
 use Rattle.st_calls.specs.Argument.{args_of}
 use Rattle.st_calls.specs.declared.argument.ArgSpec.{ArgSpec}
