@@ -1,4 +1,5 @@
 mod Bytes
+mod Examples
 mod Keeping
 mod LearntFilters
 mod Lines
