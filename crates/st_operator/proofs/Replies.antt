@@ -125,7 +125,7 @@ module _ (i : Input) (st : State) (added : Added) (is : IsAdded i st added) wher
             session = (λ k. is.session k ++ replied_by (is_reply k) (there k)) ∙ sym filters;
             count = ap length given ∙ length-set added.given (n - 1) true ∙ count;
             given = λ m. ap (λ b. n == m || b) (is.given m) ∙ sym (ap (λ g. is_given g m) given ∙ given_more added.given (n - 1) inside m ∙ ap (λ k. k == m || is_given added.given m) one);
-          }
+          },
         )
 
 -- what was added is the machine's in each state that has the same session and the same replies given

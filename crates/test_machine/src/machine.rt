@@ -1,7 +1,6 @@
-ghost use Rattle.std.specs.Prelude.{◌≡◌, IfOk};
+ghost use Rattle.std.specs.Prelude.{IfOk};
 ghost use Rattle.st_law.specs.Inputs.{IsStartable};
-ghost use Rattle.st_law.specs.declared.input.Mode.TheVariants.{Enforce};
-ghost use Rattle.st_reached.specs.Grants.{SetIdsUngranted};
+ghost use Rattle.st_reached.specs.Grants.{RepliesUngranted, SetIdsUngranted};
 ghost use Rattle.st_reached.specs.Scripts.{IsBounded};
 ghost use Rattle.st_system.specs.Start.{CanStart};
 
@@ -28,7 +27,7 @@ fn one_store(alloc: Global) -> Result<Input, AllocError>
     ensures can { IfOk result CanStart }
     ensures bounded { IfOk result (λ input. IsBounded input.start) }
     ensures ungranted { IfOk result (λ input. SetIdsUngranted input.policies) }
-    ensures enforces { IfOk result (λ input. input.options.mode ≡ Enforce) }
+    ensures replies { IfOk result (λ input. RepliesUngranted input.replies) }
 {
     let mut processes = Sequence::new(alloc);
     processes.push(ProcessRow {
