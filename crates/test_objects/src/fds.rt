@@ -52,27 +52,6 @@ fn a_process_begins_with_the_console(rt: HostRuntime) -> Result<(), Fail> {
 }
 
 #[test]
-fn a_process_has_64_descriptors(rt: HostRuntime) -> Result<(), Fail> {
-    let mut fds = Fds::new(rt.alloc());
-    fds.start(1)?;
-    for fd in 3..64 {
-        assert_eq!(rt; fds.open(1, file(fd)), Ok(fd));
-    }
-    assert!(rt; fds.is_full(1));
-    assert_eq!(rt; fds.open(1, file(64)), Err(FdFault::Os(Errno::EMFILE)));
-    assert_eq!(rt; fds.dup(1, 3), Err(FdFault::Os(Errno::EMFILE)));
-    assert_eq!(rt; fds.dup(1, 70), Err(FdFault::Os(Errno::EBADF)));
-    assert_eq!(rt; fds.get(1, 63), Some(file(63)));
-    assert_eq!(rt; fds.close(1, 64), Err(Errno::EBADF));
-    assert_eq!(rt; fds.close(1, 9), Ok(()));
-    assert_eq!(rt; fds.close(1, 5), Ok(()));
-    assert_eq!(rt; fds.close(1, 5), Err(Errno::EBADF));
-    assert_eq!(rt; fds.dup(1, 3), Ok(5));
-    assert_eq!(rt; fds.get(1, 5), Some(file(3)));
-    Ok(())
-}
-
-#[test]
 fn copies_share_their_offset(rt: HostRuntime) -> Result<(), Fail> {
     let mut fds = Fds::new(rt.alloc());
     fds.start(1)?;
@@ -102,21 +81,6 @@ fn an_open_socket_has_a_port(rt: HostRuntime) -> Result<(), Fail> {
     Ok(())
 }
 
-#[test]
-fn a_port_is_free_with_the_last_descriptor(rt: HostRuntime) -> Result<(), Fail> {
-    let mut fds = Fds::new(rt.alloc());
-    fds.start(1)?;
-    fds.open(1, socket())?;
-    fds.bind(1, 3, 80)?;
-    fds.copy(1, 2)?;
-    fds.close_all(1);
-    assert_eq!(rt; fds.open(1, socket()), Ok(0));
-    assert_eq!(rt; fds.bind(1, 0, 80), Err(Errno::EADDRINUSE));
-    fds.close(2, 3)?;
-    assert_eq!(rt; fds.bind(1, 0, 80), Ok(()));
-    Ok(())
-}
-
 // A process with a socket at 3 and a file at 4.
 fn with_socket(alloc: Global) -> Result<Fds, FdFault>
     ensures { IfOk result (λ fds. has_table fds 1 ≡ true) }
@@ -126,36 +90,6 @@ fn with_socket(alloc: Global) -> Result<Fds, FdFault>
     fds.open(1, socket())?;
     fds.open(1, file(7))?;
     Ok(fds)
-}
-
-#[test]
-fn binds_refuse_in_order(rt: HostRuntime) -> Result<(), Fail> {
-    let cases = [
-        (5, 0, Err(Errno::EBADF)),
-        (0, 80, Err(Errno::EINVAL)),
-        (4, 80, Err(Errno::EINVAL)),
-        (3, 0, Err(Errno::EINVAL)),
-        (3, 65_535, Ok(())),
-    ];
-    for (fd, port, wanted) in cases {
-        let mut fds = with_socket(rt.alloc())?;
-        assert_eq!(rt; fds.bind(1, fd, port), wanted, "{port} at {fd}");
-    }
-    Ok(())
-}
-
-#[test]
-fn connects_refuse_in_order(rt: HostRuntime) -> Result<(), Fail> {
-    let cases = [
-        (5, 80, Err(Errno::EBADF)),
-        (4, 80, Err(Errno::EINVAL)),
-        (3, 80, Err(Errno::ECONNREFUSED)),
-    ];
-    for (fd, port, wanted) in cases {
-        let mut fds = with_socket(rt.alloc())?;
-        assert_eq!(rt; fds.connect(1, fd, port), wanted, "{port} at {fd}");
-    }
-    Ok(())
 }
 
 #[test]

@@ -1,4 +1,4 @@
-use st_memory::{MemFault, Spaces};
+use st_memory::Spaces;
 use std::test::Fail;
 
 #[test]
@@ -13,28 +13,6 @@ fn spaces_are_apart(rt: HostRuntime) -> Result<(), Fail> {
     assert_eq!(rt; spaces.word(first, 7), Some(0));
     assert_eq!(rt; spaces.word(second, 7), Some(9));
     assert_eq!(rt; spaces.word(second, 6), Some(0));
-    Ok(())
-}
-
-#[test]
-fn words_end_at_8192(rt: HostRuntime) -> Result<(), Fail> {
-    let alloc = rt.alloc();
-    let cases = [
-        (0, Ok(()), Some(u64::MAX)),
-        (8191, Ok(()), Some(u64::MAX)),
-        (8192, Err(MemFault::Outside), None),
-        (u32::MAX, Err(MemFault::Outside), None),
-    ];
-    for (place, stored, read) in cases {
-        let mut spaces = Spaces::new(alloc);
-        let space = spaces.make(alloc)?;
-        assert_eq!(rt;
-            spaces.put_word(space, place, u64::MAX),
-            stored,
-            "at {place}"
-        );
-        assert_eq!(rt; spaces.word(space, place), read, "at {place}");
-    }
     Ok(())
 }
 
@@ -54,21 +32,6 @@ fn bytes_end_at_65536(rt: HostRuntime) -> Result<(), Fail> {
         spaces.put_bytes(space, at, bytes)?;
         let read = spaces.bytes(alloc, space, at, bytes.len() as u64)?;
         assert_eq!(rt; read.bytes(), bytes, "at {at}");
-    }
-    Ok(())
-}
-
-#[test]
-fn bytes_outside_are_refused(rt: HostRuntime) -> Result<(), Fail> {
-    let alloc = rt.alloc();
-    let cases: [(u64, &[u8]); 3] = [(65536, b"a"), (65530, b"1234567"), (u64::MAX, b"ab")];
-    for (at, bytes) in cases {
-        let mut spaces = Spaces::new(alloc);
-        let space = spaces.make(alloc)?;
-        let put = spaces.put_bytes(space, at, bytes);
-        let read = spaces.bytes(alloc, space, at, bytes.len() as u64);
-        assert_eq!(rt; put, Err(MemFault::Outside), "at {at}");
-        assert_eq!(rt; read.err(), Some(MemFault::Outside), "at {at}");
     }
     Ok(())
 }

@@ -5,7 +5,7 @@ use st_base::{Errno, Obj, Text};
 use st_model::Want;
 use st_names::{AbsName, Seen};
 use st_tree::{Kind, NewKind, NewNode, Node, Tree, TreeFault};
-use std::alloc::{AllocError, Global};
+use std::alloc::Global;
 use std::test::Fail;
 
 // An object of user 1 and group 2.
@@ -164,38 +164,6 @@ fn objects_show_what_they_are(rt: HostRuntime) -> Result<(), Fail> {
     Ok(())
 }
 
-// The name of this number, below the root.
-fn numbered_name(alloc: Global, number: u32) -> Result<AbsName, AllocError> {
-    let mut text = Text::new(alloc);
-    text.append_number(number as u64)?;
-    AbsName::of(alloc, text.bytes())
-}
-
-// What comes of adding the file of this number.
-fn add_numbered(tree: &mut Tree, alloc: Global, number: u32) -> Result<Obj, TreeFault> {
-    let file = node(NewKind::File(Text::new(alloc)));
-    tree.add(alloc, &numbered_name(alloc, number)?, file)
-}
-
-#[test]
-fn objects_end_at_4096(rt: HostRuntime) -> Result<(), Fail> {
-    let alloc = rt.alloc();
-    let mut tree = Tree::new(alloc)?;
-    for number in 0..4095_u32 {
-        add_numbered(&mut tree, alloc, number)?;
-    }
-    tree.remove(&numbered_name(alloc, 0)?)?;
-    for (number, errno) in [
-        (4095, Errno::ENOSPC),
-        (0, Errno::ENOSPC),
-        (1, Errno::EEXIST),
-    ] {
-        let added = add_numbered(&mut tree, alloc, number);
-        assert_eq!(rt; added, Err(TreeFault::Os(errno)), "at {number}");
-    }
-    Ok(())
-}
-
 #[test]
 fn permission_goes_by_bits(rt: HostRuntime) -> Result<(), Fail> {
     let alloc = rt.alloc();
@@ -285,24 +253,6 @@ fn files_are_cut_and_filled_up(rt: HostRuntime) -> Result<(), Fail> {
         let (mut tree, obj) = one_file(alloc, b"text")?;
         assert_eq!(rt; tree.cut(obj, len), cut, "to {len}");
         assert_eq!(rt; tree.read(alloc, obj, 0, 6)?.bytes(), wanted, "to {len}");
-    }
-    Ok(())
-}
-
-#[test]
-fn files_end_at_65536(rt: HostRuntime) -> Result<(), Fail> {
-    let alloc = rt.alloc();
-    let full = Err(TreeFault::Os(Errno::ENOSPC));
-    let cases = [
-        (65_535, b"z".as_slice(), Ok(()), 65_536),
-        (65_535, b"yz", full, 4),
-        (u64::MAX, b"z", full, 4),
-        (u64::MAX, b"", Ok(()), 4),
-    ];
-    for (at, bytes, wanted, size) in cases {
-        let (mut tree, obj) = one_file(alloc, b"text")?;
-        assert_eq!(rt; tree.write(obj, at, bytes), wanted, "at {at}");
-        assert_eq!(rt; tree.node(obj).size, size, "at {at}");
     }
     Ok(())
 }

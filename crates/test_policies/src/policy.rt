@@ -1,5 +1,5 @@
 use st_base::{Sequence, Text};
-use st_lex::{Dollars, LexFault};
+use st_lex::Dollars;
 use st_policy::fault::Unsupported;
 use st_policy::{
     Env, NamedId, Place, PolicyFault, PolicySet, place_of_fault, print_filter, print_policies,
@@ -73,107 +73,17 @@ fn row_fault<R: Abort + AllocGlobal>(
 // A row behind the header, whether ids may be granted, and its leftmost fault.
 #[test]
 fn faults_of_rows(rt: HostRuntime) -> Result<(), Fail> {
-    let cases: [(&[u8], bool, Option<PolicyFault>); 28] = [
-        (
-            b"native-fsread: filename eq \"/etc",
-            false,
-            Some(PolicyFault::Lex(LexFault::OpenQuote(61))),
-        ),
-        (
-            b"native-read: !",
-            false,
-            Some(PolicyFault::Lex(LexFault::BadByte(47))),
-        ),
-        (
-            b"native-read: deny as \"",
-            false,
-            Some(PolicyFault::Expected(52)),
-        ),
-        (b"native-read:", false, Some(PolicyFault::Expected(46))),
-        (b"native-read:  #", false, Some(PolicyFault::Expected(49))),
-        (b"native-read:\n", false, Some(PolicyFault::Expected(46))),
+    let cases: [(&[u8], bool, Option<PolicyFault>); 6] = [
         (
             b"native-read: permit log log",
             false,
             Some(PolicyFault::Expected(58)),
         ),
-        (
-            b"native-read: true ) then permit",
-            false,
-            Some(PolicyFault::Expected(52)),
-        ),
-        (
-            b"native-read: (true then permit",
-            false,
-            Some(PolicyFault::Expected(53)),
-        ),
-        (b"native-read: (true) then permit", false, None),
         (b"foo bar", false, Some(PolicyFault::UnknownCall(34))),
-        (
-            b"native-: permit",
-            false,
-            Some(PolicyFault::UnknownCall(34)),
-        ),
-        (
-            b"native-mmap: prot eq \"PROT_READ\" then permit",
-            false,
-            None,
-        ),
         (
             b"native-fsread: uid eq \"1\" then permit",
             false,
             Some(PolicyFault::UnknownArgument(49)),
-        ),
-        (
-            b"native-fsread: filename[1] eq \"a\" then permit",
-            false,
-            Some(PolicyFault::UnknownArgument(49)),
-        ),
-        (
-            b"native-fsread: uid[x] eq \"a\" then permit",
-            false,
-            Some(PolicyFault::UnknownArgument(49)),
-        ),
-        (
-            b"native-fsread: filename[4294967296] eq \"a\" then permit",
-            false,
-            Some(PolicyFault::Expected(58)),
-        ),
-        (
-            b"native-read: deny[EPERM]",
-            false,
-            Some(PolicyFault::UnknownError(52)),
-        ),
-        (b"native-read: deny[eacces] log", false, None),
-        (
-            b"native-bind: permit as bob",
-            true,
-            Some(PolicyFault::UnknownUser(57)),
-        ),
-        (
-            b"native-bind: permit as 4294967296",
-            true,
-            Some(PolicyFault::UnknownUser(57)),
-        ),
-        (
-            b"native-bind: permit as \"root\"",
-            true,
-            Some(PolicyFault::Expected(57)),
-        ),
-        (
-            b"native-read: permit, if user = bob",
-            false,
-            Some(PolicyFault::UnknownUser(65)),
-        ),
-        (
-            b"native-bind: permit as root\n",
-            false,
-            Some(PolicyFault::ElevateWithoutIds(54)),
-        ),
-        (
-            b"native-setuid: permit as root\n",
-            true,
-            Some(PolicyFault::ElevateOnSetId(56)),
         ),
         (b"native-bind: permit log as :wheel", true, None),
         (

@@ -1,7 +1,7 @@
 use st_base::{Ids, Sequence, Text};
 use st_calls::{
-    ArgSpec, ArgText, Label, O_CREAT, O_EXCL, O_RDONLY, O_RDWR, O_TRUNC, O_WRONLY, PartKind, RULES,
-    Rule, Snapshot, SysCall, append_index, args_of, follows,
+    ArgSpec, ArgText, Label, O_CREAT, O_EXCL, O_RDONLY, O_RDWR, O_TRUNC, O_WRONLY, PartKind, Rule,
+    Snapshot, SysCall, append_index, args_of, follows,
 };
 use std::test::Fail;
 
@@ -58,14 +58,6 @@ fn words_name_calls(rt: HostRuntime) {
 }
 
 #[test]
-fn each_call_has_its_own_word_and_place(rt: HostRuntime) {
-    for (place, call) in SysCall::ALL.iter().enumerate() {
-        assert_eq!(rt; SysCall::of_word(call.word()), Some(*call));
-        assert_eq!(rt; call.index(), place);
-    }
-}
-
-#[test]
 fn words_name_rules(rt: HostRuntime) {
     let cases: [(&[u8], Option<Rule>); 5] = [
         (b"fsread", Some(Rule::FsRead)),
@@ -76,15 +68,6 @@ fn words_name_rules(rt: HostRuntime) {
     ];
     for (word, rule) in cases {
         assert_eq!(rt; Rule::of_word(word), rule);
-    }
-}
-
-#[test]
-fn each_rule_has_its_own_word_and_place(rt: HostRuntime) {
-    assert_eq!(rt; Rule::ALL.len(), RULES);
-    for (place, rule) in Rule::ALL.iter().enumerate() {
-        assert_eq!(rt; Rule::of_word(rule.word()), Some(*rule));
-        assert_eq!(rt; rule.index(), place);
     }
 }
 

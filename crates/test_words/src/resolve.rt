@@ -115,36 +115,6 @@ fn a_link_that_is_last_is_left_on_demand(rt: HostRuntime) -> Result<(), Fail> {
 }
 
 #[test]
-fn thirty_two_links_are_followed(rt: HostRuntime) -> Result<(), Fail> {
-    let alloc = rt.alloc();
-    let cwd = AbsName::root(alloc);
-    let mut text = Text::new(alloc);
-    for _ in 0..32 {
-        text.append(b"/top")?;
-    }
-    assert!(rt; comes_to(alloc, text.bytes(), &cwd, true, Ok(b"/"))?);
-    text.append(b"/top")?;
-    assert!(rt; comes_to(alloc, text.bytes(), &cwd, true, Err(Errno::ELOOP))?);
-    Ok(())
-}
-
-#[test]
-fn long_names_are_refused(rt: HostRuntime) -> Result<(), Fail> {
-    let alloc = rt.alloc();
-    let part = vec![in alloc; b'a'; 255]?;
-    let mut cwd = AbsName::root(alloc);
-    for _ in 0..4 {
-        cwd.push(&part)?;
-    }
-    let name = cwd.print(alloc)?;
-    assert!(rt; comes_to(alloc, b".", &cwd, true, Ok(name.bytes()))?);
-    assert!(rt; comes_to(alloc, b"x", &cwd, true, Err(Errno::ENAMETOOLONG))?);
-    let long = vec![in alloc; b'a'; 256]?;
-    assert!(rt; comes_to(alloc, &long, &cwd, true, Err(Errno::ENAMETOOLONG))?);
-    Ok(())
-}
-
-#[test]
 fn a_found_name_is_given_away(rt: HostRuntime) -> Result<(), Fail> {
     let alloc = rt.alloc();
     let walk = Walk::begin(alloc, b"..", &AbsName::root(alloc), true)?;

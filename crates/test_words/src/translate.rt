@@ -85,14 +85,6 @@ fn shown(copied: &Result<Text, Errno>) -> Result<&[u8], Errno> {
     }
 }
 
-// How long a text is, or the fault in its place.
-fn length(copied: &Result<Text, Errno>) -> Result<usize, Errno> {
-    match copied {
-        Ok(text) => Ok(text.len()),
-        Err(errno) => Err(*errno),
-    }
-}
-
 // A memory whose first words are this pointer, so many times, and which has a text from byte 256 on.
 fn vector(alloc: Global, pointer: u64, count: usize, text: &[u8]) -> Result<Vec<u8>, AllocError> {
     let mut bytes = Vec::new(alloc);
@@ -122,30 +114,6 @@ fn names_begin_anywhere_and_end_before_a_zero_byte(rt: HostRuntime) -> Result<()
         };
         let name = copied(alloc, PartKind::Name, at, memory)?;
         assert_eq!(rt; shown(&name), Ok(text), "at {at}");
-    }
-    Ok(())
-}
-
-#[test]
-fn names_have_1024_bytes_and_texts_255(rt: HostRuntime) -> Result<(), Fail> {
-    let alloc = rt.alloc();
-    let too_long = Err(Errno::ENAMETOOLONG);
-    for (len, name_len, text_len) in [
-        (255, Ok(255), Ok(255)),
-        (256, Ok(256), too_long),
-        (1024, Ok(1024), too_long),
-        (1025, too_long, too_long),
-    ] {
-        let bytes = vec![in alloc; b'a'; len]?;
-        let memory = Memory {
-            from: 5,
-            bytes: &bytes,
-            other: 0,
-        };
-        let name = copied(alloc, PartKind::Name, 5, memory)?;
-        let text = copied(alloc, PartKind::Plain, 5, memory)?;
-        assert_eq!(rt; length(&name), name_len, "{len} bytes");
-        assert_eq!(rt; length(&text), text_len, "{len} bytes");
     }
     Ok(())
 }
@@ -199,29 +167,6 @@ fn argument_vectors_are_joined_by_blanks(rt: HostRuntime) -> Result<(), Fail> {
         };
         let argv = copied(alloc, PartKind::Argv, 0, memory)?;
         assert_eq!(rt; shown(&argv), want, "{count} pointers to {pointer}");
-    }
-    Ok(())
-}
-
-#[test]
-fn argument_vectors_have_1024_bytes(rt: HostRuntime) -> Result<(), Fail> {
-    let alloc = rt.alloc();
-    for (count, len, fits) in [
-        (1, 1024, true),
-        (1, 1025, false),
-        (16, 64, true),
-        (16, 65, false),
-    ] {
-        let text = vec![in alloc; b'a'; len]?;
-        let bytes = vector(alloc, 256, count, &text)?;
-        let memory = Memory {
-            from: 0,
-            bytes: &bytes,
-            other: 0,
-        };
-        let argv = copied(alloc, PartKind::Argv, 0, memory)?;
-        assert_eq!(rt; argv.is_ok(), fits, "{count} parts of {len} bytes");
-        assert_eq!(rt; argv.err(), if fits { None } else { Some(Errno::E2BIG) });
     }
     Ok(())
 }
