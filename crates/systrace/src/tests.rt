@@ -124,132 +124,59 @@ fn tells_a_status(rt: HostRuntime) -> Result<(), Fail> {
     Ok(())
 }
 
+// A text, with `|` for a newline.
+fn text_of(alloc: Global, rows: &str) -> Result<Text, Fail> {
+    let mut text = Text::new(alloc);
+    let mut between = b"".as_slice();
+    for row in rows.split('|') {
+        text.append(between)?;
+        text.append(row.as_bytes())?;
+        between = b"\n".as_slice();
+    }
+    Ok(text)
+}
+
 // Rows of a script, and the line.
+const SCRIPTS: &str =
+    r#"user root 0| => systrace: s:1: found 'user root 0', expected 'user NAME UID GID "HOME"', outside a thread
+group wheel 0 0 => systrace: s:1: found 'group wheel 0 0', expected 'group NAME GID', outside a thread
+dir "/d/" 0 0 755 => systrace: s:1: found 'dir "/d/" 0 0 755', expected 'dir "/PATH" UID GID MODE', outside a thread
+|| file "/f" 0 0 644 | => systrace: s:3: found 'file "/f" 0 0 644 ', expected 'file "/PATH" UID GID MODE "CONTENT"', outside a thread
+link "/l" 0 0 "" => systrace: s:1: found 'link "/l" 0 0 ""', expected 'link "/PATH" UID GID "TARGET"', outside a thread
+process p "/a" 0 0 "/" => systrace: s:1: found 'process p "/a" 0 0 "/"', expected 'process NAME traced "/BINARY" UID GID "/DIRECTORY"', or 'untraced' in it, outside a thread
+thread a|call exit| => systrace: s:1: found 'thread a', expected 'thread NAME' or 'thread NAME in PROCESS', outside a thread, and a line 'end' below it
+reply "/a" native-read: ask => systrace: s:1: found 'reply "/a" native-read: ask', expected 'reply "/BINARY" FILTER', a filter as in a policy that doesn't ask, outside a thread
+thread a|store 8192 1|end => systrace: s:2: found 'store 8192 1', expected 'store PLACE WORD', PLACE below 8192, in a thread
+thread a|put 4 "/f"|end => systrace: s:2: found 'put 4 "/f"', expected 'put AT "TEXT"', AT a multiple of 8, and the text and a zero byte within 65536 bytes, in a thread
+call getpid => systrace: s:1: found 'call getpid', expected 'call NAME' with up to six numbers, NAME a call of the model but fork, in a thread
+fork a => systrace: s:1: found 'fork a', expected 'fork THREAD', in a thread
+end => systrace: s:1: found 'end', expected 'end', at the end of a thread
+threads a => systrace: s:1: found 'threads a', expected user, group, dir, file, link, process, thread or reply; or in a thread store, put, call, fork or end
+thread a|dir "/d" 0 0 755|end => systrace: s:2: found 'dir "/d" 0 0 755', expected 'dir "/PATH" UID GID MODE', outside a thread
+file "/d/f" 0 0 644 "f" => systrace: s:1: found 'file "/d/f" 0 0 644 "f"', expected a path in the root, or in a directory of a row above
+thread a in p|end => systrace: s:1: found 'thread a in p', expected the name of a process of a row above
+thread a|fork b|end => systrace: s:2: found 'fork b', expected the name of a thread of the script
+user a 0 0 "/"|user a 1 1 "/" => systrace: s:2: found 'user a 1 1 "/"', expected a name that no user above has
+group a 0|group a 1 => systrace: s:2: found 'group a 1', expected a name that no group above has
+dir "/d" 0 0 755|link "/d" 0 0 "/" => systrace: s:2: found 'link "/d" 0 0 "/"', expected a path that no row above has
+process p traced "/a" 0 0 "/"|process p traced "/a" 0 0 "/" => systrace: s:2: found 'process p traced "/a" 0 0 "/"', expected a name that no process above has
+thread a|end|thread a|end => systrace: s:3: found 'thread a', expected a name that no thread above has
+thread a|fork a|fork a|end => systrace: s:3: found 'fork a', expected a thread that starts in no process, and that no fork above starts
+thread a|put 0 "a;|end => systrace: s:2:7: found '"a;', expected a text that is closed on its line
+user a; 0 0 "/" => systrace: s:1:7: found ';', expected a token
+user a 0 0 "/\xg0" => systrace: s:1:14: found '\xg0', expected '\x' and two hexadecimal digits that aren't 00
+user a 0 0 "/\x00b" => systrace: s:1:14: found '\x00', expected '\x' and two hexadecimal digits that aren't 00
+user aÿ 0 0 "/" => systrace: s:1:7: found '\xc3', expected a token
+ => systrace: p: no such file
+# nothing => systrace: p: no such file"#;
+
 #[test]
 fn tells_of_scripts(rt: HostRuntime) -> Result<(), Fail> {
-    let cases: [(&[u8], &[u8]); 31] = [
-        (
-            b"user root 0\n",
-            b"systrace: s:1: found 'user root 0', expected 'user NAME UID GID \"HOME\"', outside a thread",
-        ),
-        (
-            b"group wheel 0 0",
-            b"systrace: s:1: found 'group wheel 0 0', expected 'group NAME GID', outside a thread",
-        ),
-        (
-            b"dir \"/d/\" 0 0 755",
-            b"systrace: s:1: found 'dir \"/d/\" 0 0 755', expected 'dir \"/PATH\" UID GID MODE', outside a thread",
-        ),
-        (
-            b"\n\n file \"/f\" 0 0 644 \r\n",
-            b"systrace: s:3: found 'file \"/f\" 0 0 644 ', expected 'file \"/PATH\" UID GID MODE \"CONTENT\"', outside a thread",
-        ),
-        (
-            b"link \"/l\" 0 0 \"\"",
-            b"systrace: s:1: found 'link \"/l\" 0 0 \"\"', expected 'link \"/PATH\" UID GID \"TARGET\"', outside a thread",
-        ),
-        (
-            b"process p \"/a\" 0 0 \"/\"",
-            b"systrace: s:1: found 'process p \"/a\" 0 0 \"/\"', expected 'process NAME traced \"/BINARY\" UID GID \"/DIRECTORY\"', or 'untraced' in it, outside a thread",
-        ),
-        (
-            b"thread a\ncall exit\n",
-            b"systrace: s:1: found 'thread a', expected 'thread NAME' or 'thread NAME in PROCESS', outside a thread, and a line 'end' below it",
-        ),
-        (
-            b"reply \"/a\" native-read: ask",
-            b"systrace: s:1: found 'reply \"/a\" native-read: ask', expected 'reply \"/BINARY\" FILTER', a filter as in a policy that doesn't ask, outside a thread",
-        ),
-        (
-            b"thread a\nstore 8192 1\nend",
-            b"systrace: s:2: found 'store 8192 1', expected 'store PLACE WORD', PLACE below 8192, in a thread",
-        ),
-        (
-            b"thread a\nput 4 \"/f\"\nend",
-            b"systrace: s:2: found 'put 4 \"/f\"', expected 'put AT \"TEXT\"', AT a multiple of 8, and the text and a zero byte within 65536 bytes, in a thread",
-        ),
-        (
-            b"call getpid",
-            b"systrace: s:1: found 'call getpid', expected 'call NAME' with up to six numbers, NAME a call of the model but fork, in a thread",
-        ),
-        (
-            b"fork a",
-            b"systrace: s:1: found 'fork a', expected 'fork THREAD', in a thread",
-        ),
-        (
-            b"end",
-            b"systrace: s:1: found 'end', expected 'end', at the end of a thread",
-        ),
-        (
-            b"threads a",
-            b"systrace: s:1: found 'threads a', expected user, group, dir, file, link, process, thread or reply; or in a thread store, put, call, fork or end",
-        ),
-        (
-            b"thread a\ndir \"/d\" 0 0 755\nend",
-            b"systrace: s:2: found 'dir \"/d\" 0 0 755', expected 'dir \"/PATH\" UID GID MODE', outside a thread",
-        ),
-        (
-            b"file \"/d/f\" 0 0 644 \"f\"",
-            b"systrace: s:1: found 'file \"/d/f\" 0 0 644 \"f\"', expected a path in the root, or in a directory of a row above",
-        ),
-        (
-            b"thread a in p\nend",
-            b"systrace: s:1: found 'thread a in p', expected the name of a process of a row above",
-        ),
-        (
-            b"thread a\nfork b\nend",
-            b"systrace: s:2: found 'fork b', expected the name of a thread of the script",
-        ),
-        (
-            b"user a 0 0 \"/\"\nuser a 1 1 \"/\"",
-            b"systrace: s:2: found 'user a 1 1 \"/\"', expected a name that no user above has",
-        ),
-        (
-            b"group a 0\ngroup a 1",
-            b"systrace: s:2: found 'group a 1', expected a name that no group above has",
-        ),
-        (
-            b"dir \"/d\" 0 0 755\nlink \"/d\" 0 0 \"/\"",
-            b"systrace: s:2: found 'link \"/d\" 0 0 \"/\"', expected a path that no row above has",
-        ),
-        (
-            b"process p traced \"/a\" 0 0 \"/\"\nprocess p traced \"/a\" 0 0 \"/\"",
-            b"systrace: s:2: found 'process p traced \"/a\" 0 0 \"/\"', expected a name that no process above has",
-        ),
-        (
-            b"thread a\nend\nthread a\nend",
-            b"systrace: s:3: found 'thread a', expected a name that no thread above has",
-        ),
-        (
-            b"thread a\nfork a\nfork a\nend",
-            b"systrace: s:3: found 'fork a', expected a thread that starts in no process, and that no fork above starts",
-        ),
-        (
-            b"thread a\nput 0 \"a;\nend",
-            b"systrace: s:2:7: found '\"a;', expected a text that is closed on its line",
-        ),
-        (
-            b"user a; 0 0 \"/\"",
-            b"systrace: s:1:7: found ';', expected a token",
-        ),
-        (
-            b"user a 0 0 \"/\\xg0\"",
-            b"systrace: s:1:14: found '\\xg0', expected '\\x' and two hexadecimal digits that aren't 00",
-        ),
-        (
-            b"user a 0 0 \"/\\x00b\"",
-            b"systrace: s:1:14: found '\\x00', expected '\\x' and two hexadecimal digits that aren't 00",
-        ),
-        (
-            b"user a\xff 0 0 \"/\"",
-            b"systrace: s:1:7: found '\\xff', expected a token",
-        ),
-        (b"", b"systrace: p: no such file"),
-        (b"# nothing", b"systrace: p: no such file"),
-    ];
-    for (script, wanted) in cases {
-        let found = told(rt.alloc(), "check p s", &[(b"s", script)])?;
-        assert_eq!(rt; found.bytes(), wanted);
+    for case in SCRIPTS.lines() {
+        let (rows, wanted) = case.split_once(" => ").ok_or("no line in the case")?;
+        let script = text_of(rt.alloc(), rows)?;
+        let found = told(rt.alloc(), "check p s", &[(b"s", script.bytes())])?;
+        assert_eq!(rt; found.bytes(), wanted.as_bytes(), "{case}");
     }
     Ok(())
 }
@@ -302,38 +229,23 @@ fn tells_of_too_much(rt: HostRuntime) -> Result<(), Fail> {
 const SCRIPT: &[u8] = b"process p traced \"/a\" 0 0 \"/\"\nthread a in p\ncall getpid\nend\n";
 
 // A schedule, and the line.
+const SCHEDULES: &str =
+    r#"rest| thread 1| => systrace: c:2: found 'thread 1', expected a thread that can move at each turn: it has started, hasn't ended, and waits for neither a worker nor the operator
+thread 1 1|thread 1 2 => systrace: c:2: found 'thread 1 2', expected a thread that can move at each turn: it has started, hasn't ended, and waits for neither a worker nor the operator
+worker 1 => systrace: c:1: found 'worker 1', expected a worker that can move at each turn: one of those of '-w N', with a call to serve
+operator => systrace: c:1: found 'operator', expected a question for the operator at each turn: there is none without '-A' or '-t'
+thread 1 0 => systrace: c:1: found 'thread 1 0', expected 'thread N', 'worker N' or 'operator', behind which a count from 1 to 1000000 may stand, or 'rest'
+rest # all|rest ! => systrace: c:2: found 'rest !', expected 'thread N', 'worker N' or 'operator', behind which a count from 1 to 1000000 may stand, or 'rest'
+rest => "#;
+
 #[test]
 fn tells_of_schedules(rt: HostRuntime) -> Result<(), Fail> {
-    let cases: [(&[u8], &[u8]); 7] = [
-        (
-            b"rest\n thread 1\n",
-            b"systrace: c:2: found 'thread 1', expected a thread that can move at each turn: it has started, hasn't ended, and waits for neither a worker nor the operator",
-        ),
-        (
-            b"thread 1 1\nthread 1 2",
-            b"systrace: c:2: found 'thread 1 2', expected a thread that can move at each turn: it has started, hasn't ended, and waits for neither a worker nor the operator",
-        ),
-        (
-            b"worker 1",
-            b"systrace: c:1: found 'worker 1', expected a worker that can move at each turn: one of those of '-w N', with a call to serve",
-        ),
-        (
-            b"operator",
-            b"systrace: c:1: found 'operator', expected a question for the operator at each turn: there is none without '-A' or '-t'",
-        ),
-        (
-            b"thread 1 0",
-            b"systrace: c:1: found 'thread 1 0', expected 'thread N', 'worker N' or 'operator', behind which a count from 1 to 1000000 may stand, or 'rest'",
-        ),
-        (
-            b"rest # all\nrest !",
-            b"systrace: c:2: found 'rest !', expected 'thread N', 'worker N' or 'operator', behind which a count from 1 to 1000000 may stand, or 'rest'",
-        ),
-        (b"rest", b""),
-    ];
-    for (schedule, wanted) in cases {
-        let found = told(rt.alloc(), "step s c", &[(b"s", SCRIPT), (b"c", schedule)])?;
-        assert_eq!(rt; found.bytes(), wanted);
+    for case in SCHEDULES.lines() {
+        let (rows, wanted) = case.split_once(" => ").ok_or("no line in the case")?;
+        let schedule = text_of(rt.alloc(), rows)?;
+        let held: [(&[u8], &[u8]); 2] = [(b"s", SCRIPT), (b"c", schedule.bytes())];
+        let found = told(rt.alloc(), "step s c", &held)?;
+        assert_eq!(rt; found.bytes(), wanted.as_bytes(), "{case}");
     }
     Ok(())
 }
