@@ -11,6 +11,7 @@ use Rattle.st_kernel.specs.declared.play.PlayFault.TheVariants as play
 use Rattle.st_top.specs.Ends.{RunShown}
 use Rattle.st_top.specs.Outcome.{printed, status_of_play}
 use Rattle.st_top.specs.declared.status.Status.{Status}
+use Rattle.st_top.specs.declared.status.Status.TheVariants.{NoMemory}
 use Rattle.st_trace.specs.declared.entry.Choice.{Choice}
 
 module _ (print : Print) (i : Input) (schedule : ReadSchedule) (course : Course) (input : course.input ≡ i) (choices : course.choices ≡ []) where
@@ -23,3 +24,8 @@ module _ (print : Print) (i : Input) (schedule : ReadSchedule) (course : Course)
   refused fault bad (Ok text) failed same = cc
   refused (play.BadLine line) bad (Err s) failed same = subst (λ (end : Status). RunShown print i schedule (Err end)) (sym same) (sym from_first ∙ bad line refl)
   refused play.NoMemory bad (Err s) failed same = subst (λ (end : Status). RunShown print i schedule (Err end)) (sym same) tt
+
+-- where memory runs out, there is nothing more to say
+pub out_of_memory : (print : Print) (i : Input) (schedule : ReadSchedule) (result : Result (List ℕ) Status) → IsErr result → IsErrAnd result (λ s. s ≡ NoMemory) → RunShown print i schedule result
+out_of_memory print i schedule (Ok text) failed same = cc
+out_of_memory print i schedule (Err s) failed same = subst (λ (end : Status). RunShown print i schedule (Err end)) (sym same) tt
