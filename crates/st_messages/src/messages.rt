@@ -70,6 +70,13 @@ impl Messages {
         Some(live::message_of(&self.live, seq)?.state)
     }
 
+    /// The thread of a live number; none of another.
+    pub fn thread(&self, seq: Seq) -> Option<Tid>
+        ensures { result ≡ thread_at self.now seq }
+    {
+        Some(live::message_of(&self.live, seq)?.tid)
+    }
+
     // Gives the message at a place another state, and its number.
     fn set_state_at(&mut self, place: usize, state: MsgState) -> Seq
         requires place { place < length self.old.live }
