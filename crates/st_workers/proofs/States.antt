@@ -1,17 +1,18 @@
 -- How far a number has come, by what is kept and by the machine.
-use Rattle.std.proofs.Common.{◌≡◌, ℕ, Bool, true, false, Option, Some, None, refl, sym, subst}
+use Rattle.std.proofs.Common.{◌≡◌, ◌∙◌, ℕ, Bool, true, false, Option, Some, None, refl, ap, sym, subst}
 use Rattle.std.proofs.lemmas.Bool.{true≢false}
 use Rattle.std.proofs.lemmas.Option.{none-some}
+use Rattle.std.specs.Option.{option_map}
 use Rattle.st_calls.specs.declared.judged.Snapshot.{Snapshot}
 use Rattle.st_effects.specs.Progress.{Look, Progress, Stuck, Word}
 use Rattle.st_effects.specs.Progress.{Ready as Whole}
 use Rattle.st_messages.specs.declared.message.MsgState.{MsgState}
 use Rattle.st_messages.specs.declared.message.MsgState.TheVariants.{Waiting, Claimed, Answered, Faulted}
-use Rattle.st_messages.specs.Messages.{state_at}
+use Rattle.st_messages.specs.Messages.{state_at, thread_at}
 use Rattle.st_law.specs.declared.input.Input.{Input}
 use Rattle.st_law.specs.Messages.{Head}
 use Rattle.st_law.specs.State.{is_live, is_ready, progress_in, snapshot_of_progress, snapshot_with, State}
-use Rattle.st_workers.specs.Kept.{head_of, HasComeTo, IsKept, IsLive, IsState}
+use Rattle.st_workers.specs.Kept.{head_of, HasComeTo, IsHeldBy, IsKept, IsLive, IsState}
 use Rattle.st_workers.specs.UnderWay.{found_in, UnderWay}
 
 ready_copies : (q : ℕ) (o : Option Head) (p : Progress) (head : Head) → o ≡ Some head → is_ready p ≡ true → (s : Snapshot) × (snapshot_of_progress q o p ≡ Some s)
@@ -39,3 +40,13 @@ module _ (i : Input) (st : State) (kept : UnderWay) (is : IsKept i st (is_live s
   -- what is kept of a number is what the machine has of it
   pub has_come_to : HasComeTo i st q (state_at kept.calls q)
   has_come_to = come_by (is_live st q) refl
+
+  -- so is its thread
+  held_by : (b : Bool) → is_live st q ≡ b → (t : ℕ) → thread_at kept.calls q ≡ Some t → IsHeldBy st q t
+  held_by true live t found =
+      let was : IsLive st.turns q (st.messages q) (found_in kept) = is.agrees.live q live in
+      ap (option_map (λ (head : Head). head.tid)) was.is_slot.head ∙ sym was.thread_is ∙ found
+  held_by false live t found = absurd (none-some t (sym (is.agrees.dead q live).thread ∙ found))
+
+  pub is_held_by : (t : ℕ) → thread_at kept.calls q ≡ Some t → IsHeldBy st q t
+  is_held_by = held_by (is_live st q) refl

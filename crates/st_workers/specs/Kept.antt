@@ -1,5 +1,5 @@
 -- What is kept of messages and workers, against what the machine keeps of them.
-use Rattle.std.specs.Prelude.{◌≡◌, ◌<◌, ◌≤◌, ◌==◌, ◌||◌, ℕ, suc, Bool, true, false, if◌then◌else◌, [], length, Option, Some, None}
+use Rattle.std.specs.Prelude.{◌≡◌, ◌<◌, ◌≤◌, ◌==◌, ◌||◌, ℕ, suc, Bool, true, false, if◌then◌else◌, [], length, Option, Some, None, option_map}
 use Rattle.st_base.specs.declared.errno.Errno.{Errno}
 use Rattle.st_calls.specs.Argument.{args_of}
 use Rattle.st_calls.specs.declared.judged.Snapshot.{Snapshot}
@@ -144,6 +144,10 @@ HasComeTo i st q (Some Waiting) = (is_live st q ≡ true) × HasCome (st.message
 HasComeTo i st q (Some (Claimed worker)) = (is_live st q ≡ true) × HasCome (st.messages q) true None false
 HasComeTo i st q (Some (Answered v)) = (is_live st q ≡ true) × HasCome (st.messages q) true None true × (s : Snapshot) × (snapshot_in st q ≡ Some s) × (v ≡ verdict (read_for i s.policy s.rule) s)
 HasComeTo i st q (Some (Faulted errno)) = (is_live st q ≡ true) × HasCome (st.messages q) true (Some errno) false
+
+-- a number is that of a call that this thread holds, or held
+abbrev pub IsHeldBy : State → ℕ → ℕ → Type 0
+IsHeldBy st q t = option_map (λ (head : Head). head.tid) (st.messages q).head ≡ Some t
 
 -- a number is live now or not, and each other is as it was
 abbrev pub ChangesLife : (ℕ → Bool) → ℕ → Bool → (ℕ → Bool) → Type 0

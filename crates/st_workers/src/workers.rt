@@ -18,7 +18,7 @@ ghost use Rattle.st_names.specs.Name.{Components};
 ghost use Rattle.st_names.specs.Seen.{seen_text};
 ghost use Rattle.st_trace.specs.declared.entry.Entry.TheVariants as entry;
 ghost use Rattle.st_trace.specs.declared.entry.Way.TheVariants.{Held};
-ghost use Rattle.st_workers.specs.Kept.{head_of, messages_renewed, AreKept, ChangesLife, Follows, HasComeTo, IsAnswered, IsKept, IsKeptAfter, RenewsLife, Stands};
+ghost use Rattle.st_workers.specs.Kept.{head_of, messages_renewed, AreKept, ChangesLife, Follows, HasComeTo, IsAnswered, IsHeldBy, IsKept, IsKeptAfter, RenewsLife, Stands};
 ghost use Rattle.st_workers.specs.Leaving.{HasLeft};
 ghost use Rattle.st_workers.specs.Tasks.{task_of, IsBusy, IsCopy, IsFault, IsLook, IsTask, IsThere};
 ghost use Rattle.st_workers.specs.UnderWay.{turn_at};
@@ -118,6 +118,14 @@ impl Workers {
         ensures law { (i : Input) (st : State) → IsKept i st (is_live_in st) self.now → HasComeTo i st seq result }
     {
         self.messages.state(seq)
+    }
+
+    /// The thread whose held call has a live number; none of another.
+    pub fn thread(&self, seq: Seq) -> Option<Tid>
+        ensures thread { result ≡ thread_at self.now.calls seq }
+        ensures law { IfSome result (λ tid. (i : Input) (st : State) → IsKept i st (is_live_in st) self.now → IsHeldBy st seq tid) }
+    {
+        self.messages.thread(seq)
     }
 
     /// The message of a live number.
