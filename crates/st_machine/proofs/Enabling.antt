@@ -1,7 +1,9 @@
 -- Which threads and workers can move.
 use Rattle.std.proofs.Common.{◌≡◌, ◌∙◌, ◌<◌, ◌&&◌, ◌||◌, not, ℕ, arith, Bool, true, false, Option, Some, None, refl, ap, sym, true≢false}
-use Rattle.std.proofs.lemmas.Option.{none-some}
-use Rattle.std.specs.Prelude.{is_none, is_some}
+use Rattle.std.proofs.lemmas.Bool.{eqb-true}
+use Rattle.std.proofs.lemmas.Option.{none-some, same_Some}
+use Rattle.std.specs.Option.{option_map}
+use Rattle.std.specs.Prelude.{is_none, is_some, IfSome}
 use Rattle.st_base.specs.declared.errno.Errno.{Errno}
 use Rattle.st_calls.specs.declared.judged.Snapshot.{Snapshot}
 use Rattle.st_trace.specs.declared.entry.Way.TheVariants.{Held}
@@ -12,11 +14,12 @@ use Rattle.st_model.specs.Processes.{pid_of}
 use Rattle.st_trace.specs.declared.entry.Entry.{Entry}
 use Rattle.st_law.specs.declared.input.Input.{Input}
 use Rattle.st_law.specs.Machine.{thread_entry, worker_entry}
+use Rattle.st_law.specs.Messages.{Head}
 use Rattle.st_law.specs.State.{State, is_live, is_question}
 use Rattle.st_law.specs.Threads.{PendingCall}
-use Rattle.st_reached.specs.Waiting.{IsAsking, IsAwaiting, IsStill, asking, awaiting, ended, unstarted}
+use Rattle.st_reached.specs.Waiting.{IsAsking, IsAwaiting, IsStill, asking, awaiting, ended, is_head_by, is_message_by, unstarted}
 use Rattle.st_reached.proofs.Still.{none_still, question_answered, still_none}
-use Rattle.st_workers.specs.Kept.{HasComeTo}
+use Rattle.st_workers.specs.Kept.{HasComeTo, IsHeldBy, IsKept}
 use Rattle.st_workers.specs.Tasks.{IsTask}
 use Rattle.st_workers.specs.UnderWay.{UnderWay}
 use Rattle.st_workers.specs.declared.task.Task.{Task}
@@ -139,3 +142,15 @@ work_moves i st kept worker (Copy seq part place) x = ap (λ (o : Option Entry).
 work_moves i st kept worker (LookAt seq part) x = ap (λ (o : Option Entry). is_some o) (sym x.1)
 work_moves i st kept worker (Fault seq errno) x = ap (λ (o : Option Entry). is_some o) (sym x)
 work_moves i st kept worker Answer x = ap (λ (o : Option Entry). is_some o) (sym x.2)
+
+-- ---- whose a number is
+
+same_thread : (t u : ℕ) (o : Option Head) → is_head_by t o ≡ true → option_map (λ (head : Head). head.tid) o ≡ Some u → t ≡ u
+same_thread t u None by held = absurd (true≢false (sym by))
+same_thread t u (Some head) by held = sym (eqb-true head.tid t by) ∙ same_Some head.tid u held
+
+-- a number that lives is no other thread's
+pub only_holder : (m : Running) (seq : ℕ) (o : Option ℕ) → IfSome o (λ tid. (i : Input) (st : State) → IsKept i st (is_live st) m.workers → IsHeldBy st seq tid) →
+    IfSome o (λ tid. (st : State) → IsMachine m st → (t : ℕ) → is_message_by st t seq ≡ true → t ≡ tid)
+only_holder m seq None law = tt
+only_holder m seq (Some tid) law = λ st is t by. same_thread t tid (st.messages seq).head by (law m.input st is.workers)

@@ -1,11 +1,12 @@
 // Whether a choice would add an entry, without making it. Memory is taken for the copies of a question alone.
-ghost use Rattle.std.specs.Prelude.{◌≡◌, is_some, IfOk};
+ghost use Rattle.std.specs.Prelude.{◌≡◌, ℕ, true, is_some, IfOk, IfSome};
 ghost use Rattle.st_law.specs.Machine.{thread_entry, worker_entry};
 ghost use Rattle.st_law.specs.State.{State};
 ghost use Rattle.st_machine.specs.Enabled.{has_come, is_work};
 ghost use Rattle.st_machine.specs.Machine.{IsMachine};
 ghost use Rattle.st_machine.specs.Questions.{IsOver};
 ghost use Rattle.st_messages.specs.Messages.{IsWorker};
+ghost use Rattle.st_reached.specs.Waiting.{is_message_by};
 
 use crate::machine::Machine;
 use st_base::{Seq, Tid, Worker};
@@ -62,6 +63,13 @@ impl<'a> Machine<'a> {
             return Ok(false);
         }
         Ok(self.question(alloc, seq)?.is_none())
+    }
+
+    /// The thread that holds the call of a number, while the number lives.
+    pub fn holder(&self, seq: Seq) -> Option<Tid>
+        ensures { IfSome result (λ tid. (st : State) → IsMachine self.now st → (t : ℕ) → is_message_by st t seq ≡ true → t ≡ tid) }
+    {
+        self.workers.thread(seq)
     }
 
     /// Whether a worker can move: it is at some number, or one waits.
