@@ -1,21 +1,24 @@
 -- A course that goes on by one choice.
 use native.Mathlib.Omega.{arith}
-use Rattle.std.proofs.Common.{◌≡◌, ◌≤◌, ◌<◌, ◌∙◌, ℕ, suc, ◌+◌, ◌&&◌, Bool, true, false, ◌∷◌, ◌++◌, List, [], Some, None, reverse, refl, ap, sym, subst}
-use Rattle.std.specs.Prelude.{if◌then◌else◌}
+use Rattle.std.proofs.Common.{inl, inr, length, ◌≡◌, ◌≤◌, ◌<◌, ◌∙◌, ℕ, suc, ◌+◌, Bool, true, false, ◌∷◌, ◌++◌, List, [], Some, None, reverse, ap, sym, subst}
+use Rattle.std.proofs.lemmas.Bool.Decides.{leb_tells}
 use Rattle.std.proofs.lemmas.List.{length-append, reverse-append}
 use Rattle.std.proofs.lemmas.Grind.{reverse_onto}
 use Rattle.st_trace.specs.declared.entry.Choice.{Choice}
 use Rattle.st_trace.specs.declared.entry.Entry.{Entry}
-use Rattle.st_trace.specs.declared.entry.Entry.TheVariants.{Used, Faulted, Answered, Learned, Replied}
 use Rattle.st_law.specs.Machine.{entry_of, history, history_with, run, state_after, state_at, state_of_run, thread_entry}
 use Rattle.st_law.specs.State.{State, thread_count}
 use Rattle.st_law.specs.Threads.{History}
 use Rattle.st_law.specs.declared.input.Input.{Input}
-use Rattle.st_reached.specs.Waiting.{is_message_by, wakes}
+use Rattle.st_reached.specs.Waiting.{wakes}
 use Rattle.st_reached.proofs.Reached.{Reached, reached_run}
 use Rattle.st_reached.proofs.StillKept.{none_more}
 use Rattle.st_machine.specs.Machine.{IsMachine, IsStep, Running}
-use Rattle.st_kernel.specs.Kernel.{IsCourse, may_wake}
+use Rattle.st_kernel.specs.Cursor.{HasFirstAble}
+use Rattle.st_kernel.specs.Kernel.{IsCourse}
+use Rattle.st_kernel.specs.Waking.{AreStill, is_asleep, is_woken}
+use Rattle.st_kernel.specs.declared.waking.Woken.{Woken}
+use Rattle.st_kernel.proofs.Unwoken.{not_woken, wakes_behind}
 
 module _ (i : Input) (choices : List Choice) (c : Choice) (e : Entry) (adds : entry_of i (state_of_run i choices) c ≡ Some e) where
   abbrev before : History
@@ -33,63 +36,124 @@ module _ (i : Input) (choices : List Choice) (c : Choice) (e : Entry) (adds : en
   pub state_more : state_of_run i (choices ++ c ∷ []) ≡ state_after i (state_of_run i choices) e
   state_more = ap (state_at i) one_more
 
--- ---- the cursor
+-- ---- the cursor and the marks
 
--- an entry that may wake none wakes none
-wakes_none : (st : State) (e : Entry) (t : ℕ) → may_wake e ≡ false → wakes st e t ≡ false
-wakes_none st (Used u seq call regs args ids result changes) t e = e
-wakes_none st (Faulted q errno) t e = cc
-wakes_none st (Answered w s v applied) t e = ap (λ (b : Bool). b && is_message_by st t s.seq) e
-wakes_none st (Learned q n) t e = cc
-wakes_none st (Replied q reply n) t e = cc
-wakes_none st _ t e = refl
+-- where the cursor stands, and which threads are marked as asleep, behind an entry that may wake some threads
+pub record HasWoken (woken : Woken) (first : ℕ) (asleep : List Bool) (first_then : ℕ) (asleep_then : List Bool) : Type 0 where
+  pub from : 1 ≤ first_then
+  pub to : first_then ≤ first
+  pub before : (t : ℕ) → 1 ≤ t → t < first_then → is_woken woken t ≡ false
+  pub count : length asleep_then ≡ length asleep
+  pub marked : (place : ℕ) → is_asleep asleep_then place ≡ true → is_asleep asleep place ≡ true
+  pub unwoken : (place : ℕ) → is_asleep asleep_then place ≡ true → is_woken woken (suc place) ≡ false
 
--- where the cursor stands behind an entry
-abbrev pub cursor_then : Entry → ℕ → ℕ
-cursor_then e first = if may_wake e then 1 else first
+-- the entry wakes no other threads, by the machine behind it
+abbrev pub WakesNoOther : Running → Entry → Woken → Type 0
+WakesNoOther m e woken = (st : State) → IsMachine m st → (t : ℕ) → wakes st e t ≡ true → is_woken woken t ≡ true
 
-module _ (m : Running) (trace : List Entry) (choices : List Choice) (first : ℕ) (course : IsCourse m trace choices first) (c : Choice) (e : Entry) (adds : entry_of m.input (state_of_run m.input choices) c ≡ Some e) where
+module _ (m new : Running) (trace : List Entry) (choices : List Choice) (first : ℕ) (asleep : List Bool) (course : IsCourse m trace choices first asleep) (c : Choice) (e : Entry)
+    (adds : entry_of m.input (state_of_run m.input choices) c ≡ Some e) (is : IsMachine new (state_after m.input (state_of_run m.input choices) e)) (woken : Woken) (only : WakesNoOther new e woken) where
   abbrev st : State
   st = state_of_run m.input choices
 
   reached : Reached m.input st
   reached = reached_run m.input course.machine.reached.startable choices
 
-  -- a thread before the cursor can move as little as before
-  still_then : (b : Bool) → may_wake e ≡ b → (t : ℕ) → 1 ≤ t → t < (if b then 1 else first) → thread_entry m.input (state_after m.input st e) t ≡ None
-  still_then true is t some before = absurd (omega (arith, some, before))
-  still_then false is t some before =
-      none_more m.input st reached t some (course.still t some before) c e adds (wakes_none st e t is)
-
-  within : (b : Bool) → (1 ≤ (if b then 1 else first)) × ((if b then 1 else first) ≤ suc (thread_count m.input))
-  within true = (omega arith, omega arith)
-  within false = (course.from, course.to)
+  -- a thread that couldn't move and isn't woken can't
+  still_then : (t : ℕ) → 1 ≤ t → thread_entry m.input st t ≡ None → is_woken woken t ≡ false → thread_entry m.input (state_after m.input st e) t ≡ None
+  still_then t some none unwoken =
+      none_more m.input st reached t some none c e adds
+      (sym (wakes_behind m.input st e t) ∙ not_woken (wakes (state_after m.input st e) e t) (is_woken woken t) (only (state_after m.input st e) is t) unwoken)
 
 -- ---- from choice to choice
 
 -- what runs has gone on by a choice
-pub course_on : (m new : Running) (trace : List Entry) (choices : List Choice) (first : ℕ) (c : Choice) (e : Entry) → IsCourse m trace choices first → new.input ≡ m.input → IsStep m c (Some e) new → IsCourse new (trace ++ e ∷ []) (choices ++ c ∷ []) (cursor_then e first)
-course_on m new trace choices first c e course same step =
+pub course_on : (m new : Running) (trace : List Entry) (choices : List Choice) (first : ℕ) (asleep : List Bool) (c : Choice) (e : Entry) (woken : Woken) (first_then : ℕ) (asleep_then : List Bool) →
+    IsCourse m trace choices first asleep → new.input ≡ m.input → IsStep m c (Some e) new → WakesNoOther new e woken → HasWoken woken first asleep first_then asleep_then →
+    IsCourse new (trace ++ e ∷ []) (choices ++ c ∷ []) first_then asleep_then
+course_on m new trace choices first asleep c e woken first_then asleep_then course same step only has =
     let st = state_of_run m.input choices in
     let made = step st course.machine in
-    let range = within m trace choices first course c e made.0 (may_wake e) in
+    let still = still_then m new trace choices first asleep course c e made.0 made.1 woken only in
+    let from = has.from in
+    let to = has.to in
+    let top = course.to in
+    let entry_is : (t : ℕ) → thread_entry m.input (state_after m.input st e) t ≡ None → thread_entry new.input (state_of_run new.input (choices ++ c ∷ [])) t ≡ None =
+    λ t none. ap (λ (i : Input). thread_entry i (state_of_run i (choices ++ c ∷ [])) t) same ∙ ap (λ (s : State). thread_entry m.input s t) (state_more m.input choices c e made.0) ∙ none in
     record {
       machine = subst (λ (i : Input). IsMachine new (state_of_run i (choices ++ c ∷ []))) (sym same) (subst (IsMachine new) (sym (state_more m.input choices c e made.0)) made.1);
       trace_is = ap (λ (l : List Entry). l ++ e ∷ []) course.trace_is ∙ sym (run_more m.input choices c e made.0) ∙ ap (λ (i : Input). run i (choices ++ c ∷ [])) (sym same);
       enabled = length-append trace (e ∷ []) ∙ ap (λ (k : ℕ). k + 1) course.enabled ∙ sym (length-append choices (c ∷ []));
-      still = λ t some before. ap (λ (i : Input). thread_entry i (state_of_run i (choices ++ c ∷ [])) t) same ∙ ap (λ (s : State). thread_entry m.input s t) (state_more m.input choices c e made.0)
-          ∙ still_then m trace choices first course c e made.0 (may_wake e) refl t some before;
-      from = range.0;
-      to = subst (λ (i : Input). cursor_then e first ≤ suc (thread_count i)) (sym same) range.1;
+      still = λ t some before. entry_is t (still t some (course.still t some (omega (arith, before, to))) (has.before t some before));
+      from = from;
+      to = subst (λ (i : Input). first_then ≤ suc (thread_count i)) (sym same) (omega (arith, to, top));
+      marked = λ place is. entry_is (suc place) (still (suc place) (omega arith) (course.marked place (has.marked place is)) (has.unwoken place is));
+      count = has.count ∙ course.count ∙ ap thread_count (sym same);
     }
 
 -- what runs is as good as before
-pub course_same : (m new : Running) (trace : List Entry) (choices : List Choice) (first : ℕ) → IsCourse m trace choices first → new.input ≡ m.input → IsMachine new (state_of_run m.input choices) → IsCourse new trace choices first
-course_same m new trace choices first course same is = record {
+pub course_same : (m new : Running) (trace : List Entry) (choices : List Choice) (first : ℕ) (asleep : List Bool) → IsCourse m trace choices first asleep → new.input ≡ m.input → IsMachine new (state_of_run m.input choices) →
+    IsCourse new trace choices first asleep
+course_same m new trace choices first asleep course same is = record {
   machine = subst (λ (i : Input). IsMachine new (state_of_run i choices)) (sym same) is;
   trace_is = course.trace_is ∙ ap (λ (i : Input). run i choices) (sym same);
   enabled = course.enabled;
   still = λ t some before. ap (λ (i : Input). thread_entry i (state_of_run i choices) t) same ∙ course.still t some before;
   from = course.from;
   to = subst (λ (i : Input). first ≤ suc (thread_count i)) (sym same) course.to;
+  marked = λ place is. ap (λ (i : Input). thread_entry i (state_of_run i choices) (suc place)) same ∙ course.marked place is;
+  count = course.count ∙ ap thread_count (sym same);
 }
+
+-- ---- asked for the first thread that can move
+
+-- the marks are lent out, and come back with more of them
+module _ (m : Running) (trace : List Entry) (choices : List Choice) (first : ℕ) (asleep : List Bool) (course : IsCourse m trace choices first asleep) (lent marks written : List Bool) (lent_is : lent ≡ asleep)
+    (still : (st : State) → IsMachine m st → AreStill m.input st lent → AreStill m.input st marks) (count : length marks ≡ length lent) (written_is : written ≡ marks) where
+  abbrev there : State
+  there = state_of_run m.input choices
+
+  lent_still : AreStill m.input there lent
+  lent_still = subst (AreStill m.input there) (sym lent_is) course.marked
+
+  written_still : AreStill m.input there written
+  written_still = subst (AreStill m.input there) (sym written_is) (still there course.machine lent_still)
+
+  written_count : length written ≡ thread_count m.input
+  written_count = ap length written_is ∙ count ∙ ap length lent_is ∙ course.count
+
+  -- the cursor stays
+  pub course_marked : IsCourse m trace choices first written
+  course_marked = record {
+    machine = course.machine;
+    trace_is = course.trace_is;
+    enabled = course.enabled;
+    still = course.still;
+    from = course.from;
+    to = course.to;
+    marked = written_still;
+    count = written_count;
+  }
+
+  module _ (first_then : ℕ) (found : (st : State) → IsMachine m st → AreStill m.input st lent → HasFirstAble m.input st first first_then) where
+    pub first_found : HasFirstAble m.input there first first_then
+    first_found = found there course.machine lent_still
+
+    -- or it has gone on
+    pub course_found : IsCourse m trace choices first_then written
+    course_found =
+        let from = course.from in
+        let on = first_found.from_on in
+        record {
+          machine = course.machine;
+          trace_is = course.trace_is;
+          enabled = course.enabled;
+          still = λ t some before. elim (leb_tells first t) [
+            | inl x ↦ first_found.none t x.1 before
+            | inr x ↦ course.still t some x.1
+          ];
+          from = omega (arith, from, on);
+          to = first_found.to;
+          marked = written_still;
+          count = written_count;
+        }

@@ -1,10 +1,11 @@
 -- What the cursor finds is the first choice that is enabled.
 use native.Mathlib.Omega.{arith}
-use Rattle.std.proofs.Common.{◌≡◌, ◌≤◌, ◌<◌, ◌∙◌, ℕ, zero, suc, ◌+◌, Bool, true, false, Option, Some, None, inl, inr, refl, ap, sym}
+use Rattle.std.proofs.Common.{◌≡◌, ◌≤◌, ◌<◌, ◌∙◌, ℕ, zero, suc, ◌+◌, Bool, true, false, List, set, Option, Some, None, inl, inr, refl, ap, sym}
 use Rattle.std.proofs.lemmas.Bool.{cases_eq}
+use Rattle.std.proofs.lemmas.List.{get_or-set_other}
 use Rattle.std.proofs.lemmas.Bool.Decides.{leb_tells}
 use Rattle.std.specs.Option.{option_map}
-use Rattle.std.specs.Prelude.{is_some}
+use Rattle.std.specs.Prelude.{is_some, IsSome}
 use Rattle.st_trace.specs.declared.entry.Choice.{Choice}
 use Rattle.st_trace.specs.declared.entry.Choice.TheVariants as choice
 use Rattle.st_trace.specs.declared.entry.Entry.{Entry}
@@ -13,7 +14,8 @@ use Rattle.st_law.specs.Schedules.{EnabledChoice, choice_or, first_enabled, firs
 use Rattle.st_law.specs.State.{State, thread_count}
 use Rattle.st_law.specs.declared.input.Input.{Input}
 use Rattle.st_machine.specs.Machine.{IsMachine, Running}
-use Rattle.st_kernel.specs.Cursor.{HasFirstAble, IsFirstServer, NoneAble, NoneServes}
+use Rattle.st_kernel.specs.Cursor.{HasFirstAble, IsFirstServer, NoneServes}
+use Rattle.st_kernel.specs.Waking.{AreStill, is_asleep}
 
 -- ---- one after the other
 
@@ -21,16 +23,45 @@ none_by : (b : Bool) (o : Option Entry) → b ≡ is_some o → b ≡ false → 
 none_by b None says e = refl
 none_by b (Some entry) says e = let clash = sym e ∙ says in cc
 
+-- no thread from one number up to another can move, where those that are marked as asleep can't
+abbrev pub NoneAble : Running → List Bool → (from to : ℕ) → Type 0
+NoneAble m asleep from to = (st : State) → IsMachine m st → AreStill m.input st asleep → (t : ℕ) → from ≤ t → t < to → thread_entry m.input st t ≡ None
+
+-- and those that are marked now can't either
+abbrev pub MarksStill : Running → (asleep asleep_then : List Bool) → Type 0
+MarksStill m asleep asleep_then = (st : State) → IsMachine m st → AreStill m.input st asleep → AreStill m.input st asleep_then
+
 -- one thread more can't move
-pub next_unable : (m : Running) (from to : ℕ) → NoneAble m from to → (b : Bool) → ((st : State) → IsMachine m st → b ≡ is_some (thread_entry m.input st to)) → b ≡ false → NoneAble m from (to + 1)
-next_unable m from to none b says e st is t low high = elim (cases_eq t to) [
-  | inl same ↦ ap (thread_entry m.input st) same ∙ none_by b (thread_entry m.input st to) (says st is) e
-  | inr ne ↦ none st is t low (omega (arith, high, ne))
+more_unable : (m : Running) (asleep : List Bool) (from to : ℕ) → NoneAble m asleep from to → ((st : State) → IsMachine m st → AreStill m.input st asleep → thread_entry m.input st to ≡ None) → NoneAble m asleep from (to + 1)
+more_unable m asleep from to none here st is still t low high = elim (cases_eq t to) [
+  | inl same ↦ ap (thread_entry m.input st) same ∙ here st is still
+  | inr ne ↦ none st is still t low (omega (arith, high, ne))
 ]
 
--- none can
-pub none_able : (m : Running) (from end : ℕ) → NoneAble m from end → from ≤ end → end ≡ suc (thread_count m.input) → HasFirstAble m from end
-none_able m from end none low is = record { from_on = low; to = omega (arith, is); none = none; able = λ within st machine. absurd (omega (arith, is, within)) }
+-- since it is marked
+pub marked_unable : (m : Running) (asleep marks : List Bool) (from t place : ℕ) → suc place ≡ t → NoneAble m asleep from t → MarksStill m asleep marks → is_asleep marks place ≡ true → NoneAble m asleep from (t + 1)
+marked_unable m asleep marks from t place at none still is =
+    more_unable m asleep from t none (λ st machine before. ap (thread_entry m.input st) (sym at) ∙ still st machine before place is)
+
+-- or since the machine says so
+unable : (m : Running) (t : ℕ) (b : Bool) → ((st : State) → IsMachine m st → b ≡ is_some (thread_entry m.input st t)) → b ≡ false → (st : State) → IsMachine m st → thread_entry m.input st t ≡ None
+unable m t b says e st is = none_by b (thread_entry m.input st t) (says st is) e
+
+pub next_unable : (m : Running) (asleep : List Bool) (from to : ℕ) → NoneAble m asleep from to → (b : Bool) → ((st : State) → IsMachine m st → b ≡ is_some (thread_entry m.input st to)) → b ≡ false → NoneAble m asleep from (to + 1)
+next_unable m asleep from to none b says e = more_unable m asleep from to none (λ st is still. unable m to b says e st is)
+
+-- then it may be marked
+pub next_marked : (m : Running) (asleep marks : List Bool) (t place : ℕ) → suc place ≡ t → MarksStill m asleep marks → (b : Bool) → ((st : State) → IsMachine m st → b ≡ is_some (thread_entry m.input st t)) → b ≡ false →
+    MarksStill m asleep (set marks place true)
+next_marked m asleep marks t place at still b says e st is before other marked = elim (cases_eq other place) [
+  | inl same ↦ ap (λ (k : ℕ). thread_entry m.input st (suc k)) same ∙ ap (thread_entry m.input st) at ∙ unable m t b says e st is
+  | inr ne ↦ still st is before other (sym (get_or-set_other marks place other true false ne) ∙ marked)
+]
+
+-- the first that can
+pub first_by : (m : Running) (asleep : List Bool) (from to : ℕ) → NoneAble m asleep from to → from ≤ to → to ≤ suc (thread_count m.input) → ((st : State) → IsMachine m st → to ≤ thread_count m.input → IsSome (thread_entry m.input st to)) →
+    (st : State) → IsMachine m st → AreStill m.input st asleep → HasFirstAble m.input st from to
+first_by m asleep from to none low high can st is still = record { from_on = low; to = high; none = none st is still; able = can st is }
 
 -- one worker more can't
 pub next_idle : (m : Running) (to : ℕ) → NoneServes m to → (b : Bool) → ((st : State) → IsMachine m st → b ≡ is_some (worker_entry m.input st to)) → b ≡ false → NoneServes m (to + 1)
@@ -72,37 +103,37 @@ module _ (m : Running) (st : State) (is : IsMachine m st) where
   workers = first_enabled_of choice.Worker m.input st 1 m.input.options.workers (choice_or choice.Operator (entry_of m.input st choice.Operator) None)
 
   -- a thread, where none before it can move
-  pub thread_first : (from first : ℕ) → ((t : ℕ) → 1 ≤ t → t < from → thread_entry m.input st t ≡ None) → 1 ≤ from → HasFirstAble m from first → first ≤ thread_count m.input → Some (choice.Thread first) ≡ chosen (first_enabled m.input st)
+  pub thread_first : (from first : ℕ) → ((t : ℕ) → 1 ≤ t → t < from → thread_entry m.input st t ≡ None) → 1 ≤ from → HasFirstAble m.input st from first → first ≤ thread_count m.input → Some (choice.Thread first) ≡ chosen (first_enabled m.input st)
   thread_first from first before some able within =
       let on = able.from_on in
-      sym (found choice.Thread m.input st 1 (thread_count m.input) workers first (omega (arith, some, on)) (omega (arith, within)) (λ t low high. by t low high) (able.able within st is)) where
+      sym (found choice.Thread m.input st 1 (thread_count m.input) workers first (omega (arith, some, on)) (omega (arith, within)) (λ t low high. by t low high) (able.able within)) where
         by : (t : ℕ) → 1 ≤ t → t < first → thread_entry m.input st t ≡ None
         by t low high = elim (leb_tells from t) [
-          | inl x ↦ able.none st is t x.1 high
+          | inl x ↦ able.none t x.1 high
           | inr x ↦ before t low x.1
         ]
 
-  no_thread : (from first : ℕ) → ((t : ℕ) → 1 ≤ t → t < from → thread_entry m.input st t ≡ None) → HasFirstAble m from first → thread_count m.input < first → first_enabled m.input st ≡ workers
+  no_thread : (from first : ℕ) → ((t : ℕ) → 1 ≤ t → t < from → thread_entry m.input st t ≡ None) → HasFirstAble m.input st from first → thread_count m.input < first → first_enabled m.input st ≡ workers
   no_thread from first before able beyond = none_of choice.Thread m.input st 1 (thread_count m.input) workers by where
     by : (t : ℕ) → 1 ≤ t → t < 1 + thread_count m.input → thread_entry m.input st t ≡ None
     by t low high = elim (leb_tells from t) [
-      | inl x ↦ able.none st is t x.1 (omega (arith, high, beyond))
+      | inl x ↦ able.none t x.1 (omega (arith, high, beyond))
       | inr x ↦ before t low x.1
     ]
 
   -- else a worker
-  pub worker_first : (from first worker : ℕ) → ((t : ℕ) → 1 ≤ t → t < from → thread_entry m.input st t ≡ None) → HasFirstAble m from first → thread_count m.input < first → IsFirstServer m worker → Some (choice.Worker worker) ≡ chosen (first_enabled m.input st)
+  pub worker_first : (from first worker : ℕ) → ((t : ℕ) → 1 ≤ t → t < from → thread_entry m.input st t ≡ None) → HasFirstAble m.input st from first → thread_count m.input < first → IsFirstServer m worker → Some (choice.Worker worker) ≡ chosen (first_enabled m.input st)
   worker_first from first worker before able beyond server =
       let to = server.to in
       sym (ap chosen (no_thread from first before able beyond) ∙ found choice.Worker m.input st 1 m.input.options.workers (choice_or choice.Operator (entry_of m.input st choice.Operator) None) worker server.from (omega (arith, to)) (λ w low high. server.none st is w low high) (server.serves st is))
 
-  no_worker : (from first : ℕ) → ((t : ℕ) → 1 ≤ t → t < from → thread_entry m.input st t ≡ None) → HasFirstAble m from first → thread_count m.input < first → NoneServes m (suc m.input.options.workers) → first_enabled m.input st ≡ choice_or choice.Operator (entry_of m.input st choice.Operator) None
+  no_worker : (from first : ℕ) → ((t : ℕ) → 1 ≤ t → t < from → thread_entry m.input st t ≡ None) → HasFirstAble m.input st from first → thread_count m.input < first → NoneServes m (suc m.input.options.workers) → first_enabled m.input st ≡ choice_or choice.Operator (entry_of m.input st choice.Operator) None
   no_worker from first before able beyond none =
       no_thread from first before able beyond
       ∙ none_of choice.Worker m.input st 1 m.input.options.workers (choice_or choice.Operator (entry_of m.input st choice.Operator) None) (λ w low high. none st is w low (omega (arith, high)))
 
   -- else the operator, if there is a question
-  pub operator_first : (from first : ℕ) → ((t : ℕ) → 1 ≤ t → t < from → thread_entry m.input st t ≡ None) → HasFirstAble m from first → thread_count m.input < first → NoneServes m (suc m.input.options.workers)
+  pub operator_first : (from first : ℕ) → ((t : ℕ) → 1 ≤ t → t < from → thread_entry m.input st t ≡ None) → HasFirstAble m.input st from first → thread_count m.input < first → NoneServes m (suc m.input.options.workers)
       → (b : Bool) → b ≡ is_some (entry_of m.input st choice.Operator) → b ≡ true → Some choice.Operator ≡ chosen (first_enabled m.input st)
   operator_first from first before able beyond none b says can = sym (ap chosen (no_worker from first before able beyond none) ∙ by (entry_of m.input st choice.Operator) (sym says ∙ can)) where
     by : (o : Option Entry) → is_some o ≡ true → chosen (choice_or choice.Operator o None) ≡ Some choice.Operator
@@ -110,7 +141,7 @@ module _ (m : Running) (st : State) (is : IsMachine m st) where
     by (Some entry) e = refl
 
   -- else nobody
-  pub nobody_first : (from first : ℕ) → ((t : ℕ) → 1 ≤ t → t < from → thread_entry m.input st t ≡ None) → HasFirstAble m from first → thread_count m.input < first → NoneServes m (suc m.input.options.workers)
+  pub nobody_first : (from first : ℕ) → ((t : ℕ) → 1 ≤ t → t < from → thread_entry m.input st t ≡ None) → HasFirstAble m.input st from first → thread_count m.input < first → NoneServes m (suc m.input.options.workers)
       → (b : Bool) → b ≡ is_some (entry_of m.input st choice.Operator) → b ≡ false → None ≡ chosen (first_enabled m.input st)
   nobody_first from first before able beyond none b says cannot = sym (ap chosen (no_worker from first before able beyond none) ∙ by (entry_of m.input st choice.Operator) (sym says ∙ cannot)) where
     by : (o : Option Entry) → is_some o ≡ false → chosen (choice_or choice.Operator o None) ≡ None

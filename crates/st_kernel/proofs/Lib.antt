@@ -2,3 +2,4 @@ mod Courses
 mod Cursors
 mod Plays
 mod Rests
+mod Unwoken

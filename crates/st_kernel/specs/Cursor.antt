@@ -2,18 +2,15 @@
 use Rattle.std.specs.Prelude.{◌≡◌, ◌≤◌, ◌<◌, ℕ, suc, Option, Some, None, IsSome}
 use Rattle.st_law.specs.Machine.{thread_entry, worker_entry}
 use Rattle.st_law.specs.State.{State, thread_count}
+use Rattle.st_law.specs.declared.input.Input.{Input}
 use Rattle.st_machine.specs.Machine.{IsMachine, Running}
 
--- no thread from one number up to another can move, in each state that the machine may be in
-abbrev pub NoneAble : Running → ℕ → ℕ → Type 0
-NoneAble m from to = (st : State) → IsMachine m st → (t : ℕ) → from ≤ t → t < to → thread_entry m.input st t ≡ None
-
 -- the first thread from this one on that can move, or the number behind the last
-pub record HasFirstAble (m : Running) (from first : ℕ) : Type 0 where
+pub record HasFirstAble (i : Input) (st : State) (from first : ℕ) : Type 0 where
   pub from_on : from ≤ first
-  pub to : first ≤ suc (thread_count m.input)
-  pub none : NoneAble m from first
-  pub able : first ≤ thread_count m.input → (st : State) → IsMachine m st → IsSome (thread_entry m.input st first)
+  pub to : first ≤ suc (thread_count i)
+  pub none : (t : ℕ) → from ≤ t → t < first → thread_entry i st t ≡ None
+  pub able : first ≤ thread_count i → IsSome (thread_entry i st first)
 
 -- no worker below this number can move
 abbrev pub NoneServes : Running → ℕ → Type 0

@@ -1,16 +1,14 @@
 -- A run so far, as the kernel keeps it.
 use Rattle.std.specs.Prelude.{◌≡◌, ◌≤◌, ◌<◌, ℕ, suc, Bool, true, false, List, [], ◌∷◌, ◌++◌, length, Option, None, option_map}
-use Rattle.std.specs.List.{list_any}
 use Rattle.st_trace.specs.declared.entry.Choice.{Choice}
 use Rattle.st_trace.specs.declared.entry.Entry.{Entry}
-use Rattle.st_trace.specs.declared.entry.Entry.TheVariants.{Used, Faulted, Answered, Learned, Replied}
 use Rattle.st_law.specs.declared.input.Input.{Input}
 use Rattle.st_law.specs.Inputs.{IsStartable}
 use Rattle.st_law.specs.Machine.{entry_of, run, state_of_run, thread_entry, IsEnabled}
 use Rattle.st_law.specs.Schedules.{Played, first_enabled, most_steps, rest_from}
 use Rattle.st_law.specs.State.{thread_count}
 use Rattle.st_machine.specs.Machine.{IsMachine, Running}
-use Rattle.st_reached.specs.Waiting.{wakes_all}
+use Rattle.st_kernel.specs.Waking.{AreStill}
 
 -- an input, and the choices that were made
 pub record Course : Type 0 where
@@ -47,21 +45,14 @@ next_of course = option_map (λ found. found.choice) (first_enabled course.input
 abbrev pub rested : Course → Course
 rested course = record { input = course.input; choices = (rest_from (most_steps course.input) course.input (state_of_run course.input course.choices) course.choices).choices }
 
--- whether an entry may wake a thread that is still
-abbrev pub may_wake : Entry → Bool
-may_wake (Used t seq call regs args ids result changes) = list_any wakes_all changes
-may_wake (Faulted q errno) = true
-may_wake (Answered w s v applied) = applied
-may_wake (Learned q n) = true
-may_wake (Replied q reply n) = true
-may_wake _ = false
-
--- what runs is the machine behind these choices, each of them was enabled at its turn, the trace is their run, and no thread before the
--- cursor can move
-pub record IsCourse (m : Running) (trace : List Entry) (choices : List Choice) (first : ℕ) : Type 0 where
+-- what runs is the machine behind these choices, each of them was enabled at its turn, the trace is their run, and no thread can move that
+-- stands before the cursor or is marked as asleep
+pub record IsCourse (m : Running) (trace : List Entry) (choices : List Choice) (first : ℕ) (asleep : List Bool) : Type 0 where
   pub machine : IsMachine m (state_of_run m.input choices)
   pub trace_is : trace ≡ run m.input choices
   pub enabled : length trace ≡ length choices
   pub still : (t : ℕ) → 1 ≤ t → t < first → thread_entry m.input (state_of_run m.input choices) t ≡ None
   pub from : 1 ≤ first
   pub to : first ≤ suc (thread_count m.input)
+  pub marked : AreStill m.input (state_of_run m.input choices) asleep
+  pub count : length asleep ≡ thread_count m.input

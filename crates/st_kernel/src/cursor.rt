@@ -1,63 +1,37 @@
-// The first choice that is enabled, found by a cursor: before it no thread can move.
-ghost use Rattle.std.specs.Prelude.{◌≡◌, ◌≤◌, ◌<◌, suc, true, if◌then◌else◌, IfOk};
-ghost use Rattle.std.specs.List.{list_any};
-ghost use Rattle.st_law.specs.State.{thread_count};
-ghost use Rattle.st_reached.specs.Waiting.{wakes_all};
+// The first choice that is enabled. Threads before the cursor can't move, and those that are marked as asleep can't either.
+ghost use Rattle.std.specs.Prelude.{◌≡◌, ◌≤◌, suc, length, IfOk};
+ghost use Rattle.st_law.specs.State.{State, thread_count};
+ghost use Rattle.st_machine.specs.Machine.{IsMachine};
 ghost use Rattle.st_kernel.specs.Cursor.{HasFirstAble, HasFirstServer};
-ghost use Rattle.st_kernel.specs.Kernel.{may_wake};
+ghost use Rattle.st_kernel.specs.Waking.{AreStill};
 
 use st_base::{Tid, Worker};
 use st_machine::Machine;
-use st_trace::{Change, Entry};
 use std::alloc::{AllocError, Global};
 
-// Whether a change may let any thread move: a process ends, runs another binary, or has a child.
-fn wakes_all(change: &Change) -> bool
-    ensures { result ≡ wakes_all change.now }
-{
-    matches!(
-        change,
-        Change::Forked { .. } | Change::Execed { .. } | Change::Dying(_)
-    )
-}
-
-// Whether one of these changes may.
-fn wakes_some(changes: &[Change]) -> bool
-    ensures { result ≡ list_any wakes_all changes.now }
-{
-    changes.iter().any(|change| wakes_all(change))
-}
-
-// Whether an entry may let a thread move that couldn't before.
-fn may_wake(entry: &Entry) -> bool
-    ensures { result ≡ may_wake entry.now }
-{
-    match entry {
-        Entry::Used { changes, .. } => wakes_some(changes.as_slice()),
-        Entry::Faulted { .. } => true,
-        Entry::Answered { applied, .. } => *applied,
-        Entry::Learned { .. } | Entry::Replied { .. } => true,
-        _ => false,
-    }
-}
-
-/// Where the cursor stands behind an entry: before all threads where one of them may have been woken.
-pub fn cursor_behind(first: Tid, entry: &Entry) -> Tid
-    ensures { result ≡ (if may_wake entry.now then 1 else first) }
-{
-    if may_wake(entry) { 1 } else { first }
-}
-
-/// The first thread from this one on that can move; the number behind the last where none can.
-pub fn first_able(machine: &Machine<'_>, alloc: Global, from: Tid) -> Result<Tid, AllocError>
+/// The first thread from this one on that can move; the number behind the last where none can. Those that it passes are marked as
+/// asleep; thread t stands at t - 1.
+pub fn first_able(
+    machine: &Machine<'_>,
+    alloc: Global,
+    from: Tid,
+    asleep: &mut [bool],
+) -> Result<Tid, AllocError>
     requires from { 1 ≤ from }
     requires to { from ≤ suc (thread_count machine.now.input) }
-    ensures { IfOk result (HasFirstAble machine.now from) }
+    requires count { length asleep.old ≡ thread_count machine.now.input }
+    ensures first { IfOk result (λ first. (st : State) → IsMachine machine.now st → AreStill machine.now.input st asleep.old → HasFirstAble machine.now.input st from first) }
+    ensures still { (st : State) → IsMachine machine.now st → AreStill machine.now.input st asleep.old → AreStill machine.now.input st asleep.new }
+    ensures count { length asleep.new ≡ length asleep.old }
 {
     let end = machine.thread_count() + 1;
     for tid in from..end {
-        if machine.can_move(alloc, tid)? {
-            return Ok(tid);
+        let place = tid as usize - 1;
+        if !asleep[place] {
+            if machine.can_move(alloc, tid)? {
+                return Ok(tid);
+            }
+            asleep[place] = true;
         }
     }
     Ok(end)

@@ -7,7 +7,8 @@ ghost use Rattle.st_reached.specs.Scripts.{IsBounded};
 ghost use Rattle.st_system.specs.Start.{CanStart};
 ghost use Rattle.st_kernel.specs.Kernel.{next_of, rested, with_choice, Continues, IsChosen, IsPlayed};
 
-use crate::cursor::{cursor_behind, first_able, first_server};
+use crate::cursor::{first_able, first_server};
+use crate::waking::woken_by;
 use st_base::Tid;
 use st_law::Input;
 use st_machine::Machine;
@@ -42,8 +43,10 @@ pub struct Kernel<'a> {
     machine: Machine<'a>,
     trace: Vec<Entry>,
     schedule: Vec<Choice>,
-    // No thread before this one can move.
+    // No thread before this one can move,
     first: Tid,
+    // nor one that is marked here. Thread t stands at t - 1.
+    asleep: Vec<bool>,
 }
 
 impl<'a> Model for Kernel<'a> {
@@ -57,7 +60,7 @@ impl<'a> Model for Kernel<'a> {
 
     ghost view = { λ k. record { input = k.machine.input; choices = k.schedule.items } };
 
-    ghost invariant = { λ k. IsCourse k.machine k.trace.items k.schedule.items k.first };
+    ghost invariant = { λ k. IsCourse k.machine k.trace.items k.schedule.items k.first k.asleep.items };
 }
 
 impl<'a> Kernel<'a> {
@@ -71,11 +74,14 @@ impl<'a> Kernel<'a> {
         ensures input { IfOk result (λ kernel. kernel.input ≡ input.now) }
         ensures choices { IfOk result (λ kernel. kernel.choices ≡ []) }
     {
+        let machine = Machine::start(alloc, input)?;
+        let asleep = vec![in alloc; false; machine.thread_count() as usize]?;
         Ok(Kernel {
-            machine: Machine::start(alloc, input)?,
+            machine,
             trace: Vec::new(alloc),
             schedule: Vec::new(alloc),
             first: 1,
+            asleep,
         })
     }
 
@@ -125,7 +131,9 @@ impl<'a> Kernel<'a> {
         self.schedule.reserve(1)?;
         match self.machine.choose(alloc, choice)? {
             Some(entry) => {
-                self.first = cursor_behind(self.first, &entry);
+                let woken = woken_by(&self.machine, &entry);
+                self.first = woken.cursor(self.first);
+                woken.wake(&mut self.asleep);
                 self.trace.push_reserved(entry);
                 self.schedule.push_reserved(choice);
                 Ok(true)
@@ -154,7 +162,7 @@ impl<'a> Kernel<'a> {
         ensures same { self.new ≡ self.old }
         ensures played { IsPlayed self.old }
     {
-        self.first = first_able(&self.machine, alloc, self.first)?;
+        self.first = first_able(&self.machine, alloc, self.first, &mut self.asleep)?;
         if self.first <= self.machine.thread_count() {
             return Ok(Some(Choice::Thread(self.first)));
         }

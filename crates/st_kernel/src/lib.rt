@@ -4,6 +4,7 @@
 mod cursor;
 pub mod kernel;
 pub mod play;
+mod waking;
 
 pub use kernel::{Kernel, StepFault};
 pub use play::PlayFault;

@@ -1,0 +1,116 @@
+// Which threads an entry may wake, so that the others needn't be asked again whether they can move.
+ghost use Rattle.std.specs.Prelude.{◌≡◌, ◌==◌, ◌≤◌, ◌<◌, ℕ, suc, true, false, length};
+ghost use Rattle.std.specs.List.{list_any};
+ghost use Rattle.st_law.specs.State.{State};
+ghost use Rattle.st_machine.specs.Machine.{IsMachine};
+ghost use Rattle.st_reached.specs.Waiting.{is_message_by, wakes, wakes_all};
+ghost use Rattle.st_kernel.specs.Waking.{is_asleep, is_woken};
+
+use st_base::{Seq, Tid};
+use st_machine::Machine;
+use st_trace::{Change, Entry};
+
+/// Which threads may move behind an entry and couldn't before.
+#[derive(Clone, Copy, Debug, PartialEq, Eq)]
+pub enum Woken {
+    Nobody,
+    One(Tid),
+    Everybody,
+}
+
+// Whether a change may let any thread move: a process ends, runs another binary, or has a child.
+fn wakes_all(change: &Change) -> bool
+    ensures { result ≡ wakes_all change.now }
+{
+    matches!(
+        change,
+        Change::Forked { .. } | Change::Execed { .. } | Change::Dying(_)
+    )
+}
+
+// Whether one of these changes may.
+fn wakes_some(changes: &[Change]) -> bool
+    ensures { result ≡ list_any wakes_all changes.now }
+{
+    changes.iter().any(|change| wakes_all(change))
+}
+
+// The thread that holds the call of a number, or all of them where it isn't known.
+fn holder(machine: &Machine<'_>, seq: Seq) -> Woken
+    ensures { (st : State) → IsMachine machine.now st → (t : ℕ) → is_message_by st t seq ≡ true → is_woken result t ≡ true }
+{
+    match machine.holder(seq) {
+        Some(tid) => Woken::One(tid),
+        None => Woken::Everybody,
+    }
+}
+
+/// Which threads an entry may wake, by the machine behind it.
+pub fn woken_by(machine: &Machine<'_>, entry: &Entry) -> Woken
+    ensures { (st : State) → IsMachine machine.now st → (t : ℕ) → wakes st entry.now t ≡ true → is_woken result t ≡ true }
+{
+    match entry {
+        Entry::Used { changes, .. } => {
+            if wakes_some(changes.as_slice()) {
+                Woken::Everybody
+            } else {
+                Woken::Nobody
+            }
+        }
+        Entry::Faulted { seq, .. } => holder(machine, *seq),
+        Entry::Answered {
+            snapshot,
+            applied,
+            ..
+        } => {
+            if *applied {
+                holder(machine, snapshot.seq)
+            } else {
+                Woken::Nobody
+            }
+        }
+        Entry::Learned { .. } | Entry::Replied { .. } => Woken::Everybody,
+        _ => Woken::Nobody,
+    }
+}
+
+// Marks a thread as awake, if there is one of this number.
+fn mark_awake(tid: Tid, asleep: &mut [bool])
+    ensures count { length asleep.new ≡ length asleep.old }
+    ensures before { (place : ℕ) → is_asleep asleep.new place ≡ true → is_asleep asleep.old place ≡ true }
+    ensures awake { (place : ℕ) → is_asleep asleep.new place ≡ true → (suc place == tid) ≡ false }
+{
+    if tid > 0 && tid as usize <= asleep.len() {
+        asleep[tid as usize - 1] = false;
+    }
+}
+
+impl Woken {
+    /// Where a cursor stands that stood here: not behind a thread that was woken.
+    pub fn cursor(self, first: Tid) -> Tid
+        requires { 1 ≤ first }
+        ensures from { 1 ≤ result }
+        ensures to { result ≤ first }
+        ensures before { (t : ℕ) → 1 ≤ t → t < result → is_woken self t ≡ false }
+    {
+        match self {
+            Woken::Nobody => first,
+            Woken::One(0) => first,
+            Woken::One(tid) => first.min(tid),
+            Woken::Everybody => 1,
+        }
+    }
+
+    /// Marks the threads that were woken as awake; thread t stands at t - 1.
+    pub fn wake(self, asleep: &mut [bool])
+        ensures count { length asleep.new ≡ length asleep.old }
+        ensures before { (place : ℕ) → is_asleep asleep.new place ≡ true → is_asleep asleep.old place ≡ true }
+        ensures woken { (place : ℕ) → is_asleep asleep.new place ≡ true → is_woken self (suc place) ≡ false }
+    {
+        match self {
+            Woken::Nobody => {}
+            Woken::One(tid) => mark_awake(tid, asleep),
+            Woken::Everybody => asleep.fill(false),
+        }
+    }
+}
