@@ -1,6 +1,7 @@
 pub mod Fetched
 pub mod Leads
 pub mod Meanings
+pub mod ReadFiles
 pub mod Refusals
 pub mod Runnable
 mod Unasked

@@ -1,0 +1,86 @@
+-- What has to be read where a command means a run or a text.
+use Rattle.std.proofs.Common.{◌≡◌, ℕ, ◌+◌, inl, inr, List, [], ◌∷◌, Result, Ok, Err, refl, subst}
+use Rattle.st_outside.specs.Files.{CanHold}
+use Rattle.st_filter.specs.declared.set.BinaryPolicy.{BinaryPolicy}
+use Rattle.st_policy.specs.Grammar.{Reads}
+use Rattle.st_policy.specs.declared.env.Env.{Env}
+use Rattle.st_law.specs.declared.input.Input.{Input}
+use Rattle.st_schedule.specs.Schedule.{schedule_in}
+use Rattle.st_script_faults.specs.declared.fault.ScriptFault.{ScriptFault}
+use Rattle.st_script.specs.Reading.{script_in}
+use Rattle.st_script.specs.Startable.{input_with}
+use Rattle.st_script.specs.declared.reading.ReadScript.{ReadScript}
+use Rattle.st_command.specs.Words.{Word}
+use Rattle.st_command.specs.Command.{StepWords}
+use Rattle.st_reading.specs.Meaning.{Held, Meaning, Stops, Refuses, Runs, Prints, Fetches, SaysScript, SaysPolicy, MeansPolicies, MeansSchedule, MeansBehindScript, MeansStep}
+use Rattle.st_reading.specs.declared.refusal.Which.{Which}
+use Rattle.st_reading.specs.declared.refusal.Which.TheVariants as which
+
+-- a meaning is neither a stop nor a refusal
+abbrev pub IsRead : Meaning → Type 0
+IsRead (Stops w) = ⊥
+IsRead (Refuses refusal) = ⊥
+IsRead (Runs input schedule) = Unit {0}
+IsRead (Prints text) = Unit {0}
+
+-- what can be said of policies that were read with these names
+abbrev pub PolicyProperty : Type 1
+PolicyProperty = Env → List BinaryPolicy → Type 0
+
+-- it still holds when one more file of policies is read
+abbrev pub IsKept : PolicyProperty → Held → Type 0
+IsKept P held = (env : Env) (name : Word) (text : List ℕ) (old set : List BinaryPolicy) → CanHold (held name) text → Reads text env old set → P env old → P env set
+
+module _ (held : Held) (outcome : Meaning) (read : IsRead outcome) where
+  -- each file that is come to is fetched
+  pub fetched : (name : Word) (w : Which) (Read : List ℕ → Type 0) → Fetches (held name) w Read outcome → (text : List ℕ) × CanHold (held name) text × Read text
+  fetched name w Read (inl is) = absurd (subst IsRead is read)
+  fetched name w Read (inr (inl p)) = absurd (subst IsRead p.1 read)
+  fetched name w Read (inr (inr (inl p))) = absurd (subst IsRead p.1 read)
+  fetched name w Read (inr (inr (inr p))) = (p.0, p.1, p.3)
+
+  pub script_read : (said : Result ReadScript ScriptFault) (Read : ReadScript → Type 0) → SaysScript said Read outcome → (script : ReadScript) × (said ≡ Ok script) × Read script
+  script_read (Ok script) Read meant = (script, refl, meant)
+  script_read (Err fault) Read meant = absurd (subst IsRead meant read)
+
+  pub text_read : (text : List ℕ) (env : Env) (before : List BinaryPolicy) (n : ℕ) (Read : List BinaryPolicy → Type 0) → SaysPolicy text env before n Read outcome →
+      (policies : List BinaryPolicy) × Reads text env before policies × Read policies
+  text_read text env before n Read (inl p) = p
+  text_read text env before n Read (inr p) = absurd (subst IsRead p.2 read)
+
+  -- policies are read, of which that holds which is kept
+  pub policies_read : (P : PolicyProperty) → IsKept P held → (env : Env) (Read : List BinaryPolicy → Type 0) (names : List Word) (n : ℕ) (before : List BinaryPolicy) → P env before →
+      MeansPolicies held env n names before Read outcome → (policies : List BinaryPolicy) × P env policies × Read policies
+  policies_read P keeps env Read [] n before kept meant = (before, kept, meant)
+  policies_read P keeps env Read (name ∷ names) n before kept meant =
+      let further : List BinaryPolicy → Type 0 = λ policies. MeansPolicies held env (n + 1) names policies Read outcome in
+      let x = fetched name (which.Policy n) (λ text. SaysPolicy text env before n further outcome) meant in
+      let y = text_read x.0 env before n further x.2 in
+      policies_read P keeps env Read names (n + 1) y.0 (keeps env name x.0 before y.0 x.1 y.1 kept) y.2
+
+-- ---- `step`
+
+-- what `step` was read as, where it means a run or a text
+pub record IsStepRead (P : PolicyProperty) (held : Held) (step : StepWords) (outcome : Meaning) : Type 0 where
+  pub script_text : List ℕ
+  pub script_held : CanHold (held step.script) script_text
+  pub script : ReadScript
+  pub script_is : script_in script_text step.options ≡ Ok script
+  pub policies : List BinaryPolicy
+  pub kept : P script.env policies
+  pub schedule_text : List ℕ
+  pub schedule_held : CanHold (held step.schedule) schedule_text
+  pub outcome_is : outcome ≡ Runs (input_with policies step.options script) (schedule_in schedule_text)
+
+pub step_read : (P : PolicyProperty) → ((env : Env) → P env []) → (held : Held) → IsKept P held → (step : StepWords) (outcome : Meaning) → IsRead outcome → MeansStep held step outcome → IsStepRead P held step outcome
+step_read P none held keeps step outcome read meant =
+    let x = fetched held outcome read step.script which.Script (λ text. SaysScript (script_in text step.options) (λ script. MeansBehindScript held step script outcome) outcome) meant in
+    let s = script_read held outcome read (script_in x.0 step.options) (λ script. MeansBehindScript held step script outcome) x.2 in
+    let p = policies_read held outcome read P keeps s.0.env (λ policies. MeansSchedule held step s.0 policies outcome) step.policies 1 [] (none s.0.env) s.2 in
+    let c = fetched held outcome read step.schedule which.Schedule (λ text. outcome ≡ Runs (input_with p.0 step.options s.0) (schedule_in text)) p.2 in
+    record { script_text = x.0; script_held = x.1; script = s.0; script_is = s.1; policies = p.0; kept = p.1; schedule_text = c.0; schedule_held = c.1; outcome_is = c.2 }
+
+-- the input of a run, else the other
+abbrev pub input_or : Input → Meaning → Input
+input_or other (Runs i s) = i
+input_or other _ = other
