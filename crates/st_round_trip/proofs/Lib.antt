@@ -1,0 +1,2 @@
+mod Enforced
+mod ReadAgain

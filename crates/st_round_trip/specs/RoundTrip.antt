@@ -1,0 +1,37 @@
+-- A text of policies that `step` has written, read again.
+use Rattle.std.specs.Prelude.{◌≡◌, ℕ, false, List, [], Ok}
+use Rattle.st_command.specs.Command.{StepWords}
+use Rattle.st_command.specs.Words.{Word}
+use Rattle.st_filter.specs.declared.set.BinaryPolicy.{BinaryPolicy}
+use Rattle.st_outside.specs.Files.{FileView, Unknown, Absent, FileBytes, CanHold}
+use Rattle.st_policy.specs.Grammar.{Reads}
+use Rattle.st_policy.specs.Readable.{AreTextBytes}
+use Rattle.st_policy.specs.declared.env.Env.{Env}
+use Rattle.st_reading.specs.Meaning.{Held}
+use Rattle.st_script.specs.Reading.{script_in}
+use Rattle.st_script.specs.declared.reading.ReadScript.{ReadScript}
+
+-- it is told what a name holds, and a file is of bytes
+abbrev pub HoldsBytes : FileView → Type 0
+HoldsBytes Unknown = ⊥
+HoldsBytes Absent = Unit {0}
+HoldsBytes (FileBytes text) = AreTextBytes text
+
+-- so does each name
+abbrev pub HoldBytes : Held → Type 0
+HoldBytes held = (name : Word) → HoldsBytes (held name)
+
+-- the script that `step` reads
+pub record IsScriptOf (held : Held) (step : StepWords) (script : ReadScript) : Type 0 where
+  pub text : List ℕ
+  pub there : CanHold (held step.script) text
+  pub is : script_in text step.options ≡ Ok script
+
+-- the names and texts that policies were read with, for filters that aren't learnt
+abbrev pub enforcing : Env → Env
+enforcing env = record { users = env.users; groups = env.groups; dollars = env.dollars; elevate = env.elevate; learn = false }
+
+-- a text is read alone as these policies, and as no others
+pub record IsReadAgain (text : List ℕ) (env : Env) (policies : List BinaryPolicy) : Type 0 where
+  pub reads : Reads text env [] policies
+  pub alone : (other : List BinaryPolicy) → Reads text env [] other → other ≡ policies

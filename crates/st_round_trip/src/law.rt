@@ -1,0 +1,54 @@
+ghost use Rattle.std.specs.Prelude.{◌≡◌, ◌≤◌, ◌∷◌, List, [], reverse};
+ghost use Rattle.st_command.specs.Command.{StepWords};
+ghost use Rattle.st_command.specs.Reading.{IsWithinLimits};
+ghost use Rattle.st_command.specs.Words.{Word};
+ghost use Rattle.st_command.specs.declared.command.Command.TheVariants.{Step};
+ghost use Rattle.st_command.specs.declared.given.Print.TheVariants as print;
+ghost use Rattle.st_filter.specs.Policies.{filters_in};
+ghost use Rattle.st_filter.specs.declared.set.TheConstants.{MOST_FILTERS};
+ghost use Rattle.st_law.specs.Machine.{run};
+ghost use Rattle.st_law.specs.declared.input.Input.{Input};
+ghost use Rattle.st_law.specs.declared.input.Mode.TheVariants.{Learn};
+ghost use Rattle.st_law.specs.declared.input.ReadSchedule.{ReadSchedule};
+ghost use Rattle.st_outside.specs.Files.{FileBytes};
+ghost use Rattle.st_reading.specs.Meaning.{Held, Means, Runs};
+ghost use Rattle.st_round_trip.specs.RoundTrip.{HoldBytes, IsReadAgain, IsScriptOf, enforcing};
+ghost use Rattle.st_script.specs.declared.reading.ReadScript.{ReadScript};
+ghost use Rattle.st_top.specs.Learning.{PermitsWhatWasMade, policies_behind};
+ghost use Rattle.st_top.specs.Outcome.{printed};
+ghost use Rattle.st_trace.specs.declared.entry.Choice.{Choice};
+
+use st_policy::reading_is_one;
+use st_reading::law::what_is_meant_to_run_can_run;
+use st_relearn::law::{
+    learnt_text_is_read_again, what_a_run_adds_can_be_written, what_a_script_says_can_be_written,
+    what_was_read_is_what_can_be_written,
+};
+use st_top::law::what_was_made_is_permitted_by_what_is_written;
+
+/// What `step` writes of a run that learns, where policies are asked for, is read again with what the script gives, while filters are
+/// learnt and while they aren't: as the policies behind the run, unless these have too many filters, and as no others.
+pub fn what_is_written_is_read_again()
+    ensures { (held : Held) (step : StepWords) (input : Input) (schedule : ReadSchedule) → HoldBytes held → IsWithinLimits (Step step) → step.options.mode ≡ Learn → Means held (Step step) (Runs input schedule) →
+        (script : ReadScript) → IsScriptOf held step script → (choices : List Choice) → filters_in (policies_behind input choices) ≤ MOST_FILTERS →
+        IsReadAgain (printed print.Policy input choices) script.env (policies_behind input choices) × IsReadAgain (printed print.Policy input choices) (enforcing script.env) (policies_behind input choices) }
+{
+    what_is_meant_to_run_can_run();
+    what_was_read_is_what_can_be_written();
+    what_a_script_says_can_be_written();
+    what_a_run_adds_can_be_written();
+    learnt_text_is_read_again();
+    reading_is_one();
+}
+
+/// Learnt, then enforced: where a name holds what `step` has written of a run that learnt, `step` under that policy alone, with the same
+/// script and the same ids, runs under policies that permit each held call that was made, under the ids that it was made under.
+pub fn what_was_learnt_is_enforced()
+    ensures { (held : Held) (step : StepWords) (input : Input) (schedule : ReadSchedule) → HoldBytes held → IsWithinLimits (Step step) → step.options.mode ≡ Learn → Means held (Step step) (Runs input schedule) →
+        (choices : List Choice) → filters_in (policies_behind input choices) ≤ MOST_FILTERS → (name : Word) → held name ≡ FileBytes (printed print.Policy input choices) →
+        (again : StepWords) → again.script ≡ step.script → again.policies ≡ name ∷ [] → again.options.ids ≡ step.options.ids → (other : Input) (later : ReadSchedule) → Means held (Step again) (Runs other later) →
+        PermitsWhatWasMade input other.policies (reverse (run input choices)) }
+{
+    what_is_written_is_read_again();
+    what_was_made_is_permitted_by_what_is_written();
+}
