@@ -3,7 +3,127 @@ use st_policy::{PolicyFault, Unsupported};
 use st_top::Status;
 use std::test::Fail;
 
-const POLICIES_THAT_ARE_CHECKED: [Case; 5] = [
+const POLICIES_THAT_ARE_CHECKED: [Case; 14] = [
+    Case {
+        words: "check -c 0:0 P",
+        policy: b"Policy: /bin/a, Emulation: native
+native-read: (true) then deny
+native-read: not (true) then deny
+native-read: not (not true) then deny
+native-read: not (true and true) then ask
+native-read: (true and true) or true then ask
+native-read: true or (true and true) then ask
+native-read: true and (true or true) then ask
+native-read: (true or true) or true then ask
+native-read: true or (true or true) then ask
+native-read: true and (true and true) then ask
+native-rename: filename[00] eq \"\\x41\\\"\\\\\" then permit
+native-rename:filename[0x1]inpath\"\\xFF\"then permit
+native-mmap: prot eq \"PROT_READ\" then permit
+native-read: deny[eperm]
+native-read: deny[e2big] log
+native-bind: permit as root
+native-bind: permit as :wheel
+native-bind: permit log as 007:8
+native-read: ask , if group<wheel
+",
+        script: b"",
+        schedule: b"",
+        status: Status::Done,
+        written: b"Policy: /bin/a, Emulation: native
+native-read: deny
+native-read: not true then deny
+native-read: not not true then deny
+native-read: not (true and true) then ask
+native-read: true and true or true then ask
+native-read: true or true and true then ask
+native-read: true and (true or true) then ask
+native-read: true or true or true then ask
+native-read: true or (true or true) then ask
+native-read: true and (true and true) then ask
+native-rename: filename eq \"A\\\"\\\\\" then permit
+native-rename: filename[1] inpath \"\\xff\" then permit
+native-mmap: prot eq \"PROT_READ\" then permit
+native-read: deny
+native-read: deny[e2big] log
+native-bind: permit as 0
+native-bind: permit as :0
+native-bind: permit as 7:8 log
+native-read: ask, if group < 0
+",
+    },
+    Case {
+        words: "check P",
+        policy: b"Policy: /bin/a, Emulation: native
+native-read: permit log log",
+        script: b"",
+        schedule: b"",
+        status: Status::Policy(1, PolicyFault::Expected(58)),
+        written: b"",
+    },
+    Case {
+        words: "check P",
+        policy: b"Policy: /bin/a, Emulation: native
+foo bar",
+        script: b"",
+        schedule: b"",
+        status: Status::Policy(1, PolicyFault::UnknownCall(34)),
+        written: b"",
+    },
+    Case {
+        words: "check P",
+        policy: b"Policy: /bin/a, Emulation: native
+native-fsread: uid eq \"1\" then permit",
+        script: b"",
+        schedule: b"",
+        status: Status::Policy(1, PolicyFault::UnknownArgument(49)),
+        written: b"",
+    },
+    Case {
+        words: "check P",
+        policy: b"Policy: /bin/a, Emulation: native
+Policy: \"/bin/a\", Emulation: native",
+        script: b"",
+        schedule: b"",
+        status: Status::Policy(1, PolicyFault::DuplicatePolicy(42)),
+        written: b"",
+    },
+    Case {
+        words: "check P",
+        policy: b"native-read: permit
+",
+        script: b"",
+        schedule: b"",
+        status: Status::Policy(1, PolicyFault::Expected(0)),
+        written: b"",
+    },
+    Case {
+        words: "check P",
+        policy: b"Policy: /bin/b, Emulation: n",
+        script: b"",
+        schedule: b"",
+        status: Status::Policy(1, PolicyFault::NotSupported(27, Unsupported::Emulation)),
+        written: b"",
+    },
+    Case {
+        words: "check P",
+        policy: b"Policy: /bin/a, Emulation: native
+native-getpid: not not not not not not not not not not not not not not not not not not not not not not not not not not not not not not not not not not not not not not not not not not not not not not not not not not not not not not not not not not not not not not not not not true then permit
+",
+        script: b"",
+        schedule: b"",
+        status: Status::Policy(1, PolicyFault::TooMany(305)),
+        written: b"",
+    },
+    Case {
+        words: "step -A -f P S C",
+        policy: b"Policy: /bin/a, Emulation: native
+native-read: ask",
+        script: b"",
+        schedule: b"",
+        status: Status::Policy(1, PolicyFault::AskWithLearn(47)),
+        written: b"",
+    },
     Case {
         words: "check P",
         policy: b"Policy: /bin/a, Emulation: native
