@@ -5,28 +5,12 @@ ghost use Rattle.std.specs.Prelude.{◌≡◌};
 ghost use Rattle.std.specs.Process.{exit_status};
 ghost use Rattle.st_top.specs.Number.{number_of_status};
 
-mod answer;
-mod expected;
 mod kept;
-mod message;
-mod names;
-mod policy_fault;
-mod position;
-mod row;
-mod schedule_fault;
-mod script_fault;
-mod shown;
-mod sources;
-mod telling;
-#[cfg(test)]
-mod tests;
 
-use crate::answer::answer_of;
 use crate::kept::KeptFiles;
-use crate::message::OUT_OF_MEMORY;
-use crate::telling::line_of;
 use st_base::Text;
 use st_outside::{MemoryFiles, StdFiles, StdSink};
+use st_telling::{OUT_OF_MEMORY, answer_of, line_of};
 use st_top::{Status, systrace_plain};
 use std::alloc::{AllocError, Global};
 use std::process::ExitCode;

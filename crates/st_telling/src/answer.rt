@@ -58,33 +58,3 @@ pub fn answer_of(words: &[Text]) -> Option<&'static str>
         None
     }
 }
-
-#[cfg(test)]
-mod tests {
-    use super::*;
-    use std::alloc::{AllocError, Global};
-    use std::test::Fail;
-
-    fn words_of(alloc: Global, line: &[&[u8]]) -> Result<Vec<Text>, AllocError> {
-        let mut words = Vec::new(alloc);
-        for word in line {
-            words.push(Text::of(alloc, word)?)?;
-        }
-        Ok(words)
-    }
-
-    #[test]
-    fn answers_one_word_alone(rt: HostRuntime) -> Result<(), Fail> {
-        let cases: [(&[&[u8]], Option<&str>); 4] = [
-            (&[b"--version"], Some("systrace 0.1.0\n")),
-            (&[b"--help"], Some(HELP)),
-            (&[b"--help", b"--version"], None),
-            (&[], None),
-        ];
-        for (line, wanted) in cases {
-            let words = words_of(rt.alloc(), line)?;
-            assert_eq!(rt; answer_of(words.as_slice()), wanted);
-        }
-        Ok(())
-    }
-}

@@ -1,0 +1,20 @@
+//! What a person is told: on standard error of how the program ended, and by `--help` and `--version`.
+#![tactic(auto)]
+
+mod answer;
+mod expected;
+mod message;
+mod names;
+mod policy_fault;
+mod position;
+mod row;
+mod schedule_fault;
+mod script_fault;
+mod shown;
+mod sources;
+mod telling;
+
+pub use answer::answer_of;
+pub use message::OUT_OF_MEMORY;
+pub use policy_fault::policy_message;
+pub use telling::line_of;
