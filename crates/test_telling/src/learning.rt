@@ -1,4 +1,4 @@
-use crate::tests::transcripts::{CAT_SCRIPT, REST_SCHEDULE, Shown, Transcript, run_as_shown};
+use crate::transcripts::{CAT_SCRIPT, REST_SCHEDULE, Shown, Transcript, run_as_shown};
 use std::test::Fail;
 
 const LEARN_SCRIPT: Shown = (

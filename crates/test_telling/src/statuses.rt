@@ -1,16 +1,14 @@
-use crate::telling::line_of;
 use st_base::Text;
 use st_outside::{MemoryFiles, MemorySink};
 use st_policy::PolicyFault;
 use st_script_faults::ScriptFault;
+use st_telling::line_of;
 use st_top::{Status, Which, systrace_plain};
 use std::alloc::Global;
 use std::test::Fail;
 
-mod learning;
-mod transcripts;
-
-fn words_of(alloc: Global, line: &str) -> Result<Vec<Text>, Fail> {
+/// The words that a line has, cut at its blanks.
+pub fn words_of(alloc: Global, line: &str) -> Result<Vec<Text>, Fail> {
     let mut words = Vec::new(alloc);
     for word in line.split(' ') {
         words.push(Text::of(alloc, word.as_bytes())?)?;
@@ -18,7 +16,8 @@ fn words_of(alloc: Global, line: &str) -> Result<Vec<Text>, Fail> {
     Ok(words)
 }
 
-fn files_of(alloc: Global, held: &[(&[u8], &[u8])]) -> Result<MemoryFiles, Fail> {
+/// Files in memory, each with its name and its bytes.
+pub fn files_of(alloc: Global, held: &[(&[u8], &[u8])]) -> Result<MemoryFiles, Fail> {
     let mut files = MemoryFiles::new(alloc);
     for (name, content) in held {
         files.add(Text::of(alloc, name)?, Text::of(alloc, content)?)?;

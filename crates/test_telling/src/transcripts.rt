@@ -1,6 +1,6 @@
-use crate::telling::line_of;
-use crate::tests::{files_of, words_of};
+use crate::statuses::{files_of, words_of};
 use st_outside::MemorySink;
+use st_telling::line_of;
 use st_top::systrace_plain;
 use std::process::Abort;
 use std::test::Fail;
@@ -28,6 +28,7 @@ end
 ",
 );
 
+/// The schedule that lets each thread run to its end.
 pub const REST_SCHEDULE: Shown = (
     b"rest.schedule",
     b"rest
@@ -42,6 +43,7 @@ native-exit: permit
 ",
 );
 
+/// The script of a program that reads two files.
 pub const CAT_SCRIPT: Shown = (
     b"cat.script",
     b"dir \"/etc\" 0 0 755
