@@ -313,6 +313,7 @@ call write 3 64 3
 call lstat 32 128
 call lseek 3 0 0
 call read 3 64 9
+call chown 32 9 10
 end
 ",
         schedule: REST,
@@ -349,6 +350,7 @@ end
 1.1 \"/bin/a\" native-fsread fast = 0
 1.1 \"/bin/a\" native-lseek fast = 0
 1.1 \"/bin/a\" native-read fast = 5
+1.1 \"/bin/a\" native-chown fast = 0
 ",
     },
     Case {
