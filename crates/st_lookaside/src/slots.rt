@@ -1,4 +1,5 @@
-ghost use Rattle.std.specs.Prelude.{◌≡◌, ℕ, true, [], Some, None, IsSome, IfSome, IfOk, IfErr, OnOk, OnErr};
+ghost use Rattle.std.specs.Prelude.{◌≡◌, ◌<◌, ℕ, true, [], Some, None, IsSome, IfSome, IfOk, IfErr, OnOk, OnErr, length, slice_index_or, remove};
+ghost use Rattle.std.specs.VecDeque.{deque_capacity};
 ghost use Rattle.st_effects.specs.Progress.{Look, Ready};
 ghost use Rattle.st_lookaside.specs.Need.{IsShort};
 ghost use Rattle.st_lookaside.specs.Slot as slot;
@@ -13,14 +14,15 @@ use st_base::{Ids, Seq};
 use st_calls::Snapshot;
 use st_names::{AbsName, Seen};
 use std::alloc::{AllocError, Global};
+use std::collections::VecDeque;
 use std::marker::Model;
 
 /// The messages under way by their numbers, and what is copied and seen for each. A message is found in the logarithm of how many
 /// there are; a thread has one at most, so they are few.
 #[derive(Debug, Drop)]
 pub struct Slots {
-    // In the order of their numbers.
-    slots: Vec<Slot>,
+    // In the order of their numbers. The first to begin mostly ends first, and makes no other move.
+    slots: VecDeque<Slot>,
 }
 
 impl Model for Slots {
@@ -35,13 +37,53 @@ impl Model for Slots {
     ghost invariant = { λ s. AreAscending s.slots.items };
 }
 
-// Where the slot of this number stands, or would.
-fn place_of(slots: &[Slot], seq: Seq) -> Result<usize, usize>
-    requires { AreAscending slots.now }
-    ensures found { IfOk result (IsAt slots.now seq) }
-    ensures missing { IfErr result (IsGap slots.now seq) }
+// Where the slot of this number stands, if it stands as far behind the first as it is greater. Calls mostly end in the order in which they
+// were entered, and then it does.
+fn guess_of(slots: &VecDeque<Slot>, seq: Seq) -> Option<usize>
+    ensures { IfSome result (IsAt slots.now.items seq) }
+{
+    let first = slots.front()?;
+    let place = seq.checked_sub(first.head().seq)? as usize;
+    let slot = slots.get(place)?;
+    if slot.head().seq == seq {
+        Some(place)
+    } else {
+        None
+    }
+}
+
+// The same for any slot, in the logarithm of how many there are.
+fn search_of(slots: &VecDeque<Slot>, seq: Seq) -> Result<usize, usize>
+    requires { AreAscending slots.now.items }
+    ensures found { IfOk result (IsAt slots.now.items seq) }
+    ensures missing { IfErr result (IsGap slots.now.items seq) }
 {
     slots.binary_search_by_key(&seq, |slot| slot.head().seq)
+}
+
+// Where the slot of this number stands, or would.
+fn place_of(slots: &VecDeque<Slot>, seq: Seq) -> Result<usize, usize>
+    requires { AreAscending slots.now.items }
+    ensures found { IfOk result (IsAt slots.now.items seq) }
+    ensures missing { IfErr result (IsGap slots.now.items seq) }
+{
+    match guess_of(slots, seq) {
+        Some(place) => Ok(place),
+        None => search_of(slots, seq),
+    }
+}
+
+// Takes the slot out that stands here, which leaves room for another.
+fn take_out(slots: &mut VecDeque<Slot>, place: usize) -> Slot
+    requires { place < length slots.old.items }
+    ensures items { slots.new.items ≡ remove slots.old.items place }
+    ensures value { result ≡ slice_index_or slots.old.items place result }
+    ensures room { length slots.new.items < deque_capacity slots.new }
+{
+    let Some(slot) = slots.remove(place) else {
+        unreachable!()
+    };
+    slot
 }
 
 impl Slots {
@@ -50,7 +92,7 @@ impl Slots {
         ensures { result ≡ [] }
     {
         Slots {
-            slots: Vec::new(alloc),
+            slots: VecDeque::new(alloc),
         }
     }
 
@@ -179,7 +221,7 @@ impl Slots {
         let Ok(place) = place_of(&self.slots, old) else {
             unreachable!()
         };
-        let mut slot = self.slots.remove(place);
+        let mut slot = take_out(&mut self.slots, place);
         slot.renew(new, ids, cwd);
         let Err(place) = place_of(&self.slots, new) else {
             unreachable!()
@@ -198,6 +240,6 @@ impl Slots {
         let Ok(place) = place_of(&self.slots, seq) else {
             unreachable!()
         };
-        let _ = self.slots.remove(place);
+        let _ = take_out(&mut self.slots, place);
     }
 }

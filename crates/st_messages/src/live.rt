@@ -1,6 +1,6 @@
-ghost use Rattle.std.specs.Prelude.{◌≡◌, ◌<◌, Some, true, is_some, find, vec_len, vec_capacity};
+ghost use Rattle.std.specs.Prelude.{◌≡◌, ◌<◌, ℕ, IfSome, Some, true, is_some, find, vec_len, vec_capacity};
 ghost use Rattle.std.specs.List.{position};
-ghost use Rattle.st_messages.specs.Messages.{has_number, is_waiting, message_in, without_number};
+ghost use Rattle.st_messages.specs.Messages.{has_number, is_waiting, message_in, without_number, AreBetween};
 
 use crate::message::{Message, MsgState};
 use st_base::Seq;
@@ -12,11 +12,31 @@ pub fn place_of(live: &[Message], seq: Seq) -> Option<usize>
     live.iter().position(|message| message.seq == seq)
 }
 
+// The message of this number, if it stands as far behind the first as it is greater. Calls mostly end in the order in which they were
+// entered, and then it does.
+fn guess_of(live: &[Message], seq: Seq) -> Option<Message>
+    requires { (to : ℕ) × AreBetween 1 live.now to }
+    ensures { IfSome result (λ message. message_in live.now seq ≡ Some message) }
+{
+    let first = live.first()?;
+    let place = seq.checked_sub(first.seq)? as usize;
+    let message = live.get(place)?;
+    if message.seq == seq {
+        Some(*message)
+    } else {
+        None
+    }
+}
+
 /// The message of this number, if it is live.
 pub fn message_of(live: &[Message], seq: Seq) -> Option<Message>
+    requires { (to : ℕ) × AreBetween 1 live.now to }
     ensures { result ≡ message_in live.now seq }
 {
-    live.iter().copied().find(|message| message.seq == seq)
+    match guess_of(live, seq) {
+        Some(message) => Some(message),
+        None => live.iter().copied().find(|message| message.seq == seq),
+    }
 }
 
 // Whether no worker has claimed a message.
@@ -42,7 +62,8 @@ pub fn first_waiting(live: &[Message]) -> Option<Message>
 
 /// Takes a live message out and gives it, which leaves room for another.
 pub fn take(live: &mut Vec<Message>, seq: Seq) -> Message
-    requires { is_some (message_in live.old.items seq) ≡ true }
+    requires there { is_some (message_in live.old.items seq) ≡ true }
+    requires ordered { (to : ℕ) × AreBetween 1 live.old.items to }
     ensures message { message_in live.old.items seq ≡ Some result }
     ensures others { live.new.items ≡ without_number live.old.items seq }
     ensures room { vec_len live.new < vec_capacity live.new }

@@ -1,20 +1,20 @@
 use Rattle.std.proofs.Common.{ap, refl}
 use Rattle.st_lookaside.specs.Slot as slot
-use Rattle.st_lookaside.specs.Slot.{after_begin, after_look, after_word, begun_at, is_readied, progress_of, unreadied, IsDue, IsInOrder, IsLookNext, IsWordNext}
+use Rattle.st_lookaside.specs.Slot.{after_word, progress_of, IsInOrder, IsWordNext}
 use Rattle.st_lookaside.proofs.Places.{asked_of, gone, kept_set, told_changed, told_of}
 use Rattle.st_lookaside.proofs.slots.Slots.fill.Goals as goal
 
 pub unreachable-requires : goal.unreachable-requires
-unreachable-requires c = gone c.self.inside.slots.items c.args.self.now c.deref.result.now c.self.invariant c.self.view_is c.deref.ensures.value c.args.seq c.in_default.field-0 c.in_default.ensures.missing c.requires.slot
+unreachable-requires c = gone c.self.inside.slots.items c.args.self.now c.self.inside.slots.items c.self.invariant c.self.view_is refl c.args.seq c.in_default.field-0 c.in_default.ensures.missing c.requires.slot
 
 pub fill-requires : goal.fill-requires
-fill-requires c = asked_of c.self.inside.slots.items c.args.self.now c.deref.result.now c.self.invariant c.self.view_is c.deref.ensures.value c.args.seq c.in-Ok.place c.in-Ok.ensures.found c.index_mut-slot.result.now c.index_mut-slot.ensures.value (λ s. IsWordNext (progress_of s)) c.requires.next
+fill-requires c = asked_of c.self.inside.slots.items c.args.self.now c.self.inside.slots.items c.self.invariant c.self.view_is refl c.args.seq c.in-Ok.place c.in-Ok.ensures.found c.index_mut-slot.result.now c.index_mut-slot.ensures.value (λ s. IsWordNext (progress_of s)) c.requires.next
 
 pub invariant_of-self : goal.invariant_of-self
-invariant_of-self c = kept_set c.self.inside.slots.items c.args.self.now c.deref.result.now c.self.invariant c.self.view_is c.deref.ensures.value c.args.seq c.in-Ok.place c.in-Ok.ensures.found c.index_mut-slot.result.now c.index_mut-slot.ensures.value c.fill.new.self (ap (λ (s : slot.Slot). s.head.seq) c.fill.ensures.slot)
+invariant_of-self c = kept_set c.self.inside.slots.items c.args.self.now c.self.inside.slots.items c.self.invariant c.self.view_is refl c.args.seq c.in-Ok.place c.in-Ok.ensures.found c.index_mut-slot.result.now c.index_mut-slot.ensures.value c.fill.new.self (ap (λ (s : slot.Slot). s.head.seq) c.fill.ensures.slot)
 
 pub returns-clause-slot : goal.returns-clause-slot
-returns-clause-slot c = told_changed c.self.inside.slots.items c.args.self.now c.deref.result.now c.self.invariant c.self.view_is c.deref.ensures.value c.args.seq c.in-Ok.place c.in-Ok.ensures.found c.index_mut-slot.result.now c.index_mut-slot.ensures.value (λ s. after_word s c.args.word) c.fill.new.self c.fill.ensures.slot refl
+returns-clause-slot c = told_changed c.self.inside.slots.items c.args.self.now c.self.inside.slots.items c.self.invariant c.self.view_is refl c.args.seq c.in-Ok.place c.in-Ok.ensures.found c.index_mut-slot.result.now c.index_mut-slot.ensures.value (λ s. after_word s c.args.word) c.fill.new.self c.fill.ensures.slot refl
 
 pub returns-clause-order : goal.returns-clause-order
-returns-clause-order c = told_of c.self.inside.slots.items c.args.self.now c.deref.result.now c.self.invariant c.self.view_is c.deref.ensures.value c.args.seq c.in-Ok.place c.in-Ok.ensures.found c.index_mut-slot.result.now c.index_mut-slot.ensures.value IsInOrder c.fill.ensures.order
+returns-clause-order c = told_of c.self.inside.slots.items c.args.self.now c.self.inside.slots.items c.self.invariant c.self.view_is refl c.args.seq c.in-Ok.place c.in-Ok.ensures.found c.index_mut-slot.result.now c.index_mut-slot.ensures.value IsInOrder c.fill.ensures.order
