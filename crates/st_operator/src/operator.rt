@@ -48,7 +48,7 @@ impl Model for Operator {
 fn is_for(reply: &Reply, policy: &[u8], rule: Rule) -> bool
     ensures { result ≡ is_reply_for policy.now rule (Some reply.now) }
 {
-    reply.binary.bytes() == policy && reply.filter.is_for(rule)
+    reply.filter.is_for(rule) && reply.binary.bytes() == policy
 }
 
 impl Operator {
@@ -85,7 +85,7 @@ impl Operator {
         ensures { result ≡ next_left replies.now self.now.given policy.now rule }
     {
         for i in 0..replies.len() {
-            if is_for(&replies[i], policy, rule) && !self.given[i] {
+            if !self.given[i] && is_for(&replies[i], policy, rule) {
                 return Some(i as u32 + 1);
             }
         }
