@@ -5,7 +5,7 @@ ghost use Rattle.st_law.specs.State.{State};
 ghost use Rattle.st_machine.specs.Enabled.{has_come, is_work};
 ghost use Rattle.st_machine.specs.Machine.{IsMachine};
 ghost use Rattle.st_machine.specs.Questions.{IsOver};
-ghost use Rattle.st_messages.specs.Messages.{IsWorker};
+ghost use Rattle.st_messages.specs.Messages.{thread_at, IsWorker};
 ghost use Rattle.st_reached.specs.Waiting.{is_message_by};
 
 use crate::machine::Machine;
@@ -67,7 +67,8 @@ impl<'a> Machine<'a> {
 
     /// The thread that holds the call of a number, while the number lives.
     pub fn holder(&self, seq: Seq) -> Option<Tid>
-        ensures { IfSome result (λ tid. (st : State) → IsMachine self.now st → (t : ℕ) → is_message_by st t seq ≡ true → t ≡ tid) }
+        ensures thread { result ≡ thread_at self.now.workers.calls seq }
+        ensures law { IfSome result (λ tid. (st : State) → IsMachine self.now st → (t : ℕ) → is_message_by st t seq ≡ true → t ≡ tid) }
     {
         self.workers.thread(seq)
     }

@@ -6,8 +6,8 @@ use Rattle.st_machine.proofs.Enabling.{only_holder}
 use Rattle.st_machine.proofs.machine.Machine.holder.Goals as goal
 use Rattle.st_reached.specs.Waiting.{is_message_by}
 
-pub returns : goal.returns
-returns c =
+pub returns-clause-law : goal.returns-clause-law
+returns-clause-law c =
     let m : Running = record { input = c.self.inside.input.now; system = c.self.inside.system; workers = c.self.inside.workers; threads = c.self.inside.threads.items; answers = c.self.inside.answers; operator = c.self.inside.operator } in
     subst (λ (k : Running). IfSome c.thread.result (λ tid. (st : State) → IsMachine k st → (t : ℕ) → is_message_by st t c.args.seq ≡ true → t ≡ tid)) c.self.view_is
     (only_holder m c.args.seq c.thread.result c.thread.ensures.law)
