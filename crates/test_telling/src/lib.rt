@@ -1,13 +1,9 @@
-//! Tests of what a person is told, and of what README, the tour and the manual pages show.
+//! Tests of what a person is told.
 #![tactic(auto)]
 
 #[cfg(test)]
 mod answers;
 #[cfg(test)]
-mod learning;
-#[cfg(test)]
 mod policies;
 #[cfg(test)]
 mod statuses;
-#[cfg(test)]
-mod transcripts;

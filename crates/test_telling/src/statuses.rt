@@ -7,8 +7,8 @@ use st_top::{Status, Which, systrace_plain};
 use std::alloc::Global;
 use std::test::Fail;
 
-/// The words that a line has, cut at its blanks.
-pub fn words_of(alloc: Global, line: &str) -> Result<Vec<Text>, Fail> {
+// The words that a line has, cut at its blanks.
+fn words_of(alloc: Global, line: &str) -> Result<Vec<Text>, Fail> {
     let mut words = Vec::new(alloc);
     for word in line.split(' ') {
         words.push(Text::of(alloc, word.as_bytes())?)?;
@@ -16,8 +16,8 @@ pub fn words_of(alloc: Global, line: &str) -> Result<Vec<Text>, Fail> {
     Ok(words)
 }
 
-/// Files in memory, each with its name and its bytes.
-pub fn files_of(alloc: Global, held: &[(&[u8], &[u8])]) -> Result<MemoryFiles, Fail> {
+// Files in memory, each with its name and its bytes.
+fn files_of(alloc: Global, held: &[(&[u8], &[u8])]) -> Result<MemoryFiles, Fail> {
     let mut files = MemoryFiles::new(alloc);
     for (name, content) in held {
         files.add(Text::of(alloc, name)?, Text::of(alloc, content)?)?;

@@ -1,7 +1,8 @@
-use crate::statuses::{files_of, words_of};
-use st_outside::MemorySink;
+use st_base::Text;
+use st_outside::{MemoryFiles, MemorySink};
 use st_telling::line_of;
 use st_top::systrace_plain;
+use std::alloc::Global;
 use std::process::Abort;
 use std::test::Fail;
 
@@ -483,6 +484,24 @@ native-write: permit
         told: b"systrace: my.schedule:2: found 'thread 1', expected a thread that can move at each turn: it has started, hasn't ended, and waits for neither a worker nor the operator",
     },
 ];
+
+// The words that a line has, cut at its blanks.
+fn words_of(alloc: Global, line: &str) -> Result<Vec<Text>, Fail> {
+    let mut words = Vec::new(alloc);
+    for word in line.split(' ') {
+        words.push(Text::of(alloc, word.as_bytes())?)?;
+    }
+    Ok(words)
+}
+
+// Files in memory, each with its name and its bytes.
+fn files_of(alloc: Global, held: &[Shown]) -> Result<MemoryFiles, Fail> {
+    let mut files = MemoryFiles::new(alloc);
+    for (name, content) in held {
+        files.add(Text::of(alloc, name)?, Text::of(alloc, content)?)?;
+    }
+    Ok(files)
+}
 
 /// Runs each transcript, and compares how it ends.
 pub fn run_as_shown(
