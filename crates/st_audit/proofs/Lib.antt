@@ -3,5 +3,6 @@ pub mod Following
 pub mod Growth
 pub mod Kept
 pub mod Learnt
+pub mod Noted
 pub mod Rows
 mod WorkedRows

@@ -1,7 +1,10 @@
-ghost use Rattle.std.specs.Prelude.{◌≡◌, ◌++◌, IfOk, OnOk};
+ghost use Rattle.std.specs.Prelude.{◌≡◌, ◌++◌, List, IfOk, OnOk};
 ghost use Rattle.st_calls.specs.Call.{rule_of};
 ghost use Rattle.st_law.specs.Inputs.{IsStartable};
 ghost use Rattle.st_law.specs.Lawful.{Lawful};
+ghost use Rattle.st_report.specs.Detail.{noted};
+ghost use Rattle.st_report.specs.declared.detail.Detail.TheVariants.{Calls};
+ghost use Rattle.st_trace.specs.declared.entry.Entry.{Entry};
 ghost use Rattle.st_audit.specs.AuditText.{GrowsWithTheRun, audit, call_line, ending_text};
 ghost use Rattle.st_audit.specs.How.{args_used, is_logged, parts_of, seq_told};
 ghost use Rattle.st_audit.specs.Ledger.{kept_line, owner_in, row_in};
@@ -152,13 +155,12 @@ pub fn told_audit(alloc: Global, trace: &[Entry], input: &Input) -> Result<Text,
     Ok(text)
 }
 
-/// The audit of a run: a line for each call that a traced process made or was denied.
-pub fn audit_text(alloc: Global, trace: &[Entry], input: &Input) -> Result<Text, AllocError>
+/// The audit of a run: a line for each call that a traced process made or was denied. It takes what was noted of calls.
+pub fn audit_text(alloc: Global, calls: &[Entry], input: &Input) -> Result<Text, AllocError>
     requires startable { IsStartable input.now }
-    requires lawful { Lawful input.now trace.now }
-    ensures { IfOk result (λ text. text ≡ audit input.now trace.now) }
+    ensures { IfOk result (λ text. (trace : List Entry) → Lawful input.now trace → calls.now ≡ noted Calls trace → text ≡ audit input.now trace) }
 {
-    told_audit(alloc, trace, input)
+    told_audit(alloc, calls, input)
 }
 
 /// The audit of a longer run begins with that of the shorter one.

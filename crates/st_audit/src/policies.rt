@@ -1,8 +1,11 @@
 // The policies behind a run, with what its session has added.
-ghost use Rattle.std.specs.Prelude.{◌≡◌, ◌∷◌, [], ◌++◌, reverse, IfOk, OnOk};
+ghost use Rattle.std.specs.Prelude.{◌≡◌, ◌∷◌, [], ◌++◌, List, reverse, IfOk, OnOk};
 ghost use Rattle.st_law.specs.Inputs.{IsStartable};
 ghost use Rattle.st_law.specs.Lawful.{Lawful};
 ghost use Rattle.st_law.specs.Sessions.{kept_for, session_after};
+ghost use Rattle.st_report.specs.Detail.{noted};
+ghost use Rattle.st_report.specs.declared.detail.Detail.TheVariants.{Calls};
+ghost use Rattle.st_trace.specs.declared.entry.Entry.{Entry};
 ghost use Rattle.st_audit.specs.Ledger.{answer_in};
 ghost use Rattle.st_audit.specs.PolicyText.{policy_text};
 ghost use Rattle.st_audit.specs.Told.{copies_of, session_told};
@@ -76,12 +79,12 @@ pub fn told_session(alloc: Global, trace: &[Entry], input: &Input) -> Result<Ses
     Ok(session)
 }
 
-/// The canonical text of the policies behind a run, with the filters that were read and then those that the run added.
-pub fn policy_text(alloc: Global, trace: &[Entry], input: &Input) -> Result<Text, AllocError>
+/// The canonical text of the policies behind a run, with the filters that were read and then those that the run added. It takes what was
+/// noted of calls.
+pub fn policy_text(alloc: Global, calls: &[Entry], input: &Input) -> Result<Text, AllocError>
     requires startable { IsStartable input.now }
-    requires lawful { Lawful input.now trace.now }
-    ensures { IfOk result (λ text. text ≡ policy_text input.now trace.now) }
+    ensures { IfOk result (λ text. (trace : List Entry) → Lawful input.now trace → calls.now ≡ noted Calls trace → text ≡ policy_text input.now trace) }
 {
-    let session = told_session(alloc, trace, input)?;
+    let session = told_session(alloc, calls, input)?;
     print_learnt(alloc, &input.policies, &session)
 }

@@ -13,6 +13,9 @@ use Rattle.st_law.specs.declared.input.Input.{Input}
 use Rattle.st_reached.specs.Waiting.{wakes}
 use Rattle.st_reached.proofs.Reached.{Reached, reached_run}
 use Rattle.st_reached.proofs.StillKept.{none_more}
+use Rattle.st_report.specs.Detail.{noted}
+use Rattle.st_report.specs.declared.detail.Detail.{Detail}
+use Rattle.st_report.proofs.Noted.{noted_in_order}
 use Rattle.st_machine.specs.Machine.{IsMachine, IsStep, Running}
 use Rattle.st_kernel.specs.Cursor.{HasFirstAble}
 use Rattle.st_kernel.specs.Kernel.{IsCourse}
@@ -51,7 +54,7 @@ pub record HasWoken (woken : Woken) (first : ℕ) (asleep : List Bool) (first_th
 abbrev pub WakesNoOther : Running → Entry → Woken → Type 0
 WakesNoOther m e woken = (st : State) → IsMachine m st → (t : ℕ) → wakes st e t ≡ true → is_woken woken t ≡ true
 
-module _ (m new : Running) (trace : List Entry) (choices : List Choice) (first : ℕ) (asleep : List Bool) (course : IsCourse m trace choices first asleep) (c : Choice) (e : Entry)
+module _ (m new : Running) (detail : Detail) (trace : List Entry) (choices : List Choice) (first : ℕ) (asleep : List Bool) (course : IsCourse m detail trace choices first asleep) (c : Choice) (e : Entry)
     (adds : entry_of m.input (state_of_run m.input choices) c ≡ Some e) (is : IsMachine new (state_after m.input (state_of_run m.input choices) e)) (woken : Woken) (only : WakesNoOther new e woken) where
   abbrev st : State
   st = state_of_run m.input choices
@@ -68,13 +71,13 @@ module _ (m new : Running) (trace : List Entry) (choices : List Choice) (first :
 -- ---- from choice to choice
 
 -- what runs has gone on by a choice
-pub course_on : (m new : Running) (trace : List Entry) (choices : List Choice) (first : ℕ) (asleep : List Bool) (c : Choice) (e : Entry) (woken : Woken) (first_then : ℕ) (asleep_then : List Bool) →
-    IsCourse m trace choices first asleep → new.input ≡ m.input → IsStep m c (Some e) new → WakesNoOther new e woken → HasWoken woken first asleep first_then asleep_then →
-    IsCourse new (trace ++ e ∷ []) (choices ++ c ∷ []) first_then asleep_then
-course_on m new trace choices first asleep c e woken first_then asleep_then course same step only has =
+pub course_on : (m new : Running) (detail : Detail) (trace : List Entry) (choices : List Choice) (first : ℕ) (asleep : List Bool) (c : Choice) (e : Entry) (woken : Woken) (first_then : ℕ) (asleep_then : List Bool) →
+    IsCourse m detail trace choices first asleep → new.input ≡ m.input → IsStep m c (Some e) new → WakesNoOther new e woken → HasWoken woken first asleep first_then asleep_then →
+    IsCourse new detail (trace ++ noted detail (e ∷ [])) (choices ++ c ∷ []) first_then asleep_then
+course_on m new detail trace choices first asleep c e woken first_then asleep_then course same step only has =
     let st = state_of_run m.input choices in
     let made = step st course.machine in
-    let still = still_then m new trace choices first asleep course c e made.0 made.1 woken only in
+    let still = still_then m new detail trace choices first asleep course c e made.0 made.1 woken only in
     let from = has.from in
     let to = has.to in
     let top = course.to in
@@ -82,8 +85,9 @@ course_on m new trace choices first asleep c e woken first_then asleep_then cour
     λ t none. ap (λ (i : Input). thread_entry i (state_of_run i (choices ++ c ∷ [])) t) same ∙ ap (λ (s : State). thread_entry m.input s t) (state_more m.input choices c e made.0) ∙ none in
     record {
       machine = subst (λ (i : Input). IsMachine new (state_of_run i (choices ++ c ∷ []))) (sym same) (subst (IsMachine new) (sym (state_more m.input choices c e made.0)) made.1);
-      trace_is = ap (λ (l : List Entry). l ++ e ∷ []) course.trace_is ∙ sym (run_more m.input choices c e made.0) ∙ ap (λ (i : Input). run i (choices ++ c ∷ [])) (sym same);
-      enabled = length-append trace (e ∷ []) ∙ ap (λ (k : ℕ). k + 1) course.enabled ∙ sym (length-append choices (c ∷ []));
+      trace_is = ap (λ (l : List Entry). l ++ noted detail (e ∷ [])) course.trace_is ∙ sym (noted_in_order detail (run m.input choices) (e ∷ [])) ∙ ap (noted detail) (sym (run_more m.input choices c e made.0))
+          ∙ ap (λ (i : Input). noted detail (run i (choices ++ c ∷ []))) (sym same);
+      enabled = ap (λ (i : Input). length (run i (choices ++ c ∷ []))) same ∙ ap length (run_more m.input choices c e made.0) ∙ length-append (run m.input choices) (e ∷ []) ∙ ap (λ (k : ℕ). k + 1) course.enabled ∙ sym (length-append choices (c ∷ []));
       still = λ t some before. entry_is t (still t some (course.still t some (omega (arith, before, to))) (has.before t some before));
       from = from;
       to = subst (λ (i : Input). first_then ≤ suc (thread_count i)) (sym same) (omega (arith, to, top));
@@ -92,12 +96,12 @@ course_on m new trace choices first asleep c e woken first_then asleep_then cour
     }
 
 -- what runs is as good as before
-pub course_same : (m new : Running) (trace : List Entry) (choices : List Choice) (first : ℕ) (asleep : List Bool) → IsCourse m trace choices first asleep → new.input ≡ m.input → IsMachine new (state_of_run m.input choices) →
-    IsCourse new trace choices first asleep
-course_same m new trace choices first asleep course same is = record {
+pub course_same : (m new : Running) (detail : Detail) (trace : List Entry) (choices : List Choice) (first : ℕ) (asleep : List Bool) → IsCourse m detail trace choices first asleep → new.input ≡ m.input → IsMachine new (state_of_run m.input choices) →
+    IsCourse new detail trace choices first asleep
+course_same m new detail trace choices first asleep course same is = record {
   machine = subst (λ (i : Input). IsMachine new (state_of_run i choices)) (sym same) is;
-  trace_is = course.trace_is ∙ ap (λ (i : Input). run i choices) (sym same);
-  enabled = course.enabled;
+  trace_is = course.trace_is ∙ ap (λ (i : Input). noted detail (run i choices)) (sym same);
+  enabled = ap (λ (i : Input). length (run i choices)) same ∙ course.enabled;
   still = λ t some before. ap (λ (i : Input). thread_entry i (state_of_run i choices) t) same ∙ course.still t some before;
   from = course.from;
   to = subst (λ (i : Input). first ≤ suc (thread_count i)) (sym same) course.to;
@@ -108,7 +112,7 @@ course_same m new trace choices first asleep course same is = record {
 -- ---- asked for the first thread that can move
 
 -- the marks are lent out, and come back with more of them
-module _ (m : Running) (trace : List Entry) (choices : List Choice) (first : ℕ) (asleep : List Bool) (course : IsCourse m trace choices first asleep) (lent marks written : List Bool) (lent_is : lent ≡ asleep)
+module _ (m : Running) (detail : Detail) (trace : List Entry) (choices : List Choice) (first : ℕ) (asleep : List Bool) (course : IsCourse m detail trace choices first asleep) (lent marks written : List Bool) (lent_is : lent ≡ asleep)
     (still : (st : State) → IsMachine m st → AreStill m.input st lent → AreStill m.input st marks) (count : length marks ≡ length lent) (written_is : written ≡ marks) where
   abbrev there : State
   there = state_of_run m.input choices
@@ -123,7 +127,7 @@ module _ (m : Running) (trace : List Entry) (choices : List Choice) (first : ℕ
   written_count = ap length written_is ∙ count ∙ ap length lent_is ∙ course.count
 
   -- the cursor stays
-  pub course_marked : IsCourse m trace choices first written
+  pub course_marked : IsCourse m detail trace choices first written
   course_marked = record {
     machine = course.machine;
     trace_is = course.trace_is;
@@ -140,7 +144,7 @@ module _ (m : Running) (trace : List Entry) (choices : List Choice) (first : ℕ
     first_found = found there course.machine lent_still
 
     -- or it has gone on
-    pub course_found : IsCourse m trace choices first_then written
+    pub course_found : IsCourse m detail trace choices first_then written
     course_found =
         let from = course.from in
         let on = first_found.from_on in

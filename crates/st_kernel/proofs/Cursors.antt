@@ -1,11 +1,11 @@
 -- What the cursor finds is the first choice that is enabled.
 use native.Mathlib.Omega.{arith}
-use Rattle.std.proofs.Common.{◌≡◌, ◌≤◌, ◌<◌, ◌∙◌, ℕ, zero, suc, ◌+◌, Bool, true, false, List, set, Option, Some, None, inl, inr, refl, ap, sym}
+use Rattle.std.proofs.Common.{◌≡◌, ◌≤◌, ◌<◌, ◌∙◌, ℕ, zero, suc, ◌+◌, Bool, true, false, List, set, Option, Some, None, inl, inr, refl, replicate, ap, sym}
 use Rattle.std.proofs.lemmas.Bool.{cases_eq}
 use Rattle.std.proofs.lemmas.List.{get_or-set_other}
 use Rattle.std.proofs.lemmas.Bool.Decides.{leb_tells}
 use Rattle.std.specs.Option.{option_map}
-use Rattle.std.specs.Prelude.{is_some, IsSome}
+use Rattle.std.specs.Prelude.{is_some}
 use Rattle.st_trace.specs.declared.entry.Choice.{Choice}
 use Rattle.st_trace.specs.declared.entry.Choice.TheVariants as choice
 use Rattle.st_trace.specs.declared.entry.Entry.{Entry}
@@ -16,6 +16,12 @@ use Rattle.st_law.specs.declared.input.Input.{Input}
 use Rattle.st_machine.specs.Machine.{IsMachine, Running}
 use Rattle.st_kernel.specs.Cursor.{HasFirstAble, IsFirstServer, NoneServes}
 use Rattle.st_kernel.specs.Waking.{AreStill, is_asleep}
+
+-- no thread is marked at first
+pub nobody_asleep : (n place : ℕ) → is_asleep (replicate n false) place ≡ false
+nobody_asleep zero place = refl
+nobody_asleep (suc n) zero = refl
+nobody_asleep (suc n) (suc place) = nobody_asleep n place
 
 -- ---- one after the other
 
@@ -57,11 +63,6 @@ next_marked m asleep marks t place at still b says e st is before other marked =
   | inl same ↦ ap (λ (k : ℕ). thread_entry m.input st (suc k)) same ∙ ap (thread_entry m.input st) at ∙ unable m t b says e st is
   | inr ne ↦ still st is before other (sym (get_or-set_other marks place other true false ne) ∙ marked)
 ]
-
--- the first that can
-pub first_by : (m : Running) (asleep : List Bool) (from to : ℕ) → NoneAble m asleep from to → from ≤ to → to ≤ suc (thread_count m.input) → ((st : State) → IsMachine m st → to ≤ thread_count m.input → IsSome (thread_entry m.input st to)) →
-    (st : State) → IsMachine m st → AreStill m.input st asleep → HasFirstAble m.input st from to
-first_by m asleep from to none low high can st is still = record { from_on = low; to = high; none = none st is still; able = can st is }
 
 -- one worker more can't
 pub next_idle : (m : Running) (to : ℕ) → NoneServes m to → (b : Bool) → ((st : State) → IsMachine m st → b ≡ is_some (worker_entry m.input st to)) → b ≡ false → NoneServes m (to + 1)

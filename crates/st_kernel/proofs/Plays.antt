@@ -14,16 +14,17 @@ use Rattle.st_law.specs.State.{State}
 use Rattle.st_law.specs.declared.input.Input.{Input}
 use Rattle.st_law.specs.declared.input.What.TheVariants.{Rest}
 use Rattle.st_kernel.specs.declared.kernel.StepFault.{StepFault}
+use Rattle.st_report.specs.declared.detail.Detail.{Detail}
 use Rattle.st_kernel.specs.Kernel.{Course, rested, standing, with_choice, Continues}
 use Rattle.st_kernel.proofs.Courses.{state_more}
 
-module _ (i : Input) (made : List Choice) where
+module _ (i : Input) (made : List Choice) (detail : Detail) where
   abbrev here : Course
-  here = record { input = i; choices = made }
+  here = record { input = i; choices = made; detail = detail }
 
   -- ---- a choice many times
 
-  pub repeated_further : (count : ℕ) (c : Choice) (e : Entry) → entry_of i (state_of_run i made) c ≡ Some e → repeated (suc count) c i (standing here) ≡ repeated count c i (standing (record { input = i; choices = made ++ c ∷ [] }))
+  pub repeated_further : (count : ℕ) (c : Choice) (e : Entry) → entry_of i (state_of_run i made) c ≡ Some e → repeated (suc count) c i (standing here) ≡ repeated count c i (standing (record { input = i; choices = made ++ c ∷ []; detail = detail }))
   repeated_further count c e adds =
       ap (further_on (λ (entry : Entry). repeated count c i (record { choices = made ++ c ∷ []; state = state_after i (state_of_run i made) entry }))) adds
       ∙ ap (λ (st : State). repeated count c i (record { choices = made ++ c ∷ []; state = st })) (sym (state_more i made c e adds))
@@ -50,11 +51,11 @@ module _ (old : Course) (c : Choice) (count k : ℕ) (within : k < count) where
   further : (new : Course) → new ≡ with_choice old c → IsEnabled i (state_of_run i old.choices) c → repeated (count - (k + 1)) c i (standing new) ≡ repeated (count - k) c i (standing old)
   further new on enabled =
       ap (λ (course : Course). repeated (count - (k + 1)) c i (standing course)) on
-      ∙ sym (repeated_further i old.choices (count - (k + 1)) c enabled.0 enabled.1)
+      ∙ sym (repeated_further i old.choices old.detail (count - (k + 1)) c enabled.0 enabled.1)
       ∙ ap (λ (n : ℕ). repeated n c i (standing old)) (sym one_less)
 
   stuck : entry_of i (state_of_run i old.choices) c ≡ None → repeated (count - k) c i (standing old) ≡ None
-  stuck none = ap (λ (n : ℕ). repeated n c i (standing old)) one_less ∙ repeated_stuck i old.choices (count - (k + 1)) c none
+  stuck none = ap (λ (n : ℕ). repeated n c i (standing old)) one_less ∙ repeated_stuck i old.choices old.detail (count - (k + 1)) c none
 
   -- one round more leaves one time less to make the choice
   pub round_further : (input : Input) → i ≡ input → (new : Course) → new ≡ with_choice old c → IsEnabled i (state_of_run i old.choices) c → repeated (count - (k + 1)) c input (standing new) ≡ repeated (count - k) c input (standing old)

@@ -13,6 +13,7 @@ use Rattle.st_law.specs.State.{State}
 use Rattle.st_law.specs.declared.input.Input.{Input}
 use Rattle.st_law.proofs.EndOfRuns.{run_bound}
 use Rattle.st_law.proofs.Resting.{first_found, rest_settles}
+use Rattle.st_report.specs.declared.detail.Detail.{Detail}
 use Rattle.st_kernel.specs.Kernel.{Course, IsChosen, IsPlayed, next_of, rested}
 use Rattle.st_kernel.proofs.Courses.{run_more, state_more}
 
@@ -75,14 +76,14 @@ module _ (i : Input) (startable : IsStartable i) where
       ∙ sym (ap (rest_on (record { choices = made; state = state_of_run i made }) (λ other. behind count made other)) e)
 
   -- `rest` comes to the same behind the choice that it makes first
-  pub rest_further : (made : List Choice) (c : Choice) → AreEnabled made → next_of (record { input = i; choices = made }) ≡ Some c → rested (record { input = i; choices = made ++ c ∷ [] }) ≡ rested (record { input = i; choices = made })
-  rest_further made c are e =
+  pub rest_further : (detail : Detail) (made : List Choice) (c : Choice) → AreEnabled made → next_of (record { input = i; choices = made; detail = detail }) ≡ Some c → rested (record { input = i; choices = made ++ c ∷ []; detail = detail }) ≡ rested (record { input = i; choices = made; detail = detail })
+  rest_further detail made c are e =
       let x = some_next (first_enabled i (state_of_run i made)) c e in
-      subst (λ (first : Choice). rested (record { input = i; choices = made ++ first ∷ [] }) ≡ rested (record { input = i; choices = made })) x.2
-      (ap (λ (played : Played). record { input = i; choices = played.choices }) (further made x.0 are x.1 (most_steps i) refl))
+      subst (λ (first : Choice). rested (record { input = i; choices = made ++ first ∷ []; detail = detail }) ≡ rested (record { input = i; choices = made; detail = detail })) x.2
+      (ap (λ (played : Played). record { input = i; choices = played.choices; detail = detail }) (further made x.0 are x.1 (most_steps i) refl))
 
-  pub next_adds : (made : List Choice) (c : Choice) → next_of (record { input = i; choices = made }) ≡ Some c → (e : Entry) × (entry_of i (state_of_run i made) c ≡ Some e)
-  next_adds made c e =
+  pub next_adds : (detail : Detail) (made : List Choice) (c : Choice) → next_of (record { input = i; choices = made; detail = detail }) ≡ Some c → (e : Entry) × (entry_of i (state_of_run i made) c ≡ Some e)
+  next_adds detail made c e =
       let x = some_next (first_enabled i (state_of_run i made)) c e in
       (x.0.entry, subst (λ (first : Choice). entry_of i (state_of_run i made) first ≡ Some x.0.entry) x.2 (first_found i (state_of_run i made) x.0 x.1))
 
@@ -98,7 +99,7 @@ rests_at course none = by (most_steps course.input) (first_enabled course.input 
   by (suc count) (Some found) is none = absurd (none-some found.choice (sym none))
 
 pub rest_over : (course : Course) → next_of course ≡ None → rested course ≡ course
-rest_over course none = ap (λ (played : Played). record { input = course.input; choices = played.choices }) (rests_at course none)
+rest_over course none = ap (λ (played : Played). record { input = course.input; choices = played.choices; detail = course.detail }) (rests_at course none)
 
 -- and no choice at all is
 pub settled_at : (course : Course) → IsPlayed course → next_of course ≡ None → IsSettled course.input (state_of_run course.input course.choices)
@@ -116,16 +117,16 @@ pub record GoesOn (before after : Course) : Type 0 where
 -- the first choice that is enabled is made, and leads on
 pub goes_on : (before after : Course) (c : Choice) (enabled : Bool) → IsPlayed before → next_of before ≡ Some c → IsChosen before c enabled after → GoesOn before after
 goes_on before after c true played next chosen = subst (GoesOn before) (sym chosen.0) (record {
-  on_the_way = rest_further before.input played.startable before.choices c played.enabled next;
+  on_the_way = rest_further before.input played.startable before.detail before.choices c played.enabled next;
   made = (c, refl);
   less =
-      let adds = next_adds before.input played.startable before.choices c next in
+      let adds = next_adds before.input played.startable before.detail before.choices c next in
       let more = room before.input played.startable before.choices c adds.0 played.enabled adds.1 in
       let long = length-append before.choices (c ∷ []) in
       omega (arith, more, long);
 })
 goes_on before after c false played next chosen =
-    let adds = next_adds before.input played.startable before.choices c next in
+    let adds = next_adds before.input played.startable before.detail before.choices c next in
     absurd (none-some adds.0 (sym chosen.1 ∙ adds.1))
 
 -- choices that were made earlier stay

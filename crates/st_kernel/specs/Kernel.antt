@@ -7,17 +7,20 @@ use Rattle.st_law.specs.Inputs.{IsStartable}
 use Rattle.st_law.specs.Machine.{entry_of, run, state_of_run, thread_entry, IsEnabled}
 use Rattle.st_law.specs.Schedules.{Played, first_enabled, most_steps, rest_from}
 use Rattle.st_law.specs.State.{thread_count}
+use Rattle.st_report.specs.Detail.{noted}
+use Rattle.st_report.specs.declared.detail.Detail.{Detail}
 use Rattle.st_machine.specs.Machine.{IsMachine, Running}
 use Rattle.st_kernel.specs.Waking.{AreStill}
 
--- an input, and the choices that were made
+-- an input, the choices that were made, and in which detail their entries are noted
 pub record Course : Type 0 where
   pub input : Input
   pub choices : List Choice
+  pub detail : Detail
 
 -- with one more choice
 abbrev pub with_choice : Course → Choice → Course
-with_choice course choice = record { input = course.input; choices = course.choices ++ choice ∷ [] }
+with_choice course choice = record { input = course.input; choices = course.choices ++ choice ∷ []; detail = course.detail }
 
 -- more choices may have been made, and none is taken back
 abbrev pub Continues : Course → Course → Type 0
@@ -43,14 +46,14 @@ next_of course = option_map (λ found. found.choice) (first_enabled course.input
 
 -- with the first enabled choice again and again, until none is enabled
 abbrev pub rested : Course → Course
-rested course = record { input = course.input; choices = (rest_from (most_steps course.input) course.input (state_of_run course.input course.choices) course.choices).choices }
+rested course = record { input = course.input; choices = (rest_from (most_steps course.input) course.input (state_of_run course.input course.choices) course.choices).choices; detail = course.detail }
 
--- what runs is the machine behind these choices, each of them was enabled at its turn, the trace is their run, and no thread can move that
--- stands before the cursor or is marked as asleep
-pub record IsCourse (m : Running) (trace : List Entry) (choices : List Choice) (first : ℕ) (asleep : List Bool) : Type 0 where
+-- what runs is the machine behind these choices, each of them was enabled at its turn, what is noted of their run in this detail is there, and
+-- no thread can move that stands before the cursor or is marked as asleep
+pub record IsCourse (m : Running) (detail : Detail) (trace : List Entry) (choices : List Choice) (first : ℕ) (asleep : List Bool) : Type 0 where
   pub machine : IsMachine m (state_of_run m.input choices)
-  pub trace_is : trace ≡ run m.input choices
-  pub enabled : length trace ≡ length choices
+  pub trace_is : trace ≡ noted detail (run m.input choices)
+  pub enabled : length (run m.input choices) ≡ length choices
   pub still : (t : ℕ) → 1 ≤ t → t < first → thread_entry m.input (state_of_run m.input choices) t ≡ None
   pub from : 1 ≤ first
   pub to : first ≤ suc (thread_count m.input)

@@ -1,8 +1,13 @@
 -- Which threads were woken.
-use Rattle.std.specs.Prelude.{◌≡◌, ◌==◌, ℕ, suc, Bool, true, false, List, None, get_or}
+use Rattle.std.specs.Prelude.{◌≡◌, ◌==◌, ℕ, suc, if◌then◌else◌, Bool, true, false, List, Option, Some, None, get_or}
+use Rattle.std.specs.List.{list_any}
+use Rattle.st_trace.specs.declared.entry.Entry.{Entry}
+use Rattle.st_trace.specs.declared.entry.Entry.TheVariants.{Faulted, Answered, Used, Learned, Replied}
 use Rattle.st_law.specs.Machine.{thread_entry}
 use Rattle.st_law.specs.State.{State}
 use Rattle.st_law.specs.declared.input.Input.{Input}
+use Rattle.st_messages.specs.Messages.{HeldCalls, thread_at}
+use Rattle.st_reached.specs.Waiting.{wakes_all}
 use Rattle.st_kernel.specs.declared.waking.Woken.{Woken}
 use Rattle.st_kernel.specs.declared.waking.Woken.TheVariants.{Nobody, One, Everybody}
 
@@ -11,6 +16,20 @@ abbrev pub is_woken : Woken → ℕ → Bool
 is_woken Nobody t = false
 is_woken (One tid) t = t == tid
 is_woken Everybody t = true
+
+-- the thread that holds the call of a number is woken, or each where that isn't known
+abbrev pub holder_woken : Option ℕ → Woken
+holder_woken None = Everybody
+holder_woken (Some tid) = One tid
+
+-- who is woken by an entry, by the held calls behind it
+abbrev pub woken_by : HeldCalls → Entry → Woken
+woken_by calls (Used u seq call regs args ids result changes) = if list_any wakes_all changes then Everybody else Nobody
+woken_by calls (Faulted q errno) = holder_woken (thread_at calls q)
+woken_by calls (Answered w snapshot verdict applied) = if applied then holder_woken (thread_at calls snapshot.seq) else Nobody
+woken_by calls (Learned q n) = Everybody
+woken_by calls (Replied q reply n) = Everybody
+woken_by calls _ = Nobody
 
 -- whether the thread at a place, from 0, is marked as asleep
 abbrev pub is_asleep : List Bool → ℕ → Bool

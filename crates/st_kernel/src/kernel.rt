@@ -4,6 +4,7 @@ ghost use Rattle.st_law.specs.Lawful.{Lawful};
 ghost use Rattle.st_law.specs.Machine.{entry_of, run, state_of_run, IsEnabled, IsSettled};
 ghost use Rattle.st_reached.specs.Grants.{RepliesUngranted, SetIdsUngranted};
 ghost use Rattle.st_reached.specs.Scripts.{IsBounded};
+ghost use Rattle.st_report.specs.Detail.{noted};
 ghost use Rattle.st_system.specs.Start.{CanStart};
 ghost use Rattle.st_kernel.specs.Kernel.{next_of, rested, with_choice, Continues, IsChosen, IsPlayed};
 
@@ -12,6 +13,7 @@ use crate::waking::woken_by;
 use st_base::Tid;
 use st_law::Input;
 use st_machine::Machine;
+use st_report::Detail;
 use st_trace::{Choice, Entry};
 use std::alloc::{AllocError, Global};
 use std::marker::Model;
@@ -41,6 +43,8 @@ impl From<AllocError> for StepFault {
 #[derive(Debug, Drop)]
 pub struct Kernel<'a> {
     machine: Machine<'a>,
+    // What is noted of the run, in this detail.
+    detail: Detail,
     trace: Vec<Entry>,
     schedule: Vec<Choice>,
     // No thread before this one can move,
@@ -58,14 +62,14 @@ impl<'a> Model for Kernel<'a> {
 
     ghost coded = { Prim.hlevel (codes, formula_code) };
 
-    ghost view = { λ k. record { input = k.machine.input; choices = k.schedule.items } };
+    ghost view = { λ k. record { input = k.machine.input; choices = k.schedule.items; detail = k.detail } };
 
-    ghost invariant = { λ k. IsCourse k.machine k.trace.items k.schedule.items k.first k.asleep.items };
+    ghost invariant = { λ k. IsCourse k.machine k.detail k.trace.items k.schedule.items k.first k.asleep.items };
 }
 
 impl<'a> Kernel<'a> {
-    /// A run before its first choice.
-    pub fn start(alloc: Global, input: &'a Input) -> Result<Self, AllocError>
+    /// A run before its first choice, of which is noted what this detail asks for.
+    pub fn start(alloc: Global, input: &'a Input, detail: Detail) -> Result<Self, AllocError>
         requires startable { IsStartable input.now }
         requires system { CanStart input.now }
         requires bounded { IsBounded input.now.start }
@@ -73,11 +77,13 @@ impl<'a> Kernel<'a> {
         requires replies { RepliesUngranted input.now.replies }
         ensures input { IfOk result (λ kernel. kernel.input ≡ input.now) }
         ensures choices { IfOk result (λ kernel. kernel.choices ≡ []) }
+        ensures detail { IfOk result (λ kernel. kernel.detail ≡ detail) }
     {
         let machine = Machine::start(alloc, input)?;
         let asleep = vec![in alloc; false; machine.thread_count() as usize]?;
         Ok(Kernel {
             machine,
+            detail,
             trace: Vec::new(alloc),
             schedule: Vec::new(alloc),
             first: 1,
@@ -92,10 +98,10 @@ impl<'a> Kernel<'a> {
         self.machine.input()
     }
 
-    /// What was done: the entries of the run that the choices make. Each is lawful by those before it.
+    /// What was done: what is noted of the run that the choices make, each of whose entries is lawful by those before it.
     pub fn trace(&self) -> &[Entry]
-        ensures run { result.now ≡ run self.now.input self.now.choices }
-        ensures lawful { Lawful self.now.input result.now }
+        ensures noted { result.now ≡ noted self.now.detail (run self.now.input self.now.choices) }
+        ensures lawful { Lawful self.now.input (run self.now.input self.now.choices) }
     {
         self.trace.as_slice()
     }
@@ -134,7 +140,7 @@ impl<'a> Kernel<'a> {
                 let woken = woken_by(&self.machine, &entry);
                 self.first = woken.cursor(self.first);
                 woken.wake(&mut self.asleep);
-                self.trace.push_reserved(entry);
+                self.detail.note(&mut self.trace, entry);
                 self.schedule.push_reserved(choice);
                 Ok(true)
             }

@@ -39,6 +39,7 @@ impl Kernel<'_> {
         ensures not_enabled { result ≡ Err StepFault.NotEnabled → repeated count choice self.old.input (standing self.old) ≡ None }
         ensures made { Continues self.old self.new }
         ensures input { self.new.input ≡ self.old.input }
+        ensures detail { self.new.detail ≡ self.old.detail }
     {
         for _ in 0..count {
             self.advance(alloc, choice)?;
@@ -52,6 +53,7 @@ impl Kernel<'_> {
         ensures not_enabled { result ≡ Err StepFault.NotEnabled → line_played line.what line.count self.old.input (standing self.old) ≡ None }
         ensures made { Continues self.old self.new }
         ensures input { self.new.input ≡ self.old.input }
+        ensures detail { self.new.detail ≡ self.old.detail }
     {
         match line.what {
             What::Choose(choice) => self.repeat(alloc, choice, line.count),
@@ -66,6 +68,7 @@ impl Kernel<'_> {
         ensures bad_line { (line : ℕ) → result ≡ Err (PlayFault.BadLine line) → lines_played schedule.now.lines schedule.now.bad self.old.input (standing self.old) ≡ BadLine line }
         ensures made { Continues self.old self.new }
         ensures input { self.new.input ≡ self.old.input }
+        ensures detail { self.new.detail ≡ self.old.detail }
     {
         for line in schedule.lines.as_slice() {
             self.play_line(alloc, *line)

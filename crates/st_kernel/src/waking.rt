@@ -1,10 +1,11 @@
 // Which threads an entry may wake, so that the others needn't be asked again whether they can move.
-ghost use Rattle.std.specs.Prelude.{◌≡◌, ◌==◌, ◌≤◌, ◌<◌, ℕ, suc, true, false, length};
+ghost use Rattle.std.specs.Prelude.{◌≡◌, ◌⊎◌, ◌==◌, ◌≤◌, ◌<◌, ℕ, suc, true, false, length};
 ghost use Rattle.std.specs.List.{list_any};
 ghost use Rattle.st_law.specs.State.{State};
 ghost use Rattle.st_machine.specs.Machine.{IsMachine};
+ghost use Rattle.st_messages.specs.Messages.{thread_at};
 ghost use Rattle.st_reached.specs.Waiting.{is_message_by, wakes, wakes_all};
-ghost use Rattle.st_kernel.specs.Waking.{is_asleep, is_woken};
+ghost use Rattle.st_kernel.specs.Waking.{holder_woken, is_asleep, is_woken, woken_by};
 
 use st_base::{Seq, Tid};
 use st_machine::Machine;
@@ -37,7 +38,8 @@ fn wakes_some(changes: &[Change]) -> bool
 
 // The thread that holds the call of a number, or all of them where it isn't known.
 fn holder(machine: &Machine<'_>, seq: Seq) -> Woken
-    ensures { (st : State) → IsMachine machine.now st → (t : ℕ) → is_message_by st t seq ≡ true → is_woken result t ≡ true }
+    ensures whom { result ≡ holder_woken (thread_at machine.now.workers.calls seq) }
+    ensures law { (st : State) → IsMachine machine.now st → (t : ℕ) → is_message_by st t seq ≡ true → is_woken result t ≡ true }
 {
     match machine.holder(seq) {
         Some(tid) => Woken::One(tid),
@@ -47,7 +49,8 @@ fn holder(machine: &Machine<'_>, seq: Seq) -> Woken
 
 /// Which threads an entry may wake, by the machine behind it.
 pub fn woken_by(machine: &Machine<'_>, entry: &Entry) -> Woken
-    ensures { (st : State) → IsMachine machine.now st → (t : ℕ) → wakes st entry.now t ≡ true → is_woken result t ≡ true }
+    ensures whom { result ≡ woken_by machine.now.workers.calls entry.now }
+    ensures law { (st : State) → IsMachine machine.now st → (t : ℕ) → wakes st entry.now t ≡ true → is_woken result t ≡ true }
 {
     match entry {
         Entry::Used { changes, .. } => {
@@ -79,6 +82,7 @@ fn mark_awake(tid: Tid, asleep: &mut [bool])
     ensures count { length asleep.new ≡ length asleep.old }
     ensures before { (place : ℕ) → is_asleep asleep.new place ≡ true → is_asleep asleep.old place ≡ true }
     ensures awake { (place : ℕ) → is_asleep asleep.new place ≡ true → (suc place == tid) ≡ false }
+    ensures others { (place : ℕ) → is_asleep asleep.old place ≡ true → (suc place == tid) ≡ false → is_asleep asleep.new place ≡ true }
 {
     if tid > 0 && tid as usize <= asleep.len() {
         asleep[tid as usize - 1] = false;
@@ -86,11 +90,12 @@ fn mark_awake(tid: Tid, asleep: &mut [bool])
 }
 
 impl Woken {
-    /// Where a cursor stands that stood here: not behind a thread that was woken.
+    /// Where a cursor stands that stood here: not behind a thread that was woken, and no farther back than it has to.
     pub fn cursor(self, first: Tid) -> Tid
         requires { 1 ≤ first }
         ensures from { 1 ≤ result }
         ensures to { result ≤ first }
+        ensures here { (result ≡ first) ⊎ (is_woken self result ≡ true) }
         ensures before { (t : ℕ) → 1 ≤ t → t < result → is_woken self t ≡ false }
     {
         match self {
@@ -106,6 +111,7 @@ impl Woken {
         ensures count { length asleep.new ≡ length asleep.old }
         ensures before { (place : ℕ) → is_asleep asleep.new place ≡ true → is_asleep asleep.old place ≡ true }
         ensures woken { (place : ℕ) → is_asleep asleep.new place ≡ true → is_woken self (suc place) ≡ false }
+        ensures others { (place : ℕ) → is_asleep asleep.old place ≡ true → is_woken self (suc place) ≡ false → is_asleep asleep.new place ≡ true }
     {
         match self {
             Woken::Nobody => {}

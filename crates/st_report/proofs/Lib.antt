@@ -1,4 +1,5 @@
 pub mod Joined
+pub mod Noted
 pub mod PlayedAgain
 pub mod Repeats
 mod WorkedRows

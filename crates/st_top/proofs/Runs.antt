@@ -1,7 +1,7 @@
 -- What is shown of a run, by how its schedule was played.
-use Rattle.std.proofs.Common.{◌≡◌, ◌∙◌, ℕ, List, [], Option, Result, Ok, Err, refl, ap, sym, subst}
+use Rattle.std.proofs.Common.{◌≡◌, ◌∙◌, ℕ, List, [], Result, Ok, Err, refl, ap, sym, subst}
 use Rattle.std.specs.Result.{IsErr, IsErrAnd}
-use Rattle.st_law.specs.Schedules.{BadLine, Choices, ScheduleOutcome, lines_played, played}
+use Rattle.st_law.specs.Schedules.{BadLine, lines_played, played}
 use Rattle.st_law.specs.declared.input.Input.{Input}
 use Rattle.st_law.specs.declared.input.ReadSchedule.{ReadSchedule}
 use Rattle.st_command.specs.declared.given.Print.{Print}
@@ -9,15 +9,14 @@ use Rattle.st_kernel.specs.Kernel.{Course, standing}
 use Rattle.st_kernel.specs.declared.play.PlayFault.{PlayFault}
 use Rattle.st_kernel.specs.declared.play.PlayFault.TheVariants as play
 use Rattle.st_top.specs.Ends.{RunShown}
-use Rattle.st_top.specs.Outcome.{printed, status_of_play}
+use Rattle.st_top.specs.Outcome.{status_of_play}
 use Rattle.st_top.specs.declared.status.Status.{Status}
 use Rattle.st_top.specs.declared.status.Status.TheVariants.{NoMemory}
-use Rattle.st_trace.specs.declared.entry.Choice.{Choice}
 
 module _ (print : Print) (i : Input) (schedule : ReadSchedule) (course : Course) (input : course.input ≡ i) (choices : course.choices ≡ []) where
   -- what the lines come to from the first state on is what the schedule does
   from_first : lines_played schedule.lines schedule.bad course.input (standing course) ≡ played i schedule
-  from_first = ap (λ (other : Course). lines_played schedule.lines schedule.bad other.input (standing other)) (λ k. record { input = input k; choices = choices k })
+  from_first = ap (λ (other : Course). lines_played schedule.lines schedule.bad other.input (standing other)) (λ k. record { input = input k; choices = choices k; detail = course.detail })
 
   pub refused : (fault : PlayFault) → ((line : ℕ) → fault ≡ play.BadLine line → lines_played schedule.lines schedule.bad course.input (standing course) ≡ BadLine line) →
       (result : Result (List ℕ) Status) → IsErr result → IsErrAnd result (λ s. s ≡ status_of_play fault) → RunShown print i schedule result

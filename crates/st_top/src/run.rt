@@ -5,7 +5,7 @@ ghost use Rattle.st_reached.specs.Grants.{RepliesUngranted, SetIdsUngranted};
 ghost use Rattle.st_reached.specs.Scripts.{IsBounded};
 ghost use Rattle.st_system.specs.Start.{CanStart};
 ghost use Rattle.st_top.specs.Ends.{RunShown};
-ghost use Rattle.st_top.specs.Outcome.{printed};
+ghost use Rattle.st_top.specs.Outcome.{detail_of, printed};
 
 use crate::status::Status;
 use st_audit::{audit_text, policy_text};
@@ -13,12 +13,23 @@ use st_base::Text;
 use st_command::Print;
 use st_kernel::Kernel;
 use st_law::{Input, ReadSchedule};
-use st_report::{render_trace, schedule_text};
+use st_report::{Detail, render_trace, schedule_text};
 use std::alloc::{AllocError, Global};
+
+// What has to be noted of a run for the text that is asked for.
+fn detail_of(print: Print) -> Detail
+    ensures { result ≡ detail_of print }
+{
+    match print {
+        Print::Trace => Detail::Steps,
+        Print::Audit | Print::Schedule | Print::Policy => Detail::Calls,
+    }
+}
 
 // The text that is asked for of a run.
 fn shown(alloc: Global, print: Print, kernel: &Kernel<'_>) -> Result<Text, AllocError>
     requires startable { IsStartable kernel.now.input }
+    requires detail { kernel.now.detail ≡ detail_of print }
     ensures { IfOk result (λ text. text ≡ printed print kernel.now.input kernel.now.choices) }
 {
     match print {
@@ -43,7 +54,7 @@ pub fn text_of_run(
     requires replies { RepliesUngranted input.now.replies }
     ensures { RunShown print input.now schedule.now result }
 {
-    let mut kernel = Kernel::start(alloc, input)?;
+    let mut kernel = Kernel::start(alloc, input, detail_of(print))?;
     kernel.play(alloc, schedule)?;
     Ok(shown(alloc, print, &kernel)?)
 }

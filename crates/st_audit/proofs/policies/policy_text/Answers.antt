@@ -1,13 +1,23 @@
-use Rattle.std.proofs.Common.{◌≡◌, ◌∙◌, List, ℕ, IfOk, ap, reverse, subst}
+use Rattle.std.proofs.Common.{◌≡◌, ◌∙◌, List, ap, reverse}
+use Rattle.std.proofs.lemmas.Result.{IfOk-weaker}
+use Rattle.st_law.specs.Lawful.{Lawful}
 use Rattle.st_law.specs.Sessions.{SessionFilter}
 use Rattle.st_learn.specs.Learnt.{learnt_policies}
 use Rattle.st_policy.specs.Canon.{canon}
+use Rattle.st_report.specs.Detail.{noted}
+use Rattle.st_report.specs.declared.detail.Detail.TheVariants.{Calls}
+use Rattle.st_trace.specs.declared.entry.Entry.{Entry}
+use Rattle.st_audit.specs.PolicyText.{policy_text}
+use Rattle.st_audit.specs.Told.{session_told}
 use Rattle.st_audit.proofs.Answered.{session_same}
+use Rattle.st_audit.proofs.Noted.{session_noted}
 use Rattle.st_audit.proofs.policies.policy_text.Goals as goal
 
 pub returns : goal.returns
 returns c =
     let i = c.args.input.now in
-    subst (λ (e : List ℕ). IfOk c.print_learnt.result (λ text. text ≡ e))
-    (ap (λ (session : List SessionFilter). canon (learnt_policies i.policies session)) (c.in_ok-session.ensures ∙ session_same i c.requires.startable (reverse c.args.trace.now) c.requires.lawful))
+    IfOk-weaker c.print_learnt.result (λ text. text ≡ canon (learnt_policies i.policies c.in_ok-session.session.filters)) (λ text. (trace : List Entry) → Lawful i trace → c.args.calls.now ≡ noted Calls trace → text ≡ policy_text i trace)
+    (λ text is trace lawful all.
+    is ∙ ap (λ (session : List SessionFilter). canon (learnt_policies i.policies session))
+    (c.in_ok-session.ensures ∙ ap (λ (entries : List Entry). session_told i (reverse entries)) all ∙ session_noted i trace ∙ session_same i c.requires.startable (reverse trace) lawful))
     c.print_learnt.ensures

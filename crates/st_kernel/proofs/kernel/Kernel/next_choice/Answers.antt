@@ -13,31 +13,31 @@ use Rattle.st_kernel.proofs.kernel.Kernel.next_choice.Goals as goal
 
 pub invariant_of-self-then-self-thread_count : goal.invariant_of-self-then-self-thread_count
 invariant_of-self-then-self-thread_count c =
-    course_found c.self.inside.machine c.self.inside.trace.items c.self.inside.schedule.items c.self.inside.first c.self.inside.asleep.items c.self.invariant c.deref_mut.result.now c.first_able.new.asleep _ c.deref_mut.ensures.value
+    course_found c.self.inside.machine c.self.inside.detail c.self.inside.trace.items c.self.inside.schedule.items c.self.inside.first c.self.inside.asleep.items c.self.invariant c.deref_mut.result.now c.first_able.new.asleep _ c.deref_mut.ensures.value
     c.first_able.ensures.still c.first_able.ensures.count (with_items_is c.self.inside.asleep c.first_able.new.asleep (c.first_able.ensures.count ∙ c.deref_mut.ensures.len))
     c.in_ok-self-inside.field-0 c.in_ok-self-inside.ensures.first
 
 pub invariant_of-self-in-Some : goal.invariant_of-self-in-Some
 invariant_of-self-in-Some c =
-    course_found c.self.inside.machine c.self.inside.trace.items c.self.inside.schedule.items c.self.inside.first c.self.inside.asleep.items c.self.invariant c.deref_mut.result.now c.first_able.new.asleep _ c.deref_mut.ensures.value
+    course_found c.self.inside.machine c.self.inside.detail c.self.inside.trace.items c.self.inside.schedule.items c.self.inside.first c.self.inside.asleep.items c.self.invariant c.deref_mut.result.now c.first_able.new.asleep _ c.deref_mut.ensures.value
     c.first_able.ensures.still c.first_able.ensures.count (with_items_is c.self.inside.asleep c.first_able.new.asleep (c.first_able.ensures.count ∙ c.deref_mut.ensures.len))
     c.in_ok-self-inside.field-0 c.in_ok-self-inside.ensures.first
 
 pub invariant_of-self-in_err-can_ask : goal.invariant_of-self-in_err-can_ask
 invariant_of-self-in_err-can_ask c =
-    course_found c.self.inside.machine c.self.inside.trace.items c.self.inside.schedule.items c.self.inside.first c.self.inside.asleep.items c.self.invariant c.deref_mut.result.now c.first_able.new.asleep _ c.deref_mut.ensures.value
+    course_found c.self.inside.machine c.self.inside.detail c.self.inside.trace.items c.self.inside.schedule.items c.self.inside.first c.self.inside.asleep.items c.self.invariant c.deref_mut.result.now c.first_able.new.asleep _ c.deref_mut.ensures.value
     c.first_able.ensures.still c.first_able.ensures.count (with_items_is c.self.inside.asleep c.first_able.new.asleep (c.first_able.ensures.count ∙ c.deref_mut.ensures.len))
     c.in_ok-self-inside.field-0 c.in_ok-self-inside.ensures.first
 
 pub invariant_of-self-then-branch : goal.invariant_of-self-then-branch
 invariant_of-self-then-branch c =
-    course_found c.self.inside.machine c.self.inside.trace.items c.self.inside.schedule.items c.self.inside.first c.self.inside.asleep.items c.self.invariant c.deref_mut.result.now c.first_able.new.asleep _ c.deref_mut.ensures.value
+    course_found c.self.inside.machine c.self.inside.detail c.self.inside.trace.items c.self.inside.schedule.items c.self.inside.first c.self.inside.asleep.items c.self.invariant c.deref_mut.result.now c.first_able.new.asleep _ c.deref_mut.ensures.value
     c.first_able.ensures.still c.first_able.ensures.count (with_items_is c.self.inside.asleep c.first_able.new.asleep (c.first_able.ensures.count ∙ c.deref_mut.ensures.len))
     c.in_ok-self-inside.field-0 c.in_ok-self-inside.ensures.first
 
 pub invariant_of-self-2 : goal.invariant_of-self-2
 invariant_of-self-2 c =
-    course_found c.self.inside.machine c.self.inside.trace.items c.self.inside.schedule.items c.self.inside.first c.self.inside.asleep.items c.self.invariant c.deref_mut.result.now c.first_able.new.asleep _ c.deref_mut.ensures.value
+    course_found c.self.inside.machine c.self.inside.detail c.self.inside.trace.items c.self.inside.schedule.items c.self.inside.first c.self.inside.asleep.items c.self.invariant c.deref_mut.result.now c.first_able.new.asleep _ c.deref_mut.ensures.value
     c.first_able.ensures.still c.first_able.ensures.count (with_items_is c.self.inside.asleep c.first_able.new.asleep (c.first_able.ensures.count ∙ c.deref_mut.ensures.len))
     c.in_ok-self-inside.field-0 c.in_ok-self-inside.ensures.first
 

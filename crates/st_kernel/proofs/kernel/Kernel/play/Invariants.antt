@@ -8,5 +8,6 @@ abbrev pub invariant-loop-line : goal.invariant-loop-line
 invariant-loop-line l = record {
   made : Continues l.fn.self l.self;
   input : l.self.input ≡ l.fn.self.input;
+  detail : l.self.detail ≡ l.fn.self.detail;
   left : lines_played (drop l.line-index l.schedule.lines) l.schedule.bad l.fn.self.input (standing l.self) ≡ lines_played l.schedule.lines l.schedule.bad l.fn.self.input (standing l.fn.self);
 }

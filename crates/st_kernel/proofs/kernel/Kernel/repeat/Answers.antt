@@ -13,5 +13,6 @@ pub loop-preserved : goal.loop-preserved
 loop-preserved c = record {
   made = continues_on c.args.self.now c.loop.self c.advance.new.self c.loop.invariant.made (continues_by c.loop.self c.args.choice c.advance.new.self c.in_ok-advance.ensures.ok);
   input = ap (λ (course : Course). course.input) c.in_ok-advance.ensures.ok ∙ c.loop.invariant.input;
+  detail = ap (λ (course : Course). course.detail) c.in_ok-advance.ensures.ok ∙ c.loop.invariant.detail;
   left = round_further c.loop.self c.args.choice c.args.count c.loop.counter c.loop-test.true c.args.self.now.input c.loop.invariant.input c.advance.new.self c.in_ok-advance.ensures.ok c.in_ok-advance.ensures.enabled ∙ c.loop.invariant.left;
 }

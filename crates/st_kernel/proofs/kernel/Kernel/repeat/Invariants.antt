@@ -8,5 +8,6 @@ abbrev pub invariant-loop : goal.invariant-loop
 invariant-loop l = record {
   made : Continues l.fn.self l.self;
   input : l.self.input ≡ l.fn.self.input;
+  detail : l.self.detail ≡ l.fn.self.detail;
   left : repeated (l.count - l.counter) l.choice l.fn.self.input (standing l.self) ≡ repeated l.count l.choice l.fn.self.input (standing l.fn.self);
 }
