@@ -111,7 +111,7 @@ pub struct ArgSpec {
 }
 
 /// An argument as a policy sees it.
-#[derive(Clone)]
+#[derive(Clone, PartialEq, Eq, Hash)]
 pub struct Arg {
     pub label: &'static str,
     pub index: u32,

@@ -7,12 +7,15 @@ enum Item {
     Class { negated: bool, ranges: Vec<(u8, u8)> },
 }
 
-pub struct Pattern(Vec<Item>);
+pub struct Pattern {
+    pub text: Vec<u8>,
+    items: Vec<Item>,
+}
 
 impl Pattern {
-    pub fn new(text: &[u8]) -> Pattern {
+    pub fn new(text: Vec<u8>) -> Pattern {
         let mut items = Vec::new();
-        let mut rest = text;
+        let mut rest = &text[..];
         while let Some((&byte, tail)) = rest.split_first() {
             rest = tail;
             items.push(match byte {
@@ -35,7 +38,7 @@ impl Pattern {
                 _ => Item::Byte(byte),
             });
         }
-        Pattern(items)
+        Pattern { text, items }
     }
 
     /// Whether the whole text matches, or a front of it that a slash follows.
@@ -43,7 +46,7 @@ impl Pattern {
         let (mut item, mut at) = (0, 0);
         let mut star: Option<(usize, usize)> = None;
         loop {
-            match self.0.get(item) {
+            match self.items.get(item) {
                 None if text.get(at).is_none_or(|&b| b == b'/') => return true,
                 Some(Item::Star) => {
                     item += 1;

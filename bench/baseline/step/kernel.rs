@@ -1,7 +1,8 @@
 //! The machine: threads, messages and workers, one step at a time.
 use crate::args::{Gathering, Need};
 use crate::calls::{self, Arg, ArgKind, Call, Errno, Ids, Regs, Rule};
-use crate::policy::{Action, Policies, Policy, Verdict};
+use crate::operator::{Mode, Operator};
+use crate::policy::{Action, Filter, Policies, Policy, Verdict};
 use crate::print::{Audit, Cause, Choice, Entry, How, Judged, Printer, Used, Way};
 use crate::script::{Instr, Script};
 use crate::system::{Change, System};
@@ -10,6 +11,7 @@ use std::collections::BTreeSet;
 use std::rc::Rc;
 
 pub struct Options {
+    pub mode: Mode,
     pub inherit: bool,
     pub aliasing: bool,
     pub ids: Option<(u32, u32)>,
@@ -48,6 +50,7 @@ struct Head {
 
 struct Message {
     head: Rc<Head>,
+    /// What it was answered with. A question has none until the operator has answered it.
     answer: Option<Answer>,
 }
 
@@ -77,13 +80,9 @@ impl Messages {
     }
 
     /// Answers a message, if it lives.
-    fn answer(&mut self, seq: u64, answer: Answer) -> bool {
-        match self.all.get_mut(seq as usize - 1) {
-            Some(Some(message)) => {
-                message.answer = Some(answer);
-                true
-            }
-            _ => false,
+    fn answer(&mut self, seq: u64, answer: Answer) {
+        if let Some(Some(message)) = self.all.get_mut(seq as usize - 1) {
+            message.answer = Some(answer);
         }
     }
 
@@ -110,12 +109,14 @@ pub struct Kernel {
     threads: Vec<Thread>,
     messages: Messages,
     workers: Vec<Option<Turn>>,
+    operator: Operator,
     aliasing: bool,
     printer: Printer,
 }
 
 impl Kernel {
-    pub fn start(script: Script, policies: Policies, options: &Options, printer: Printer) -> Kernel {
+    pub fn start(script: Script, mut policies: Policies, options: &Options, printer: Printer) -> Kernel {
+        let operator = Operator::new(options.mode, script.replies, &mut policies);
         let mut system = System::new(script.tree, policies, options.inherit);
         for row in script.processes {
             let given = options.ids.filter(|_| row.traced);
@@ -135,6 +136,7 @@ impl Kernel {
             threads,
             messages: Messages::default(),
             workers: (0..options.workers).map(|_| None).collect(),
+            operator,
             aliasing: options.aliasing,
             printer,
         }
@@ -153,7 +155,7 @@ impl Kernel {
                 Some(None) => !self.messages.waiting.is_empty(),
                 Some(Some(_)) => true,
             },
-            Choice::Operator => false,
+            Choice::Operator => self.operator.is_asked(),
         }
     }
 
@@ -177,7 +179,7 @@ impl Kernel {
         match choice {
             Choice::Thread(tid) => self.thread_step(tid),
             Choice::Worker(worker) => self.worker_step(worker),
-            Choice::Operator => {}
+            Choice::Operator => self.operator_step(),
         }
         self.printer.choice(choice);
         true
@@ -188,7 +190,8 @@ impl Kernel {
         loop {
             let threads = (0..self.threads.len()).map(Choice::Thread);
             let workers = (0..self.workers.len()).map(Choice::Worker);
-            let Some(choice) = threads.chain(workers).find(|&choice| self.is_enabled(choice)) else { return };
+            let choices = threads.chain(workers).chain([Choice::Operator]);
+            let Some(choice) = choices.into_iter().find(|&choice| self.is_enabled(choice)) else { return };
             self.advance(choice);
         }
     }
@@ -223,7 +226,7 @@ impl Kernel {
     fn enter(&mut self, tid: usize, pid: usize, call: Call, regs: Regs, child: Option<usize>) {
         let process = &self.system.processes[pid];
         let rule = Rule::of_call(call, &regs, self.aliasing);
-        let way = match process.policy.filters(rule).first() {
+        let way = match self.operator.first_filter(&process.policy, rule) {
             _ if !process.traced => Way::Untraced,
             Some(filter) if filter.is_plain() => match filter.action {
                 Action::Permit => Way::Fast,
@@ -248,6 +251,7 @@ impl Kernel {
                 *worker = None;
             }
         }
+        self.operator.withdraw(seq);
         self.messages.remove(seq)
     }
 
@@ -298,8 +302,26 @@ impl Kernel {
             regs: &head.regs,
             args: &args,
         };
-        let applied = self.messages.answer(seq, Answer::Verdict(verdict, Rc::clone(&args)));
+        let applied = self.messages.get(seq).is_some();
         self.printer.entry(Entry::Answered { worker, seq, judged: &judged, verdict, applied });
+        if !applied {
+            return;
+        }
+        let verdict = match verdict {
+            Verdict::Unmatched => self.operator.decide(seq, &head.policy, head.rule, &args, head.ids),
+            _ => Some(verdict),
+        };
+        if let Some(verdict) = verdict {
+            self.messages.answer(seq, Answer::Verdict(verdict, args));
+        }
+    }
+
+    // The operator.
+
+    fn operator_step(&mut self) {
+        for (seq, verdict, args) in self.operator.answer(&mut self.printer) {
+            self.messages.answer(seq, Answer::Verdict(verdict, args));
+        }
     }
 
     // Threads with a call.
@@ -381,15 +403,15 @@ impl Kernel {
             Answer::Fault(errno) => return self.deny(tid, seq, &head, &[], errno, Cause::Fault, false),
             Answer::Verdict(verdict, args) => (verdict, args),
         };
-        let filter = |number: usize| &head.policy.filters(head.rule)[number - 1];
         let (number, ids) = match verdict {
             Verdict::Unmatched => return self.deny(tid, seq, &head, &args, Errno::Perm, Cause::NoFilter, false),
             Verdict::Refuse(number, errno) => {
-                return self.deny(tid, seq, &head, &args, errno, Cause::Filter(number), filter(number).log);
+                let log = self.operator.filter(&head.policy, head.rule, number).log;
+                return self.deny(tid, seq, &head, &args, errno, Cause::Filter(number), log);
             }
             Verdict::Permit(number, ids) => (number, ids),
         };
-        let log = filter(number).log;
+        let &Filter { log, grant, .. } = self.operator.filter(&head.policy, head.rule, number);
         if let Some(name) = self.link_met(head.call, &head.regs, &args) {
             return self.deny(tid, seq, &head, &args, Errno::Loop, Cause::Link(name), log);
         }
@@ -403,7 +425,7 @@ impl Kernel {
         }
         let used = Used { call: head.call, regs: &head.regs, ids, args: &args, result, changes: &changes };
         self.printer.entry(Entry::Used { tid, seq: Some(seq), used: &used });
-        let how = How::Permit { number, granted: filter(number).grant.map(|_| ids) };
+        let how = How::Permit { number, granted: grant.map(|_| ids) };
         let (pid, policy, rule) = (head.pid, &head.policy.binary, head.rule);
         self.printer.audit(Audit { pid, tid, policy, rule, args: &args, how, result, log });
     }

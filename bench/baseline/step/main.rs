@@ -1,9 +1,9 @@
 //! `systrace step` in plain Rust, of which nothing is proved: what the proved program is measured against.
-//! It serves enforcing runs alone: no `-A`, `-t` and `--print policy`.
 mod args;
 mod calls;
 mod glob;
 mod kernel;
+mod operator;
 mod policy;
 mod print;
 mod script;
@@ -12,6 +12,7 @@ mod tokens;
 mod tree;
 
 use kernel::{Kernel, Options};
+use operator::Mode;
 use policy::Policies;
 use print::{PrintKind, Printer};
 use script::SchedLine;
@@ -56,13 +57,14 @@ fn main() -> ExitCode {
 
 fn run(words: &[String]) -> Result<String, Status> {
     let command = parse(words).ok_or(Status::Usage)?;
-    let script = script::read_script(&fetch(&command.script)?, command.options.ids).map_err(|_| Status::Script)?;
+    let script = script::read_script(&fetch(&command.script)?, &command.options).map_err(|_| Status::Script)?;
+    let mut printer = Printer::new(command.kind);
     let mut policies = Policies::default();
     for name in &command.policies {
-        policies.read(&fetch(name)?, &script.env).map_err(|_| Status::Policy)?;
+        policies.read(&fetch(name)?, &script.env, &mut printer).map_err(|_| Status::Policy)?;
     }
     let schedule = script::read_schedule(&fetch(&command.schedule)?).map_err(|_| Status::Schedule)?;
-    let mut kernel = Kernel::start(script, policies, &command.options, Printer::new(command.kind));
+    let mut kernel = Kernel::start(script, policies, &command.options, printer);
     for line in schedule {
         match line {
             SchedLine::Rest => kernel.rest(),
@@ -95,8 +97,8 @@ fn parse(words: &[String]) -> Option<Command> {
         return None;
     }
     let mut policies = Vec::new();
-    let (mut enforce, mut inherit, mut whole_names) = (false, false, false);
-    let (mut ids, mut workers, mut kind) = (None, None, None);
+    let (mut inherit, mut whole_names) = (false, false);
+    let (mut mode, mut ids, mut workers, mut kind) = (None, None, None, None);
     let script = loop {
         let word = words.next()?;
         let is_again = match word {
@@ -104,7 +106,9 @@ fn parse(words: &[String]) -> Option<Command> {
                 policies.push(words.next()?.to_string());
                 policies.len() > MOST_POLICIES
             }
-            "-a" => std::mem::replace(&mut enforce, true),
+            "-a" => mode.replace(Mode::Enforce).is_some(),
+            "-A" => mode.replace(Mode::Learn).is_some(),
+            "-t" => mode.replace(Mode::Ask).is_some(),
             "-i" => std::mem::replace(&mut inherit, true),
             "-u" => std::mem::replace(&mut whole_names, true),
             "-c" => {
@@ -117,6 +121,7 @@ fn parse(words: &[String]) -> Option<Command> {
                     "audit" => PrintKind::Audit,
                     "trace" => PrintKind::Trace,
                     "schedule" => PrintKind::Schedule,
+                    "policy" => PrintKind::Policy,
                     _ => return None,
                 };
                 kind.replace(named).is_some()
@@ -131,7 +136,8 @@ fn parse(words: &[String]) -> Option<Command> {
     if words.next().is_some() || script.starts_with('-') || schedule.starts_with('-') {
         return None;
     }
-    let options = Options { inherit, aliasing: !whole_names, ids, workers: workers.unwrap_or(1) as usize };
+    let mode = mode.unwrap_or(Mode::Enforce);
+    let options = Options { mode, inherit, aliasing: !whole_names, ids, workers: workers.unwrap_or(1) as usize };
     let kind = kind.unwrap_or(PrintKind::Audit);
     Some(Command { policies, options, kind, script: script.to_string(), schedule: schedule.to_string() })
 }

@@ -1,8 +1,11 @@
 //! Policies: their text, and what their filters decide.
-use crate::calls::{Arg, Call, Errno, Ids, Rule};
+use crate::calls::{Arg, ArgSpec, Call, Errno, Ids, Rule};
 use crate::glob::Pattern;
-use crate::tokens::{self, Dollars, Kind, Token};
+use crate::print::Printer;
+use crate::tokens::{self, Dollars, Kind, Quoted, Token};
+use std::borrow::Cow;
 use std::collections::HashMap;
+use std::fmt::{self, Display, Formatter};
 use std::rc::Rc;
 
 const MOST_FILTERS: usize = 4096;
@@ -20,9 +23,12 @@ pub struct Env {
     pub groups: HashMap<Vec<u8>, u32>,
     pub dollars: Dollars,
     pub elevate: bool,
+    pub may_ask: bool,
 }
 
 pub struct Policy {
+    /// Policies are numbered from 0 on, as they come.
+    pub number: usize,
     pub binary: Vec<u8>,
     rules: HashMap<Rule, Vec<Filter>>,
 }
@@ -32,17 +38,17 @@ impl Policy {
         self.rules.get(&rule).map_or(&[], Vec::as_slice)
     }
 
-    /// The verdict of the first filter that holds.
+    /// The verdict of the first filter of a rule that holds.
     pub fn decide(&self, rule: Rule, args: &[Arg], ids: Ids) -> Verdict {
-        let found = self.filters(rule).iter().enumerate().find(|(_, filter)| filter.holds(args, ids));
-        match found {
-            None => Verdict::Unmatched,
-            Some((at, filter)) => match filter.action {
-                Action::Permit => Verdict::Permit(at + 1, filter.granted(ids)),
-                Action::Deny(errno) => Verdict::Refuse(at + 1, errno),
-                Action::Ask => Verdict::Unmatched,
-            },
-        }
+        decide(self.filters(rule), 1, args, ids)
+    }
+}
+
+/// The verdict of the first of these filters that holds. They are numbered on from the number of the first.
+pub fn decide(filters: &[Filter], first: usize, args: &[Arg], ids: Ids) -> Verdict {
+    match filters.iter().position(|filter| filter.holds(args, ids)) {
+        None => Verdict::Unmatched,
+        Some(at) => filters[at].verdict(first + at, ids),
     }
 }
 
@@ -76,9 +82,11 @@ pub struct Grant {
 
 enum Expr {
     True,
-    /// A test of the argument at this place of the rule's.
+    /// A test of the argument at this place of the rule's, which has this label and index.
     Test {
         place: usize,
+        label: Cow<'static, str>,
+        index: u32,
         test: Test,
     },
     Not(Box<Expr>),
@@ -87,7 +95,7 @@ enum Expr {
 }
 
 enum Test {
-    Match(Pattern),
+    Match(Box<Pattern>),
     Eq(Vec<u8>),
     Neq(Vec<u8>),
     Sub(Vec<u8>),
@@ -102,6 +110,18 @@ struct Predicate {
 }
 
 impl Filter {
+    /// The plain permit of the calls that have exactly these arguments.
+    pub fn learnt(args: &[Arg]) -> Filter {
+        let tests = args.iter().enumerate().map(|(place, arg)| Expr::Test {
+            place,
+            label: Cow::Borrowed(arg.label),
+            index: arg.index,
+            test: Test::Eq(arg.text.clone()),
+        });
+        let expr = tests.reduce(|left, right| Expr::And(Box::new(left), Box::new(right))).unwrap_or(Expr::True);
+        Filter { expr, action: Action::Permit, grant: None, log: false, predicate: None }
+    }
+
     pub fn holds(&self, args: &[Arg], ids: Ids) -> bool {
         self.expr.is_true(args) && self.predicate.as_ref().is_none_or(|predicate| predicate.holds(ids))
     }
@@ -109,6 +129,15 @@ impl Filter {
     /// Whether the kernel may answer by this filter alone, without copies.
     pub fn is_plain(&self) -> bool {
         matches!(self.expr, Expr::True) && self.grant.is_none() && !self.log && self.predicate.is_none()
+    }
+
+    /// What the filter says under this number, where it holds.
+    pub fn verdict(&self, number: usize, ids: Ids) -> Verdict {
+        match self.action {
+            Action::Permit => Verdict::Permit(number, self.granted(ids)),
+            Action::Deny(errno) => Verdict::Refuse(number, errno),
+            Action::Ask => Verdict::Unmatched,
+        }
     }
 
     fn granted(&self, ids: Ids) -> Ids {
@@ -120,13 +149,17 @@ impl Filter {
 }
 
 impl Expr {
+    fn is_join(&self) -> bool {
+        matches!(self, Expr::And(..) | Expr::Or(..))
+    }
+
     fn is_true(&self, args: &[Arg]) -> bool {
         match self {
             Expr::True => true,
             Expr::Not(inner) => !inner.is_true(args),
             Expr::And(left, right) => left.is_true(args) && right.is_true(args),
             Expr::Or(left, right) => left.is_true(args) || right.is_true(args),
-            Expr::Test { place, test } => args.get(*place).is_some_and(|arg| test.is_true(&arg.text)),
+            Expr::Test { place, test, .. } => args.get(*place).is_some_and(|arg| test.is_true(&arg.text)),
         }
     }
 }
@@ -171,14 +204,20 @@ pub struct Policies {
 
 impl Policies {
     /// The policy of a binary, which is empty where none was read.
-    pub fn get(&self, binary: &[u8]) -> Rc<Policy> {
+    pub fn get(&mut self, binary: &[u8]) -> Rc<Policy> {
         match self.by_binary.get(binary) {
             Some(policy) => Rc::clone(policy),
-            None => Rc::new(Policy { binary: binary.to_vec(), rules: HashMap::new() }),
+            None => self.add(binary.to_vec(), HashMap::new()),
         }
     }
 
-    pub fn read(&mut self, text: &[u8], env: &Env) -> Parsed<()> {
+    fn add(&mut self, binary: Vec<u8>, rules: HashMap<Rule, Vec<Filter>>) -> Rc<Policy> {
+        let policy = Rc::new(Policy { number: self.by_binary.len(), binary, rules });
+        self.by_binary.insert(policy.binary.clone(), Rc::clone(&policy));
+        policy
+    }
+
+    pub fn read(&mut self, text: &[u8], env: &Env, printer: &mut Printer) -> Parsed<()> {
         let tokens = tokens::tokens(text).map_err(|_| PolicyError)?;
         let mut parser = Parser { rest: &tokens, env, operators: 0 };
         parser.skip_lines();
@@ -187,33 +226,120 @@ impl Policies {
             if self.by_binary.contains_key(&binary) {
                 return Err(PolicyError);
             }
+            let number = self.by_binary.len();
+            printer.policy(number, &binary);
             let mut rules: HashMap<Rule, Vec<Filter>> = HashMap::new();
             parser.skip_lines();
             while !parser.rest.is_empty() && !parser.is_word("Policy") {
-                let (rule, filter) = parser.filter()?;
+                let (name, rule, filter) = parser.filter()?;
                 self.filters += 1;
                 if self.filters > MOST_FILTERS {
                     return Err(PolicyError);
                 }
+                printer.filter(number, name, &filter);
                 if let Some(rule) = rule {
                     rules.entry(rule).or_default().push(filter);
                 }
                 parser.skip_lines();
             }
-            self.by_binary.insert(binary.clone(), Rc::new(Policy { binary, rules }));
+            self.add(binary, rules);
         }
         Ok(())
     }
 }
 
+/// The operator's answer to a question of this binary's policy.
+pub struct Reply {
+    pub binary: Vec<u8>,
+    /// None where the model has no such call.
+    pub rule: Option<Rule>,
+    pub filter: Filter,
+}
+
 /// Reads the filter of a reply. It may not ask.
-pub fn check_reply(tokens: &[Token], env: &Env) -> Parsed<()> {
+pub fn read_reply(binary: Vec<u8>, tokens: &[Token], env: &Env) -> Parsed<Reply> {
     let mut parser = Parser { rest: tokens, env, operators: 0 };
-    let (_, filter) = parser.filter()?;
+    let (_, rule, filter) = parser.filter()?;
     if !parser.rest.is_empty() || matches!(filter.action, Action::Ask) {
         return Err(PolicyError);
     }
-    Ok(())
+    Ok(Reply { binary, rule, filter })
+}
+
+// The canonical text.
+
+impl Display for Filter {
+    fn fmt(&self, f: &mut Formatter<'_>) -> fmt::Result {
+        if !matches!(self.expr, Expr::True) {
+            write!(f, "{} then ", self.expr)?;
+        }
+        match self.action {
+            Action::Permit => f.write_str("permit")?,
+            Action::Deny(Errno::Perm) => f.write_str("deny")?,
+            Action::Deny(errno) => write!(f, "deny[{}]", errno.name().to_ascii_lowercase())?,
+            Action::Ask => f.write_str("ask")?,
+        }
+        if let Some(grant) = self.grant {
+            f.write_str(" as ")?;
+            grant.user.map_or(Ok(()), |user| write!(f, "{user}"))?;
+            grant.group.map_or(Ok(()), |group| write!(f, ":{group}"))?;
+        }
+        if self.log {
+            f.write_str(" log")?;
+        }
+        self.predicate.as_ref().map_or(Ok(()), |predicate| write!(f, ", if {predicate}"))
+    }
+}
+
+impl Display for Expr {
+    fn fmt(&self, f: &mut Formatter<'_>) -> fmt::Result {
+        match self {
+            Expr::True => f.write_str("true"),
+            Expr::Test { label, index: 0, test, .. } => write!(f, "{label} {test}"),
+            Expr::Test { label, index, test, .. } => write!(f, "{label}[{index}] {test}"),
+            Expr::Not(inner) => write!(f, "not {}", Within(inner, inner.is_join())),
+            Expr::And(left, right) => {
+                let (left, right) = (Within(left, matches!(**left, Expr::Or(..))), Within(right, right.is_join()));
+                write!(f, "{left} and {right}")
+            }
+            Expr::Or(left, right) => write!(f, "{left} or {}", Within(right, matches!(**right, Expr::Or(..)))),
+        }
+    }
+}
+
+/// An operand, and whether it has parentheses.
+struct Within<'a>(&'a Expr, bool);
+
+impl Display for Within<'_> {
+    fn fmt(&self, f: &mut Formatter<'_>) -> fmt::Result {
+        if self.1 { write!(f, "({})", self.0) } else { self.0.fmt(f) }
+    }
+}
+
+impl Display for Test {
+    fn fmt(&self, f: &mut Formatter<'_>) -> fmt::Result {
+        let (operator, text) = match self {
+            Test::Match(pattern) => ("match", &pattern.text),
+            Test::Eq(text) => ("eq", text),
+            Test::Neq(text) => ("neq", text),
+            Test::Sub(text) => ("sub", text),
+            Test::Nsub(text) => ("nsub", text),
+            Test::Inpath(text) => ("inpath", text),
+        };
+        write!(f, "{operator} {}", Quoted(text))
+    }
+}
+
+impl Display for Predicate {
+    fn fmt(&self, f: &mut Formatter<'_>) -> fmt::Result {
+        let sign = match self.compare {
+            Kind::Equal => "=",
+            Kind::NotEqual => "!=",
+            Kind::Less => "<",
+            _ => ">",
+        };
+        write!(f, "{} {sign} {}", if self.is_user { "user" } else { "group" }, self.id)
+    }
 }
 
 struct Parser<'a> {
@@ -290,14 +416,14 @@ impl<'a> Parser<'a> {
         Ok(binary)
     }
 
-    /// One filter, and its rule where the model has it.
-    fn filter(&mut self) -> Parsed<(Option<Rule>, Filter)> {
-        let word = self.take(Kind::Word)?;
-        let name = word.strip_prefix(b"native-").ok_or(PolicyError)?;
-        if name.is_empty() || !name.iter().all(|&b| b.is_ascii_alphanumeric() || b == b'_') {
+    /// One filter, behind the name that it is for, and its rule where the model has it.
+    fn filter(&mut self) -> Parsed<(&'a str, Option<Rule>, Filter)> {
+        let word = std::str::from_utf8(self.take(Kind::Word)?).map_err(|_| PolicyError)?;
+        let name = word.strip_prefix("native-").ok_or(PolicyError)?;
+        if name.is_empty() || !name.bytes().all(|b| b.is_ascii_alphanumeric() || b == b'_') {
             return Err(PolicyError);
         }
-        let rule = std::str::from_utf8(name).ok().and_then(Rule::of);
+        let rule = Rule::of(name);
         self.take(Kind::Colon)?;
         self.operators = 0;
         let mut expr = Expr::True;
@@ -309,7 +435,7 @@ impl<'a> Parser<'a> {
         let (grant, log) = self.tail(rule, action)?;
         let predicate = if self.accept(Kind::Comma) { Some(self.predicate()?) } else { None };
         self.eol()?;
-        Ok((rule, Filter { expr, action, grant, log, predicate }))
+        Ok((name, rule, Filter { expr, action, grant, log, predicate }))
     }
 
     fn count_operator(&mut self) -> Parsed<()> {
@@ -353,8 +479,8 @@ impl<'a> Parser<'a> {
     }
 
     fn test(&mut self, rule: Option<Rule>) -> Parsed<Expr> {
-        let label = self.take(Kind::Word)?;
-        if [&b"and"[..], b"or", b"then", b"permit", b"deny", b"ask"].contains(&label) {
+        let label = std::str::from_utf8(self.take(Kind::Word)?).map_err(|_| PolicyError)?;
+        if ["and", "or", "then", "permit", "deny", "ask"].contains(&label) {
             return Err(PolicyError);
         }
         let mut index = 0;
@@ -363,15 +489,19 @@ impl<'a> Parser<'a> {
             index = u32::try_from(number).map_err(|_| PolicyError)?;
             self.take(Kind::CloseBracket)?;
         }
-        // A call outside the model has any argument, and its filters are never asked.
-        let place = rule.map_or(Some(0), |rule| {
-            rule.args().iter().position(|arg| arg.label.as_bytes() == label && arg.index == index)
-        });
-        let place = place.ok_or(PolicyError)?;
+        let (place, label) = match rule {
+            // A call outside the model has any argument, and its filters are never asked.
+            None => (0, Cow::Owned(label.to_string())),
+            Some(rule) => {
+                let is_meant = |arg: &ArgSpec| arg.label == label && arg.index == index;
+                let place = rule.args().iter().position(is_meant).ok_or(PolicyError)?;
+                (place, Cow::Borrowed(rule.args()[place].label))
+            }
+        };
         let operator = self.take(Kind::Word)?;
         let text = tokens::unquote(self.take(Kind::Quoted)?, Some(&self.env.dollars));
         let test = match operator {
-            b"match" => Test::Match(Pattern::new(&text)),
+            b"match" => Test::Match(Box::new(Pattern::new(text))),
             b"eq" => Test::Eq(text),
             b"neq" => Test::Neq(text),
             b"sub" => Test::Sub(text),
@@ -379,13 +509,13 @@ impl<'a> Parser<'a> {
             b"inpath" => Test::Inpath(text),
             _ => return Err(PolicyError),
         };
-        Ok(Expr::Test { place, test })
+        Ok(Expr::Test { place, label, index, test })
     }
 
     fn action(&mut self) -> Parsed<Action> {
         match self.take(Kind::Word)? {
             b"permit" => Ok(Action::Permit),
-            b"ask" => Ok(Action::Ask),
+            b"ask" if self.env.may_ask => Ok(Action::Ask),
             b"deny" if self.accept(Kind::OpenBracket) => {
                 let word = std::str::from_utf8(self.take(Kind::Word)?).map_err(|_| PolicyError)?;
                 let is_lower = !word.bytes().any(|b| b.is_ascii_uppercase());

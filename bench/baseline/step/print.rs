@@ -1,9 +1,10 @@
 //! The texts that a run is printed as, written while it goes.
 use crate::calls::{Arg, Call, Errno, Ids, Regs, Rule};
-use crate::policy::Verdict;
+use crate::policy::{Filter, Verdict};
 use crate::system::Change;
-use crate::tokens::Quoted;
+use crate::tokens::{Quoted, is_word};
 use crate::tree::Seen;
+use std::collections::HashMap;
 use std::fmt::{self, Display, Formatter, Write};
 
 const MOST_IN_A_LINE: u32 = 1_000_000;
@@ -13,6 +14,7 @@ pub enum PrintKind {
     Audit,
     Trace,
     Schedule,
+    Policy,
 }
 
 #[derive(Clone, Copy, PartialEq, Eq)]
@@ -39,6 +41,8 @@ pub enum Entry<'a> {
     Looked { seq: u64, part: usize, name: &'a [u8], seen: &'a Seen<'a> },
     Faulted { seq: u64, errno: Errno },
     Answered { worker: usize, seq: u64, judged: &'a Judged<'a>, verdict: Verdict, applied: bool },
+    Replied { seq: u64, reply: usize, number: usize },
+    Learned { seq: u64, number: usize },
     Used { tid: usize, seq: Option<u64>, used: &'a Used<'a> },
     Denied { tid: usize, seq: Option<u64>, errno: Errno, cause: Cause<'a> },
     Ended { tid: usize },
@@ -95,11 +99,14 @@ pub struct Printer {
     text: String,
     /// The last choices, which were the same.
     run: Option<(Choice, u32)>,
+    /// The texts of policies, and where that of each number stands among them.
+    policies: Vec<String>,
+    places: HashMap<usize, usize>,
 }
 
 impl Printer {
     pub fn new(kind: PrintKind) -> Printer {
-        Printer { kind, text: String::new(), run: None }
+        Printer { kind, text: String::new(), run: None, policies: Vec::new(), places: HashMap::new() }
     }
 
     fn line(&mut self, line: impl Display) {
@@ -132,6 +139,21 @@ impl Printer {
         }
     }
 
+    /// A policy that is printed, unless it is already.
+    pub fn policy(&mut self, number: usize, binary: &[u8]) {
+        if self.kind == PrintKind::Policy && !self.places.contains_key(&number) {
+            self.places.insert(number, self.policies.len());
+            self.policies.push(format!("Policy: {}, Emulation: native\n", Binary(binary)));
+        }
+    }
+
+    /// The next filter of a policy that is printed.
+    pub fn filter(&mut self, policy: usize, name: &str, filter: &Filter) {
+        if let Some(&place) = self.places.get(&policy) {
+            let _ = writeln!(self.policies[place], "native-{name}: {filter}");
+        }
+    }
+
     fn end_run(&mut self) {
         if let Some((choice, count)) = self.run.take() {
             let count = if count > 1 { format!(" {count}") } else { String::new() };
@@ -145,7 +167,20 @@ impl Printer {
 
     pub fn finish(mut self) -> String {
         self.end_run();
+        self.text.extend(self.policies);
         self.text
+    }
+}
+
+/// A binary in a header, which is a word where it can be.
+struct Binary<'a>(&'a [u8]);
+
+impl Display for Binary<'_> {
+    fn fmt(&self, f: &mut Formatter) -> fmt::Result {
+        match std::str::from_utf8(self.0) {
+            Ok(word) if is_word(self.0) => f.write_str(word),
+            _ => Quoted(self.0).fmt(f),
+        }
     }
 }
 
@@ -248,6 +283,8 @@ impl Display for Entry<'_> {
                 let applied = if *applied { "applied" } else { "stale" };
                 write!(f, "answered {} {seq} {judged} {verdict} {applied}", worker + 1)
             }
+            Entry::Replied { seq, reply, number } => write!(f, "replied {seq} {reply} {number}"),
+            Entry::Learned { seq, number } => write!(f, "learned {seq} {number}"),
             Entry::Used { tid, seq, used } => write!(f, "used {} {} {used}", tid + 1, Seq(*seq)),
             Entry::Denied { tid, seq, errno, cause } => {
                 write!(f, "denied {} {} {errno} ", tid + 1, Seq(*seq))?;

@@ -1,6 +1,8 @@
 //! Scripts and schedules.
 use crate::calls::{Call, Regs};
-use crate::policy::{self, Env};
+use crate::kernel::Options;
+use crate::operator::Mode;
+use crate::policy::{self, Env, Reply};
 use crate::print::Choice;
 use crate::tokens::{self, Dollars, Kind, Token, unquote};
 use crate::tree::{self, MOST_BYTES, MOST_OBJECTS, Object, Tree};
@@ -22,6 +24,7 @@ pub struct Script {
     pub tree: Tree,
     pub processes: Vec<ProcessRow>,
     pub threads: Vec<ThreadRow>,
+    pub replies: Vec<Reply>,
     pub env: Env,
 }
 
@@ -68,7 +71,7 @@ struct Reader<'a> {
     in_thread: bool,
 }
 
-pub fn read_script(text: &[u8], ids: Option<(u32, u32)>) -> Parsed<Script> {
+pub fn read_script(text: &[u8], options: &Options) -> Parsed<Script> {
     let tokens = tokens::tokens(text).map_err(|_| ScriptError)?;
     let mut reader = Reader {
         users: Vec::new(),
@@ -96,7 +99,7 @@ pub fn read_script(text: &[u8], ids: Option<(u32, u32)>) -> Parsed<Script> {
         return Err(ScriptError);
     }
     reader.name_children()?;
-    reader.finish(ids)
+    reader.finish(options)
 }
 
 fn id(token: Token) -> Parsed<u32> {
@@ -296,11 +299,11 @@ impl<'a> Reader<'a> {
         Ok(())
     }
 
-    fn finish(self, ids: Option<(u32, u32)>) -> Parsed<Script> {
+    fn finish(self, options: &Options) -> Parsed<Script> {
         let dollars = match self.processes.iter().find(|process| process.traced) {
             None => Dollars { home: b"/root".to_vec(), user: b"root".to_vec(), cwd: b"/".to_vec() },
             Some(process) => {
-                let uid = ids.map_or(process.uid, |(uid, _)| uid);
+                let uid = options.ids.map_or(process.uid, |(uid, _)| uid);
                 let (home, user) = match self.users.iter().find(|user| user.uid == uid) {
                     Some(user) => (user.home.clone(), user.name.clone()),
                     None => (b"/".to_vec(), uid.to_string().into_bytes()),
@@ -308,12 +311,14 @@ impl<'a> Reader<'a> {
                 Dollars { home, user, cwd: process.cwd.clone() }
             }
         };
-        let env = Env { users: self.user_names, groups: self.groups, dollars, elevate: ids.is_some() };
-        for reply in self.replies {
-            normal_name(unquote(reply[0].text, Some(&env.dollars)))?;
-            policy::check_reply(&reply[1..], &env).map_err(|_| ScriptError)?;
+        let (elevate, may_ask) = (options.ids.is_some(), options.mode != Mode::Learn);
+        let env = Env { users: self.user_names, groups: self.groups, dollars, elevate, may_ask };
+        let mut replies = Vec::new();
+        for row in self.replies {
+            let binary = normal_name(unquote(row[0].text, Some(&env.dollars)))?;
+            replies.push(policy::read_reply(binary, &row[1..], &env).map_err(|_| ScriptError)?);
         }
-        Ok(Script { tree: self.tree, processes: self.processes, threads: self.threads, env })
+        Ok(Script { tree: self.tree, processes: self.processes, threads: self.threads, replies, env })
     }
 }
 

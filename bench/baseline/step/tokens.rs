@@ -78,6 +78,11 @@ pub fn tokens(text: &[u8]) -> Result<Vec<Token<'_>>, LexError> {
     Ok(found)
 }
 
+/// Whether a text that is not empty is one word.
+pub fn is_word(text: &[u8]) -> bool {
+    text.iter().all(|&b| is_word_byte(b))
+}
+
 fn is_word_byte(byte: u8) -> bool {
     byte.is_ascii_alphanumeric() || b"_-./+~%".contains(&byte)
 }
