@@ -48,11 +48,15 @@ fn name_front<'a>(bytes: &[u8], dollars: &'a Dollars) -> Option<(&'a [u8], usize
     ensures some { IfSome result (λ r. 0 < r.1) }
     ensures within { IfSome result (λ r. r.1 ≤ length bytes.now) }
 {
-    if bytes.starts_with(b"$HOME") {
+    // Most bytes are no dollar.
+    let [b'$', word @ ..] = bytes else {
+        return None;
+    };
+    if word.starts_with(b"HOME") {
         Some((dollars.home.bytes(), 5))
-    } else if bytes.starts_with(b"$USER") {
+    } else if word.starts_with(b"USER") {
         Some((dollars.user.bytes(), 5))
-    } else if bytes.starts_with(b"$CWD") {
+    } else if word.starts_with(b"CWD") {
         Some((dollars.cwd.bytes(), 4))
     } else {
         None
