@@ -13,9 +13,10 @@ use st_calls::{ArgText, Snapshot, Verdict};
 fn test_holds_of(label: &[u8], index: u32, op: Op, text: &[u8], argument: &ArgText) -> bool
     ensures { result ≡ test_holds_of label.now index op text.now argument.now }
 {
-    argument.label.word() == label
-        && argument.index == index
+    // Where many filters are of one rule they mostly differ in their texts, so that the label is looked at last.
+    argument.index == index
         && compares(op, argument.text.bytes(), text)
+        && argument.label.word() == label
 }
 
 // Whether one of the arguments passes.
