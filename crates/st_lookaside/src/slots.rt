@@ -39,6 +39,7 @@ impl Model for Slots {
 
 // Where the slot of this number stands, if it stands as far behind the first as it is greater. Calls mostly end in the order in which they
 // were entered, and then it does.
+#[inline]
 fn guess_of(slots: &VecDeque<Slot>, seq: Seq) -> Option<usize>
     ensures { IfSome result (IsAt slots.now.items seq) }
 {
@@ -62,6 +63,7 @@ fn search_of(slots: &VecDeque<Slot>, seq: Seq) -> Result<usize, usize>
 }
 
 // Where the slot of this number stands, or would.
+#[inline]
 fn place_of(slots: &VecDeque<Slot>, seq: Seq) -> Result<usize, usize>
     requires { AreAscending slots.now.items }
     ensures found { IfOk result (IsAt slots.now.items seq) }

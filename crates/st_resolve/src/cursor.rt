@@ -66,6 +66,7 @@ fn component_from(text: &[u8], from: usize) -> usize
 }
 
 // Where the next component begins behind the one at this place, or the text's length where none does.
+#[inline]
 fn component_behind(text: &[u8], at: usize) -> usize
     requires at { IsAtComponent text.now at }
     requires within { at < length text.now }

@@ -227,6 +227,7 @@ impl Walk {
     }
 
     // Drops the `..` that are next, each with the component that it steps up from.
+    #[inline]
     fn climb(&mut self)
         ensures { self.new ≡ climbed self.old }
     {

@@ -265,6 +265,7 @@ impl Stage {
     }
 
     /// Adds to a text what one more word adds to it, which takes 28 bytes of the room at most.
+    #[inline]
     pub fn push(self, text: &mut Vec<u8>, word: u64)
         requires { vec_len text.old + 28 ≤ vec_capacity text.old }
         ensures bytes { text.new.items ≡ text.old.items ++ text_added self word }

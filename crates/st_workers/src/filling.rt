@@ -29,6 +29,7 @@ pub fn task_at(seq: Seq, next: Next) -> Task
 }
 
 /// The turn of the worker of a message: where all is there, it is sealed.
+#[inline]
 pub fn turn_for(slots: &Slots, alloc: Global, seq: Seq) -> Result<Turn, AllocError>
     requires { IsSome (slot_at slots.now seq) }
     ensures { IfOk result (λ turn. IfSome (slot_at slots.now seq) (λ slot. IsTurnFor seq slot turn)) }

@@ -158,6 +158,7 @@ impl Workers {
     }
 
     /// What a worker does next.
+    #[inline]
     pub fn task(&self, worker: Worker) -> Task
         requires { IsWorker self.now.calls worker }
         ensures task { result ≡ task_of self.now worker }
