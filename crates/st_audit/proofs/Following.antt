@@ -18,7 +18,7 @@ use Rattle.st_audit.specs.AuditText.{call_line, ending_text, line_by}
 use Rattle.st_audit.specs.How.{Decided, args_used, decided_on, how_used, is_logged}
 use Rattle.st_audit.specs.Ledger.{IsLedger, answer_in, entered_after, entered_in, kept_line, owner_in, row_in}
 use Rattle.st_audit.specs.Rows.{Row, row_after}
-use Rattle.st_audit.specs.Told.{Answer, answer_after, answer_of, audit_told, copies_of, decided_told, session_of, session_told, told_back, told_line}
+use Rattle.st_audit.specs.Told.{Answer, answer_after, answer_of, audit_told, copies_of, decided_told, session_told, told_back, told_line}
 use Rattle.st_audit.specs.declared.how.How.{How}
 use Rattle.st_audit.specs.declared.ledger.Ledger.{Ledger}
 use Rattle.st_audit.proofs.Rows.{entered_changed, row_of_changed}
@@ -29,7 +29,7 @@ pub record Follows (i : Input) (old new : Ledger) (e : Entry) : Type 0 where
   pub rows : (p : ℕ) → row_in i new.rows p ≡ row_after (row_in i old.rows (owner_in i old.owners (thread_of e))) (owner_in i old.owners (thread_of e)) p (row_in i old.rows p) (changes_of e)
   pub entered : (t : ℕ) → entered_in new.entered t ≡ entered_after e t (entered_in old.entered t)
   pub answers : (q : ℕ) → answer_in new.answers q ≡ answer_after e q (answer_in old.answers q)
-  pub session : session_of new.session.items ≡ session_after i.replies (λ q. copies_of (answer_in old.answers q)) e (session_of old.session.items)
+  pub session : new.session.filters ≡ session_after i.replies (λ q. copies_of (answer_in old.answers q)) e old.session.filters
 
 pub followed : (i : Input) (old new : Ledger) (e : Entry) (h : History) → Follows i old new e → IsLedger i old h → IsLedger i new (e ∷ h)
 followed i old new e h f is = record {
@@ -86,7 +86,7 @@ module _ (i : Input) (trace : List Entry) (k : ℕ) (e : Entry) (low : k < lengt
 pub used_line : (i : Input) (ledger : Ledger) (e : Entry) (t : ℕ) (seq : Option ℕ) (call : SysCall) (regs : List ℕ) (args : List ArgText) (ids : Ids) (result : CallResult) (changes : List Change)
     (text new : List ℕ) (slice told : List ArgText) (how : How) (log : Bool) (decided : Option Decided)
     → e ≡ Used t seq call regs args ids result changes
-    → decided ≡ decided_on (λ q. decided_told i (session_of ledger.session.items) (answer_in ledger.answers q)) seq
+    → decided ≡ decided_on (λ q. decided_told i ledger.session.filters (answer_in ledger.answers q)) seq
     → slice ≡ args → told ≡ args_used seq slice → how ≡ how_used seq decided ids → log ≡ is_logged decided
     → new ≡ text ++ call_line i (row_in i ledger.rows) (owner_in i ledger.owners t) t call regs (ending_text told how result log)
     → new ≡ text ++ kept_line i ledger e

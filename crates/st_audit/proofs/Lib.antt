@@ -1,8 +1,6 @@
 pub mod Answered
 pub mod Following
 pub mod Growth
-pub mod Kept
-pub mod Learnt
 pub mod Noted
 pub mod Rows
 mod WorkedRows

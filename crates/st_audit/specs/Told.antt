@@ -1,13 +1,12 @@
 -- What the entries themselves tell of held calls: their applied answers, and the filters that were kept.
-use Rattle.std.specs.Prelude.{ℕ, suc, ◌==◌, ◌&&◌, if◌then◌else◌, List, [], ◌∷◌, ◌++◌, reverse, length, map, Option, Some, None, option_map}
+use Rattle.std.specs.Prelude.{ℕ, suc, ◌==◌, ◌&&◌, if◌then◌else◌, List, [], ◌∷◌, ◌++◌, reverse, length, Option, Some, None, option_map}
 use Rattle.st_calls.specs.declared.judged.Snapshot.{Snapshot}
 use Rattle.st_calls.specs.declared.judged.Verdict.{Verdict}
-use Rattle.st_filter.specs.Formula.{FilterValue}
 use Rattle.st_filter.specs.Judging.{verdict_from}
 use Rattle.st_trace.specs.declared.entry.Entry.{Entry}
 use Rattle.st_trace.specs.declared.entry.Entry.TheVariants.{Answered}
 use Rattle.st_law.specs.declared.input.Input.{Input}
-use Rattle.st_law.specs.Sessions.{SessionFilter, kept_for, learnt_filter, session_after, session_filters, verdict_or}
+use Rattle.st_law.specs.Sessions.{SessionFilter, session_after, session_filters, verdict_or}
 use Rattle.st_law.specs.State.{read_for}
 use Rattle.st_law.specs.Threads.{History, owner_at}
 use Rattle.st_audit.specs.How.{Decided, decided_by, number_of}
@@ -41,32 +40,6 @@ abbrev pub copies_of : Option Answer → Option Snapshot
 copies_of answer = option_map (λ a. a.snapshot) answer
 
 -- ---- filters that were kept
-
--- what is kept for copies: the filter that they teach, or a reply
-pub record Kept : Type 0 where
-  pub copies : Snapshot
-  pub reply : Option FilterValue
-
--- what is kept for these copies, by the reply
-abbrev pub kept_with : Snapshot → Option FilterValue → Kept
-kept_with copies reply = record { copies = copies; reply = reply }
-
--- the reply, if there is one, else the filter that copies teach
-abbrev pub filter_of_reply : Snapshot → Option FilterValue → FilterValue
-filter_of_reply copies None = learnt_filter copies
-filter_of_reply copies (Some filter) = filter
-
--- the filter that is kept
-abbrev pub filter_of : Kept → FilterValue
-filter_of kept = filter_of_reply kept.copies kept.reply
-
--- the same, for the policy and the rule of the copies
-abbrev pub kept_filter : Kept → SessionFilter
-kept_filter kept = kept_for (filter_of kept) kept.copies
-
--- the session that keeps these filters
-abbrev pub session_of : List Kept → List SessionFilter
-session_of kept = map kept_filter kept
 
 -- the filters of the session, by the copies that answers were for
 abbrev pub session_told : Input → History → List SessionFilter

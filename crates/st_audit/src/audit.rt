@@ -150,7 +150,7 @@ pub fn told_audit(alloc: Global, trace: &[Entry], input: &Input) -> Result<Text,
     let mut ledger = Ledger::new(alloc);
     for entry in trace {
         append_line(alloc, &mut text, input, &ledger, entry)?;
-        ledger.note(input, entry)?;
+        ledger.note(alloc, input, entry)?;
     }
     Ok(text)
 }

@@ -1,21 +1,24 @@
-ghost use Rattle.std.specs.Prelude.{◌≡◌, ℕ, [], ◌∷◌, OnOk};
+ghost use Rattle.std.specs.Prelude.{◌≡◌, ℕ, [], ◌∷◌, option_copied, OnOk};
+ghost use Rattle.st_calls.specs.declared.judged.Verdict.TheVariants.{Unmatched};
 ghost use Rattle.st_effects.specs.Changes.{owner_after};
 ghost use Rattle.st_law.specs.Threads.{History, changes_of, thread_of};
 ghost use Rattle.st_law.specs.declared.input.Input.{Input};
-ghost use Rattle.st_audit.specs.How.{decided_on, filter_numbered, marks_of, number_of};
+ghost use Rattle.st_audit.specs.How.{decided_by, decided_on, decided_with, filter_numbered, marks_of, number_of};
 ghost use Rattle.st_audit.specs.Ledger.{IsLedger, answer_in, owner_in, row_in};
 ghost use Rattle.st_audit.specs.Rows.{row_after};
-ghost use Rattle.st_audit.specs.Told.{decided_told, decision_told, session_of};
+ghost use Rattle.st_audit.specs.Told.{answer_with, decided_told, decision_told};
 
 use crate::answer::{Answer, note_answer};
 use crate::entered::{EnteredCall, note_entered};
 use crate::marks::Marks;
 use crate::process::{Row, note_owners, note_rows, owner_of};
-use crate::read::{read_count, read_marks};
-use crate::session::{Kept, note_session, session_marks, session_number};
+use crate::read::{read_count, read_filter};
+use crate::session::{note_session, session_filter};
 use st_base::{Pid, Seq, Tid};
 use st_calls::{ArgText, Snapshot, Verdict};
+use st_filter::{Action, Filter};
 use st_law::Input;
+use st_learn::Session;
 use st_trace::Entry;
 use std::alloc::{AllocError, Global};
 use std::collections::BTreeMap;
@@ -38,6 +41,17 @@ impl<'a> Model for Decided<'a> {
 }
 
 impl<'a> Decided<'a> {
+    // A held call with these copies, on which this filter decides, if there is one.
+    fn by(copies: &'a Snapshot, number: u64, filter: Option<&Filter>) -> Self
+        ensures { result ≡ decided_with copies.now.parts number (marks_of (option_copied filter.entry)) }
+    {
+        Decided {
+            parts: copies.parts.as_slice(),
+            number,
+            marks: Marks::of(filter),
+        }
+    }
+
     /// The arguments that were judged.
     pub fn parts(&self) -> &'a [ArgText]
         ensures { result.now ≡ self.now.parts }
@@ -71,8 +85,8 @@ pub struct Ledger<'a> {
     pub entered: BTreeMap<Tid, EnteredCall>,
     /// The applied answers to held calls.
     pub answers: BTreeMap<Seq, Answer<'a>>,
-    /// The filters that were kept, in order.
-    pub session: Vec<Kept<'a>>,
+    /// The filters that the run has added.
+    pub session: Session,
 }
 
 // Takes an entry into the maps of threads and processes.
@@ -103,65 +117,69 @@ impl<'a> Ledger<'a> {
             rows: BTreeMap::new(alloc),
             entered: BTreeMap::new(alloc),
             answers: BTreeMap::new(alloc),
-            session: Vec::new(alloc),
+            session: Session::new(alloc),
         }
     }
 
-    // The number of the filter that decides on the call of an answer, 0 where none does.
-    fn deciding_number(&self, input: &Input, answer: &Answer<'_>) -> u64
-        ensures { result ≡ number_of (decision_told input.now (session_of self.now.session.items) answer.now) }
+    // The filter of a number for a call, by its copies.
+    fn filter_numbered<'s>(
+        &'s self,
+        input: &'s Input,
+        copies: &Snapshot,
+        number: u32,
+    ) -> Option<&'s Filter>
+        ensures { option_copied result ≡ filter_numbered input.now self.now.session.filters copies.now.policy copies.now.rule number }
     {
-        match answer.verdict() {
-            Verdict::Permit(number, _) | Verdict::Refuse(number, _) => u64::from(number),
-            Verdict::Unmatched => {
-                let copies = answer.copies();
-                let policy = input.policies.get(copies.policy.bytes());
-                let read = read_count(policy, copies.rule);
-                session_number(self.session.as_slice(), copies, read)
-            }
-        }
-    }
-
-    // What an audit says of the filter of this number for a call, by its copies.
-    fn marks_of(&self, input: &Input, copies: &Snapshot, number: u64) -> Marks
-        ensures { result ≡ marks_of (filter_numbered input.now (session_of self.now.session.items) copies.now.policy copies.now.rule number) }
-    {
-        if number == 0 {
-            return Marks::none();
-        }
         let policy = input.policies.get(copies.policy.bytes());
-        let read = read_count(policy, copies.rule);
-        if number <= read {
-            read_marks(policy, copies.rule, number)
-        } else {
-            session_marks(
-                self.session.as_slice(),
-                copies.policy.bytes(),
-                copies.rule,
-                number - read,
-            )
+        if let Some(filter) = read_filter(policy, copies.rule, number) {
+            return Some(filter);
+        }
+        // In a lawful run that filter was read, so that only other traces come here.
+        let behind = u64::from(number).checked_sub(read_count(policy, copies.rule))?;
+        session_filter(&self.session, copies.policy.bytes(), copies.rule, behind)
+    }
+
+    // What an audit says of a held call with these copies, on which none of the filters that were read decides.
+    fn decided_by_session(&self, input: &Input, copies: &'a Snapshot) -> Decided<'a>
+        ensures { result ≡ decided_by input.now self.now.session.filters copies.now (number_of (decision_told input.now self.now.session.filters (answer_with copies.now Unmatched))) }
+    {
+        let Some((number, filter)) = self.session.deciding(copies) else {
+            return Decided::by(copies, 0, None);
+        };
+        match filter.action() {
+            Action::Permit | Action::Deny(_) => {
+                let read = read_count(input.policies.get(copies.policy.bytes()), copies.rule);
+                Decided::by(copies, read + u64::from(number), Some(filter))
+            }
+            Action::Ask => Decided::by(copies, 0, None),
         }
     }
 
     /// What an audit says of a held call, where it has this number and was answered.
     pub fn decided(&self, input: &Input, seq: Option<Seq>) -> Option<Decided<'a>>
-        ensures { result ≡ decided_on (λ q. decided_told input.now (session_of self.now.session.items) (answer_in self.now.answers q)) seq }
+        ensures { result ≡ decided_on (λ q. decided_told input.now self.now.session.filters (answer_in self.now.answers q)) seq }
     {
         let answer = self.answers.get(&seq?)?;
         let copies = answer.copies();
-        let number = self.deciding_number(input, answer);
-        Some(Decided {
-            parts: copies.parts.as_slice(),
-            number,
-            marks: self.marks_of(input, copies, number),
+        Some(match answer.verdict() {
+            Verdict::Permit(number, _) | Verdict::Refuse(number, _) => {
+                let filter = self.filter_numbered(input, copies, number);
+                Decided::by(copies, u64::from(number), filter)
+            }
+            Verdict::Unmatched => self.decided_by_session(input, copies),
         })
     }
 
     /// Takes an entry in.
-    pub fn note(&mut self, input: &'a Input, entry: &'a Entry) -> Result<(), AllocError>
+    pub fn note(
+        &mut self,
+        alloc: Global,
+        input: &'a Input,
+        entry: &'a Entry,
+    ) -> Result<(), AllocError>
         ensures { OnOk result ((h : History) → IsLedger input.now self.old h → IsLedger input.now self.new (entry.now ∷ h)) }
     {
-        note_session(input, &self.answers, &mut self.session, entry)?;
+        note_session(alloc, input, &self.answers, &mut self.session, entry)?;
         note_processes(input, &mut self.owners, &mut self.rows, entry)?;
         note_entered(&mut self.entered, entry)?;
         note_answer(&mut self.answers, entry)

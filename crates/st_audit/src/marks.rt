@@ -1,4 +1,4 @@
-ghost use Rattle.std.specs.Prelude.{◌≡◌, Some, None};
+ghost use Rattle.std.specs.Prelude.{◌≡◌, option_copied};
 ghost use Rattle.st_audit.specs.How.{marks_of};
 
 use st_filter::Filter;
@@ -13,23 +13,19 @@ pub struct Marks {
 }
 
 impl Marks {
-    /// Those of no filter.
-    pub fn none() -> Self
-        ensures { result ≡ marks_of None }
+    /// Those of a filter, if it is there.
+    pub fn of(filter: Option<&Filter>) -> Self
+        ensures { result ≡ marks_of (option_copied filter.entry) }
     {
-        Marks {
-            grants: false,
-            logs: false,
-        }
-    }
-
-    /// Those of a filter.
-    pub fn of(filter: &Filter) -> Self
-        ensures { result ≡ marks_of (Some filter.now) }
-    {
-        Marks {
-            grants: filter.grant().is_some(),
-            logs: filter.log(),
+        match filter {
+            Some(filter) => Marks {
+                grants: filter.grant().is_some(),
+                logs: filter.log(),
+            },
+            None => Marks {
+                grants: false,
+                logs: false,
+            },
         }
     }
 }

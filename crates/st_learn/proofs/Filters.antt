@@ -1,7 +1,7 @@
 -- The filters of a policy and a rule, found by their places.
 use Rattle.std.proofs.Common.{◌≡◌, ◌≤◌, ◌<◌, ◌+◌, ◌∙◌, ◌++◌, ◌&&◌, ℕ, suc, zero, Bool, true, false, cond, List, [], ◌∷◌, length, map, filter, Option, Some, None, refl, ap, sym, subst, get_or, arith}
 use Rattle.std.proofs.lemmas.List.{append-nil, append_assoc}
-use Rattle.std.specs.Prelude.{◌-◌, ◌^◌, slice_get, IsSome}
+use Rattle.std.specs.Prelude.{slice_get}
 use Rattle.std.specs.Str.{bytes_eq}
 use Rattle.st_calls.specs.Rules.{same_rule}
 use Rattle.st_calls.specs.declared.rule.Rule.{Rule}
@@ -9,8 +9,7 @@ use Rattle.st_filter.specs.Formula.{FilterValue}
 use Rattle.st_law.specs.Sessions.{SessionFilter, session_filters}
 use Rattle.st_learn.specs.Learnt.{filters_added}
 use Rattle.st_learn.specs.Places.{GainsPlace, PolicyPlaces, places_in}
-use Rattle.st_learn.specs.Sessions.{is_of, places_from, places_of, IsMade}
-use Rattle.st_learn.specs.declared.session.Room.{Room}
+use Rattle.st_learn.specs.Sessions.{is_of, places_from, places_of}
 
 -- a filter of a session before others, where it is there and of a kind
 abbrev pub with_kind : (SessionFilter → Bool) → Option SessionFilter → List FilterValue → List FilterValue
@@ -29,13 +28,18 @@ is_of_rule rule kept = same_rule kept.rule rule
 abbrev pub is_any : SessionFilter → Bool
 is_any kept = true
 
-there : {X : Type 0} (front : List X) (x : X) (back : List X) → slice_get (front ++ x ∷ back) (length front) ≡ Some x
+pub there : {X : Type 0} (front : List X) (x : X) (back : List X) → slice_get (front ++ x ∷ back) (length front) ≡ Some x
 there [] x back = refl
 there (y ∷ front) x back = there front x back
 
-one_longer : {X : Type 0} (front : List X) (x : X) → length (front ++ x ∷ []) ≡ suc (length front)
+pub one_longer : {X : Type 0} (front : List X) (x : X) → length (front ++ x ∷ []) ≡ suc (length front)
 one_longer [] x = refl
 one_longer (y ∷ front) x = ap suc (one_longer front x)
+
+-- their filters, where the first may be left out
+pub mapped : (b : Bool) (x : SessionFilter) (rest : List SessionFilter) → map (λ (each : SessionFilter). each.filter) (cond b (x ∷ rest) rest) ≡ cond b (x.filter ∷ map (λ each. each.filter) rest) (map (λ each. each.filter) rest)
+mapped true x rest = refl
+mapped false x rest = refl
 
 module _ (policy : List ℕ) (is : SessionFilter → Bool) where
   found_by : (b w : Bool) (kept : SessionFilter) (session : List SessionFilter) (n : ℕ) (ps : List ℕ) (rest : List SessionFilter) → slice_get session n ≡ Some kept → is kept ≡ w → filters_at session is ps ≡ map (λ each. each.filter) rest
@@ -72,7 +76,7 @@ added_found session policy items are = ap (filters_at session is_any) are ∙ fo
 
 -- ---- places
 
-inside_by : (b : Bool) (n m : ℕ) (ps : List ℕ) (i d : ℕ) → n < m → i < length (cond b (n ∷ ps) ps) → ((j : ℕ) → j < length ps → get_or ps j d < m) → get_or (cond b (n ∷ ps) ps) i d < m
+pub inside_by : (b : Bool) (n m : ℕ) (ps : List ℕ) (i d : ℕ) → n < m → i < length (cond b (n ∷ ps) ps) → ((j : ℕ) → j < length ps → get_or ps j d < m) → get_or (cond b (n ∷ ps) ps) i d < m
 inside_by true n m ps zero d low lt later = low
 inside_by true n m ps (suc i) d low lt later = later i (omega arith)
 inside_by false n m ps i d low lt later = later i lt
@@ -83,14 +87,14 @@ inside_from is n (x ∷ xs) i d lt =
     inside_by (is x) n (n + suc (length xs)) (places_from is (suc n) xs) i d (omega arith) lt
     (λ j lt. let later : get_or (places_from is (suc n) xs) j d < suc n + length xs = inside_from is (suc n) xs j d lt in omega (arith, later))
 
--- each place of a policy is that of a filter
-pub place_inside : (session : List SessionFilter) (policy : List ℕ) (i d : ℕ) → i < length (places_of session policy) → get_or (places_of session policy) i d < length session
-place_inside session policy i d lt = let inside : get_or (places_of session policy) i d < 0 + length session = inside_from (is_of policy) 0 session i d lt in omega (arith, inside)
+-- each place of a kind is that of a filter
+place_inside : (session : List SessionFilter) (is : SessionFilter → Bool) (i d : ℕ) → i < length (places_from is 0 session) → get_or (places_from is 0 session) i d < length session
+place_inside session is i d lt = let inside : get_or (places_from is 0 session) i d < 0 + length session = inside_from is 0 session i d lt in omega (arith, inside)
 
 -- the place of an item that is left is that of a filter
-pub item_inside : (session : List SessionFilter) (policy : List ℕ) (items : List ℕ) (i d : ℕ) → items ≡ places_of session policy → i < length items → get_or items i d < length session
-item_inside session policy items i d are lt =
-    subst (λ ps. get_or ps i d < length session) (sym are) (place_inside session policy i d (subst (λ ps. i < length ps) are lt))
+pub item_inside : (session : List SessionFilter) (is : SessionFilter → Bool) (items : List ℕ) (i d : ℕ) → items ≡ places_from is 0 session → i < length items → get_or items i d < length session
+item_inside session is items i d are lt =
+    subst (λ ps. get_or ps i d < length session) (sym are) (place_inside session is i d (subst (λ ps. i < length ps) are lt))
 
 fewer_by : (b : Bool) (n m : ℕ) (ps : List ℕ) → length ps ≤ m → length (cond b (n ∷ ps) ps) ≤ suc m
 fewer_by true n m ps few = omega (arith, few)
@@ -106,7 +110,7 @@ few_items session policy items are = subst (λ ps. length ps ≤ length session)
 
 -- ---- one more filter
 
-more_by : (b : Bool) (n : ℕ) (ps qs : List ℕ) → cond b (n ∷ (ps ++ qs)) (ps ++ qs) ≡ cond b (n ∷ ps) ps ++ qs
+pub more_by : (b : Bool) (n : ℕ) (ps qs : List ℕ) → cond b (n ∷ (ps ++ qs)) (ps ++ qs) ≡ cond b (n ∷ ps) ps ++ qs
 more_by true n ps qs = refl
 more_by false n ps qs = refl
 
@@ -121,22 +125,18 @@ more_of : (b : Bool) (ps : List ℕ) (n : ℕ) → cond b (ps ++ n ∷ []) ps �
 more_of true ps n = refl
 more_of false ps n = sym (append-nil ps)
 
--- a filter more has its place among those of its policy, and no other's
-pub places_added : (session : List SessionFilter) (kept : SessionFilter) (policy : List ℕ) (n : ℕ) → n ≡ length session
-    → cond (bytes_eq kept.policy policy) (places_of session policy ++ n ∷ []) (places_of session policy) ≡ places_of (session ++ kept ∷ []) policy
-places_added session kept policy n is =
+-- a filter more has its place among those of its key, and no other's
+places_added : (key : SessionFilter → List ℕ) (session : List SessionFilter) (kept : SessionFilter) (wanted : List ℕ) (n : ℕ) → n ≡ length session
+    → cond (bytes_eq (key kept) wanted) (places_from (λ each. bytes_eq (key each) wanted) 0 session ++ n ∷ []) (places_from (λ each. bytes_eq (key each) wanted) 0 session) ≡ places_from (λ each. bytes_eq (key each) wanted) 0 (session ++ kept ∷ [])
+places_added key session kept wanted n is =
     let last : n ≡ 0 + length session = omega (arith, is) in
-    more_of (bytes_eq kept.policy policy) (places_of session policy) n
-    ∙ ap (λ m. places_of session policy ++ cond (bytes_eq kept.policy policy) (m ∷ []) []) last
-    ∙ sym (places_more (is_of policy) 0 session kept)
+    more_of (bytes_eq (key kept) wanted) (places_from (λ each. bytes_eq (key each) wanted) 0 session) n
+    ∙ ap (λ m. places_from (λ each. bytes_eq (key each) wanted) 0 session ++ cond (bytes_eq (key kept) wanted) (m ∷ []) []) last
+    ∙ sym (places_more (λ each. bytes_eq (key each) wanted) 0 session kept)
 
--- so the places of each policy are those of its filters, with one filter more
-pub added_places : (old new : List PolicyPlaces) (session : List SessionFilter) (kept : SessionFilter) (n : ℕ) → ((policy : List ℕ) → places_in old policy ≡ places_of session policy) → GainsPlace old kept.policy n new → n ≡ length session
-    → (policy : List ℕ) → places_in new policy ≡ places_of (session ++ kept ∷ []) policy
-added_places old new session kept n were gains is policy =
-    gains policy ∙ (λ k. cond (bytes_eq kept.policy policy) (were policy k ++ n ∷ []) (were policy k)) ∙ places_added session kept policy n is
-
--- room that was made keeps the number of filters within its bound
-pub made_few : (rows : List PolicyPlaces) (len capacity : ℕ) (o : Option Room) → IsSome o → IsMade rows len capacity o → len < 2 ^ 31 - 1
-made_few rows len capacity None some made = cc
-made_few rows len capacity (Some room) some made = made.2
+-- so the places by keys, as of policies, are those of the filters, with one filter more
+pub added_places : (key : SessionFilter → List ℕ) (old new : List PolicyPlaces) (session : List SessionFilter) (kept : SessionFilter) (n : ℕ)
+    → ((wanted : List ℕ) → places_in old wanted ≡ places_from (λ each. bytes_eq (key each) wanted) 0 session) → GainsPlace old (key kept) n new → n ≡ length session
+    → (wanted : List ℕ) → places_in new wanted ≡ places_from (λ each. bytes_eq (key each) wanted) 0 (session ++ kept ∷ [])
+added_places key old new session kept n were gains is wanted =
+    gains wanted ∙ (λ k. cond (bytes_eq (key kept) wanted) (were wanted k ++ n ∷ []) (were wanted k)) ∙ places_added key session kept wanted n is

@@ -1,5 +1,11 @@
+mod Asking
+mod Counting
 mod Deciding
-mod Filters
+pub mod Filters
+mod First
+mod FirstDeciding
+mod Leading
+mod Numbers
 mod Permitting
 mod Printing
 mod Rows

@@ -5,13 +5,13 @@ use Rattle.std.proofs.lemmas.Cmp.{nat_list_eq_equiv}
 use Rattle.std.proofs.lemmas.Map.Entries.{length-keys_of}
 use Rattle.std.proofs.lemmas.Option.{same_Some}
 use Rattle.std.proofs.lemmas.Slice.Eq.{bytes_eq-Decides}
-use Rattle.std.specs.List.{position, position_or_len}
+use Rattle.std.specs.List.{position, position_or_len, remove}
 use Rattle.std.specs.Map.{keys_of, lookup, values_of}
 use Rattle.std.specs.Option.{option_or}
 use Rattle.std.specs.Prelude.{is_some, nat_lt, slice_get}
 use Rattle.std.specs.Str.{bytes_eq}
 use Rattle.indexmap.specs.IndexMap.{insert_entry, set_value_at}
-use Rattle.st_learn.specs.Places.{GainsPlace, HasRoom, IsRoomLeft, KeepsPlaces, PlacesEntry, PolicyPlaces, Listing, places_in, places_with, listing_in, shown_listing, shown_rows}
+use Rattle.st_learn.specs.Places.{GainsPlace, HasRoom, IsRoomLeft, KeepsPlaces, LosesPlace, PlacesEntry, PolicyPlaces, Listing, places_in, places_with, listing_in, shown_listing, shown_rows}
 
 abbrev pub is_key : List ℕ → Vec ℕ Global → Bool
 is_key policy key = bytes_eq policy key.items
@@ -107,6 +107,12 @@ no_room es policy none left = some_shown (lookup (is_key policy) es) none (subst
 pub room_there : (rows : List PolicyPlaces) (policy : List ℕ) (v : Vec ℕ Global) → listing_in rows policy ≡ Some (shown_listing v) → HasRoom rows policy → vec_len v < vec_capacity v
 room_there rows policy v is left = let had : length v.items < vec_capacity v = subst IsRoomLeft is left in let same : vec_len v ≡ length v.items = v.ok.0 in omega (arith, had, same)
 
+-- there are no places where there is no row
+pub no_places_there : (es : List PlacesEntry) (policy : List ℕ) (index : ℕ) → is_some (lookup (is_key policy) es) ≡ false → index < length (places_in (shown_rows es) policy) → ⊥
+no_places_there es policy index none inside =
+    let empty : length (places_in (shown_rows es) policy) ≡ 0 = ap (λ o. length (places_with o)) (sym (listing_kept es policy) ∙ none_shown (lookup (is_key policy) es) none) in
+    absurd (omega (arith, inside, empty))
+
 -- ---- room is made in a row
 
 changed_places : (b : Bool) (policy other : List ℕ) (rows : List PolicyPlaces) (v w : Vec ℕ Global) → bytes_eq policy other ≡ b → listing_in rows policy ≡ Some (shown_listing v) → w.items ≡ v.items
@@ -143,6 +149,16 @@ module _ (es : List PlacesEntry) (policy : List ℕ) (i : ℕ) (v w : Vec ℕ Gl
 
   pub row_gains : (place : ℕ) → w.items ≡ v.items ++ place ∷ [] → GainsPlace (shown_rows es) policy place (shown_rows (set_value_at es i w))
   row_gains place more other = ap places_with (row_changed es policy i w at other) ∙ gained_by (bytes_eq policy other) other place refl more
+
+  -- other places in the row
+  row_becomes : (change : List ℕ → List ℕ) → w.items ≡ change v.items → (other : List ℕ) → places_in (shown_rows (set_value_at es i w)) other ≡ cond (bytes_eq policy other) (change (places_in (shown_rows es) other)) (places_in (shown_rows es) other)
+  row_becomes change is other = ap places_with (row_changed es policy i w at other) ∙ by (bytes_eq policy other) refl where
+    by : (b : Bool) → bytes_eq policy other ≡ b → places_with (cond b (Some (shown_listing w)) (listing_in (shown_rows es) other)) ≡ cond b (change (places_in (shown_rows es) other)) (places_in (shown_rows es) other)
+    by true e = is ∙ ap change (ap places_with (sym was) ∙ ap (places_in (shown_rows es)) ((bytes_eq-Decides policy other).0 e))
+    by false e = refl
+
+  pub row_loses : (index : ℕ) → w.items ≡ remove v.items index → LosesPlace (shown_rows es) policy index (shown_rows (set_value_at es i w))
+  row_loses index = row_becomes (λ places. remove places index)
 
 -- ---- a row is begun
 

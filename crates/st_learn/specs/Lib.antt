@@ -1,3 +1,5 @@
+pub mod Asked
+pub mod Deciding
 pub mod Learnt
 pub mod Permitted
 pub mod Places

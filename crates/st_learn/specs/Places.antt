@@ -1,5 +1,6 @@
 -- The places of each policy's filters in a session.
-use Rattle.std.specs.Prelude.{◌≡◌, ◌<◌, ℕ, List, [], ◌∷◌, ◌++◌, map, length, if◌then◌else◌, Option, Some, None, Vec, vec_capacity}
+use Rattle.std.specs.Prelude.{◌≡◌, ◌<◌, ℕ, List, [], ◌∷◌, ◌++◌, map, length, if◌then◌else◌, Option, Some, None, Vec, vec_capacity, Bool, true, false}
+use Rattle.std.specs.List.{remove}
 use Rattle.std.specs.Str.{bytes_eq}
 use Rattle.std.specs.declared.alloc.Global.{Global}
 
@@ -45,6 +46,16 @@ pub record KeepsPlaces (old new : List PolicyPlaces) : Type 0 where
 abbrev pub GainsPlace : List PolicyPlaces → List ℕ → ℕ → List PolicyPlaces → Type 0
 GainsPlace old policy place new =
     (other : List ℕ) → places_in new other ≡ (if bytes_eq policy other then places_in old other ++ place ∷ [] else places_in old other)
+
+-- a policy has its places but for the one at an index, and each other has those that it had
+abbrev pub LosesPlace : List PolicyPlaces → List ℕ → ℕ → List PolicyPlaces → Type 0
+LosesPlace old policy index new =
+    (other : List ℕ) → places_in new other ≡ (if bytes_eq policy other then remove (places_in old other) index else places_in old other)
+
+-- a policy has one more place if it is wanted, and else all have those that they had
+abbrev pub MayGainPlace : Bool → List PolicyPlaces → List ℕ → ℕ → List PolicyPlaces → Type 0
+MayGainPlace true old policy place new = GainsPlace old policy place new
+MayGainPlace false old policy place new = new ≡ old
 
 -- ---- as they are kept
 

@@ -1,29 +1,24 @@
--- A session: its filters in order, and the room that is made ahead.
-use Rattle.std.specs.Prelude.{◌≡◌, ◌<◌, ◌-◌, ◌^◌, ℕ, suc, Bool, false, not, List, [], ◌∷◌, take, if◌then◌else◌, Option, Some, None}
+-- A session: its filters in order.
+use Rattle.std.specs.Prelude.{◌≡◌, ◌<◌, ◌^◌, ◌++◌, ◌&&◌, ◌==◌, ℕ, suc, Bool, false, not, List, [], ◌∷◌, length, take, if◌then◌else◌, Option, Some, None}
 use Rattle.std.specs.List.{list_any}
 use Rattle.std.specs.Str.{bytes_eq}
 use Rattle.st_calls.specs.declared.rule.Rule.{Rule}
 use Rattle.st_filter.specs.Formula.{FilterValue}
 use Rattle.st_law.specs.Sessions.{SessionFilter}
-use Rattle.st_learn.specs.Places.{PolicyPlaces, places_in, HasRoom}
-use Rattle.st_learn.specs.declared.session.Room.{Room}
+use Rattle.st_learn.specs.Deciding.{asks_first, count_for}
+use Rattle.st_learn.specs.Places.{PolicyPlaces, places_in}
 
--- the filters of a session, in order, and for which policy and rule there is room for one more
+-- the filters of a session, in order
 pub record Session : Type 0 where
   pub filters : List SessionFilter
-  pub room : Option Room
 
--- a session with these filters and this room
-abbrev pub session_with : List SessionFilter → Option Room → Session
-session_with filters room = record { filters = filters; room = room }
+-- a session with these filters
+abbrev pub session_with : List SessionFilter → Session
+session_with filters = record { filters = filters }
 
--- room for one more filter of a policy and a rule
-abbrev pub room_for : List ℕ → Rule → Option Room
-room_for policy rule = Some (record { policy = policy; rule = rule })
-
--- a filter of a session, for the policy and the rule that room was made for
-abbrev pub kept_in : Room → FilterValue → SessionFilter
-kept_in room filter = record { policy = room.policy; rule = room.rule; filter = filter }
+-- a filter of a session, for this policy and rule
+abbrev pub added : List ℕ → Rule → FilterValue → SessionFilter
+added policy rule filter = record { policy = policy; rule = rule; filter = filter }
 
 -- ---- the filters of a policy
 
@@ -45,15 +40,33 @@ abbrev pub is_first_at : List SessionFilter → ℕ → Option SessionFilter →
 is_first_at session place None = false
 is_first_at session place (Some kept) = not (list_any (is_of kept.policy) (take place session))
 
+-- the places of those of a policy's filters that are the first for their rule, behind others, in order
+abbrev pub firsts_behind : List SessionFilter → List ℕ → List SessionFilter → List ℕ
+firsts_behind front policy [] = []
+firsts_behind front policy (kept ∷ back) =
+    if is_of policy kept && (count_for front kept == 0) then length front ∷ firsts_behind (front ++ kept ∷ []) policy back
+    else firsts_behind (front ++ kept ∷ []) policy back
+
+-- of all
+abbrev pub firsts_of : List SessionFilter → List ℕ → List ℕ
+firsts_of session policy = firsts_behind [] policy session
+
+-- the places of the filters that ask for a text first
+abbrev pub places_asking : List SessionFilter → List ℕ → List ℕ
+places_asking session text = places_from (asks_first text) 0 session
+
 -- ---- as it is kept
 
--- the room that was made is there, among the filters and among the places
-abbrev pub IsMade : List PolicyPlaces → ℕ → ℕ → Option Room → Type 0
-IsMade rows len capacity None = Unit {0}
-IsMade rows len capacity (Some room) = HasRoom rows room.policy × (len < capacity) × (len < 2 ^ 31 - 1)
+-- for each of these filters, how many there are before it for its policy and rule, behind others
+abbrev pub numbers_behind : List SessionFilter → List SessionFilter → List ℕ
+numbers_behind front [] = []
+numbers_behind front (kept ∷ back) = count_for front kept ∷ numbers_behind (front ++ kept ∷ []) back
 
--- the places of each policy are those of its filters, the room that was made is there, and numbers of filters stay within 32 bits
-pub record IsSession (filters : List SessionFilter) (len capacity : ℕ) (rows : List PolicyPlaces) (room : Option Room) : Type 0 where
-  pub places : (policy : List ℕ) → places_in rows policy ≡ places_of filters policy
-  pub made : IsMade rows len capacity room
-  pub few : len < 2 ^ 31
+-- the places of each policy are those of its filters, the first ones those of the first for their rules, those of each text those of the filters that ask for it first;
+-- each filter has its number, and numbers stay within 32 bits
+pub record IsSession (filters : List SessionFilter) (numbers : List ℕ) (policies firsts texts : List PolicyPlaces) : Type 0 where
+  pub policies_are : (policy : List ℕ) → places_in policies policy ≡ places_of filters policy
+  pub firsts_are : (policy : List ℕ) → places_in firsts policy ≡ firsts_of filters policy
+  pub texts_are : (text : List ℕ) → places_in texts text ≡ places_asking filters text
+  pub numbers_are : numbers ≡ numbers_behind [] filters
+  pub few : length filters < 2 ^ 31

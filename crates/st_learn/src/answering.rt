@@ -1,13 +1,15 @@
 // What a session's filters say of calls.
-ghost use Rattle.std.specs.Prelude.{◌≡◌, ◌++◌, ◌+◌, ◌<◌, ◌≤◌, ◌^◌, suc, length};
+ghost use Rattle.std.specs.Prelude.{◌≡◌, ◌++◌, ◌≤◌, ◌^◌, ℕ, suc, length, None, IfSome};
+ghost use Rattle.st_calls.specs.declared.judged.Verdict.TheVariants.{Unmatched};
 ghost use Rattle.st_filter.specs.Fast.{first_answer};
 ghost use Rattle.st_filter.specs.Judging.{verdict_from};
 ghost use Rattle.st_filter.specs.Policies.{filters_of, read_filters};
 ghost use Rattle.st_law.specs.Sessions.{session_filters};
+ghost use Rattle.st_learn.specs.Deciding.{IsDeciding};
 
 use crate::session::Session;
 use st_calls::{FastAnswer, Rule, Snapshot, Verdict};
-use st_filter::{Policy, PolicySet, fast_answer, holds, verdict_of};
+use st_filter::{Filter, Policy, PolicySet, fast_answer, verdict_of};
 
 // How many filters a policy has for a rule.
 fn read_count(policy: &Policy, rule: Rule) -> usize
@@ -22,22 +24,15 @@ fn read_count(policy: &Policy, rule: Rule) -> usize
 }
 
 impl Session {
-    // What the session's filters say, numbered on behind so many that were read.
-    fn verdict_from(&self, read: u32, copies: &Snapshot) -> Verdict
-        requires { read < 2 ^ 31 }
-        ensures { result ≡ verdict_from (suc read) (session_filters self.now.filters copies.now.policy copies.now.rule) copies.now }
+    /// The session's filter that decides on a held call by the copies of its arguments, as the first for its policy and rule that holds, with its number
+    /// among those of the session, from 1.
+    pub fn deciding(&self, copies: &Snapshot) -> Option<(u32, &Filter)>
+        ensures few { IfSome result (λ found. found.0 ≤ 2 ^ 31) }
+        ensures none { result ≡ None → (read : ℕ) → verdict_from read (session_filters self.now.filters copies.now.policy copies.now.rule) copies.now ≡ Unmatched }
+        ensures some { IfSome result (λ found. IsDeciding (session_filters self.now.filters copies.now.policy copies.now.rule) copies.now found.0 found.1.now) }
     {
-        let mut number = read;
-        for place in self.places_of(copies.policy.bytes()) {
-            let kept = self.kept(*place);
-            if kept.rule() == copies.rule {
-                number += 1;
-                if holds(kept.filter(), copies) {
-                    return verdict_of(kept.filter(), number, copies.ids);
-                }
-            }
-        }
-        Verdict::Unmatched
+        let place = self.first_deciding(copies)?;
+        Some((self.number_before(place) + 1, self.kept(place).filter()))
     }
 
     /// What the session's filters say of a held call on which those that were read don't decide, by the copies of its arguments: as the first
@@ -45,8 +40,14 @@ impl Session {
     pub fn verdict(&self, policies: &PolicySet, copies: &Snapshot) -> Verdict
         ensures { result ≡ verdict_from (suc (length (read_filters policies.now copies.now.policy copies.now.rule))) (session_filters self.now.filters copies.now.policy copies.now.rule) copies.now }
     {
-        let policy = policies.get(copies.policy.bytes());
-        self.verdict_from(read_count(policy, copies.rule) as u32, copies)
+        match self.deciding(copies) {
+            Some((number, filter)) => {
+                let policy = policies.get(copies.policy.bytes());
+                let read = read_count(policy, copies.rule) as u32;
+                verdict_of(filter, read + number, copies.ids)
+            }
+            None => Verdict::Unmatched,
+        }
     }
 
     /// The number that the next filter for a policy and a rule has, behind those that were read and those of the session.
@@ -61,7 +62,7 @@ impl Session {
     pub fn first_answer(&self, policy: &[u8], rule: Rule) -> Option<FastAnswer>
         ensures { result ≡ first_answer (session_filters self.now.filters policy.now rule) }
     {
-        for place in self.places_of(policy) {
+        for place in self.firsts_of(policy) {
             let kept = self.kept(*place);
             if kept.rule() == rule {
                 return Some(fast_answer(kept.filter()));

@@ -1,4 +1,5 @@
 ghost use Rattle.std.specs.Prelude.{◌≡◌};
+ghost use Rattle.st_law.specs.Sessions.{is_kept_for};
 
 use st_base::Text;
 use st_calls::Rule;
@@ -49,6 +50,13 @@ impl Kept {
         ensures { result ≡ self.now.rule }
     {
         self.rule
+    }
+
+    /// Whether it is for this policy and rule.
+    pub fn is_for(&self, policy: &[u8], rule: Rule) -> bool
+        ensures { result ≡ is_kept_for policy.now rule self.now }
+    {
+        self.rule == rule && self.policy.bytes() == policy
     }
 
     /// The filter.

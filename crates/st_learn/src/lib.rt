@@ -2,14 +2,16 @@
 #![tactic(auto)]
 
 mod answering;
+mod asked;
 mod kept;
 pub mod law;
 mod learnt;
-mod places;
+pub mod places;
 mod print;
 pub mod session;
 
 pub use kept::Kept;
 pub use learnt::learnt_filter;
+pub use places::Places;
 pub use print::print_learnt;
 pub use session::Session;

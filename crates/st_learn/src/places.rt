@@ -1,12 +1,12 @@
-ghost use Rattle.std.specs.Prelude.{◌≡◌, [], OnOk};
-ghost use Rattle.st_learn.specs.Places.{places_in, GainsPlace, HasRoom, KeepsPlaces};
+ghost use Rattle.std.specs.Prelude.{◌≡◌, ◌<◌, [], length, OnOk};
+ghost use Rattle.st_learn.specs.Places.{places_in, GainsPlace, HasRoom, KeepsPlaces, LosesPlace};
 
 use indexmap::IndexMap;
 use st_base::Text;
 use std::alloc::{AllocError, Global};
 use std::marker::Model;
 
-/// For each policy the places that its filters have in a session, in order.
+/// For each policy places in a list, in order, as those that its filters have in a session.
 #[derive(Debug, Drop)]
 pub struct Places {
     // By the policies' binaries.
@@ -71,5 +71,17 @@ impl Places {
         };
         let places = &mut self.rows[i];
         places.push_reserved(place);
+    }
+
+    /// Takes the place at an index out of those of a policy, which takes no memory.
+    pub fn take_out(&mut self, policy: &[u8], index: usize)
+        requires { index < length (places_in self.old policy.now) }
+        ensures { LosesPlace self.old policy.now index self.new }
+    {
+        let Some(i) = self.rows.get_index_of(policy) else {
+            unreachable!()
+        };
+        let places = &mut self.rows[i];
+        places.remove(index);
     }
 }

@@ -1,39 +1,39 @@
-ghost use Rattle.std.specs.Prelude.{◌≡◌, ◌<◌, ◌^◌, [], ◌∷◌, ◌++◌, length, slice_get, Some, None, IsSome, IfSome, OnOk, OnErr};
+ghost use Rattle.std.specs.Prelude.{◌≡◌, ◌≤◌, ◌<◌, ◌^◌, ◌&&◌, [], ◌∷◌, ◌++◌, length, slice_get, Some, OnOk, OnErr};
 ghost use Rattle.st_law.specs.Sessions.{session_filters};
-ghost use Rattle.st_learn.specs.Sessions.{is_first_at, kept_in, places_of, room_for, session_with};
+ghost use Rattle.st_learn.specs.Deciding.{asks_first, decides, first_at, lesser, NumberIs};
+ghost use Rattle.st_learn.specs.Places.{HasRoom, MayGainPlace};
+ghost use Rattle.st_learn.specs.Sessions.{added, firsts_of, is_first_at, places_asking, places_of, session_with};
 
+use crate::asked::asked_text;
 use crate::kept::Kept;
 use crate::places::Places;
 use st_base::Text;
-use st_calls::Rule;
-use st_filter::Filter;
+use st_calls::{Rule, Snapshot};
+use st_filter::{Filter, holds};
 use std::alloc::{AllocError, Global};
 use std::marker::Model;
 
 // So many filters are the most, so that the number of each has 32 bits.
 const MOST_KEPT: usize = 0x7fff_ffff;
 
-/// Room for one more filter, for this policy and rule.
-#[derive(Debug, Drop)]
-pub struct Room {
-    pub policy: Text,
-    pub rule: Rule,
-}
-
 /// What a run adds to the policies that were read: filters for policies and rules, in order. Those of a policy are found without
-/// the others.
+/// the others, and so are those that ask an argument for a text.
 #[derive(Debug, Drop)]
 pub struct Session {
     // In the order in which they were added.
     kept: Vec<Kept>,
-    // Where the filters of each policy stand among them.
-    places: Places,
-    room: Option<Room>,
+    // How many before each of them are for its policy and rule.
+    numbers: Vec<u32>,
+    // Where the filters of each policy stand,
+    policies: Places,
+    // where those of them do that are the first for their rule,
+    firsts: Places,
+    // and where those do that ask for a text first.
+    texts: Places,
 }
 
 impl Model for Session {
     ghost use Rattle.std.specs.Coded.{codes};
-    ghost use Rattle.std.specs.Prelude.{vec_capacity, vec_len};
     ghost use Rattle.st_filter.specs.FormulaCode.{formula_code};
     ghost use Rattle.st_learn.specs.Sessions.{IsSession, Session, session_with};
 
@@ -41,53 +41,75 @@ impl Model for Session {
 
     ghost coded = { Prim.hlevel (codes, formula_code) };
 
-    ghost view = { λ s. session_with s.kept.items s.room };
+    ghost view = { λ s. session_with s.kept.items };
 
-    ghost invariant = { λ s. IsSession s.kept.items (vec_len s.kept) (vec_capacity s.kept) s.places s.room };
+    ghost invariant = { λ s. IsSession s.kept.items s.numbers.items s.policies s.firsts s.texts };
+}
+
+// The lesser of two places, where there are some.
+fn lesser(first: Option<usize>, other: Option<usize>) -> Option<usize>
+    ensures { result ≡ lesser first other }
+{
+    match (first, other) {
+        (None, _) => other,
+        (Some(_), None) => first,
+        (Some(a), Some(b)) => { if b < a { other } else { first } }
+    }
+}
+
+// Adds a place to those of a policy, if it is wanted there.
+fn push_if(places: &mut Places, is_wanted: bool, policy: &[u8], place: usize)
+    requires { HasRoom places.old policy.now }
+    ensures { MayGainPlace is_wanted places.old policy.now place places.new }
+{
+    if is_wanted {
+        places.push(policy, place);
+    }
 }
 
 impl Session {
-    /// No filters and no room, which takes no memory.
+    /// No filters, which takes no memory.
     pub fn new(alloc: Global) -> Self
-        ensures { result ≡ session_with [] None }
+        ensures { result ≡ session_with [] }
     {
         Session {
             kept: Vec::new(alloc),
-            places: Places::new(alloc),
-            room: None,
+            numbers: Vec::new(alloc),
+            policies: Places::new(alloc),
+            firsts: Places::new(alloc),
+            texts: Places::new(alloc),
         }
     }
 
-    /// Makes room for one more filter of a policy and a rule, in place of the room that was made before. Without memory all is as
-    /// before; a session of `MOST_KEPT` filters takes no more either.
-    pub fn reserve(&mut self, alloc: Global, policy: &[u8], rule: Rule) -> Result<(), AllocError>
-        ensures ok { OnOk result (self.new ≡ session_with self.old.filters (room_for policy.now rule)) }
+    /// Adds a filter for a policy and a rule, at the end. Without memory all is as before; a session of `MOST_KEPT` filters takes no more
+    /// either.
+    pub fn add(
+        &mut self,
+        alloc: Global,
+        policy: &[u8],
+        rule: Rule,
+        filter: Filter,
+    ) -> Result<(), AllocError>
+        ensures ok { OnOk result (self.new.filters ≡ self.old.filters ++ added policy.now rule filter ∷ []) }
         ensures err { OnErr result (self.new ≡ self.old) }
     {
-        if self.kept.len() >= MOST_KEPT {
+        let place = self.kept.len();
+        if place >= MOST_KEPT {
             return Err(AllocError);
         }
-        let room = Room {
-            policy: Text::of(alloc, policy)?,
-            rule,
-        };
+        let binary = Text::of(alloc, policy)?;
+        let number = self.count_of(policy, rule) as u32;
         self.kept.reserve(1)?;
-        self.places.reserve(alloc, policy)?;
-        self.room = Some(room);
+        self.numbers.reserve(1)?;
+        self.policies.reserve(alloc, policy)?;
+        self.firsts.reserve(alloc, policy)?;
+        self.texts.reserve(alloc, asked_text(filter.expr()))?;
+        self.policies.push(policy, place);
+        push_if(&mut self.firsts, number == 0, policy, place);
+        self.texts.push(asked_text(filter.expr()), place);
+        self.numbers.push_reserved(number);
+        self.kept.push_reserved(Kept::new(binary, rule, filter));
         Ok(())
-    }
-
-    /// Adds a filter for the policy and the rule that room was made for, at the end, and uses the room up. It takes no memory.
-    pub fn add(&mut self, filter: Filter)
-        requires { IsSome self.old.room }
-        ensures { IfSome self.old.room (λ room. self.new ≡ session_with (self.old.filters ++ kept_in room filter ∷ []) None) }
-    {
-        let Some(room) = self.room.take() else {
-            unreachable!()
-        };
-        self.places.push(room.policy.bytes(), self.kept.len());
-        self.kept
-            .push_reserved(Kept::new(room.policy, room.rule, filter));
     }
 
     /// The filters, in order.
@@ -110,7 +132,21 @@ impl Session {
         ensures few { length result.now < 2 ^ 31 }
         ensures is { result.now ≡ places_of self.now.filters policy.now }
     {
-        self.places.of(policy)
+        self.policies.of(policy)
+    }
+
+    // The places of those of a policy that are the first for their rule.
+    pub(crate) fn firsts_of(&self, policy: &[u8]) -> &[usize]
+        ensures { result.now ≡ firsts_of self.now.filters policy.now }
+    {
+        self.firsts.of(policy)
+    }
+
+    // The places of the filters that ask for a text first.
+    fn places_asking(&self, text: &[u8]) -> &[usize]
+        ensures { result.now ≡ places_asking self.now.filters text.now }
+    {
+        self.texts.of(text)
     }
 
     /// Whether the filter at a place is the first of its policy.
@@ -124,17 +160,54 @@ impl Session {
         }
     }
 
-    // How many filters there are for a policy and a rule.
-    pub(crate) fn count_of(&self, policy: &[u8], rule: Rule) -> usize
+    // How many of the filters before a place are for the policy and the rule of the one there.
+    pub(crate) fn number_before(&self, place: usize) -> u32
+        requires { place < length self.now.filters }
         ensures few { result < 2 ^ 31 }
+        ensures is { NumberIs self.now.filters place result }
+    {
+        self.numbers[place]
+    }
+
+    // How many filters there are for a policy and a rule: one more than before the last of them.
+    pub(crate) fn count_of(&self, policy: &[u8], rule: Rule) -> usize
+        ensures few { result ≤ 2 ^ 31 }
         ensures is { result ≡ length (session_filters self.now.filters policy.now rule) }
     {
-        let mut count = 0;
-        for place in self.places_of(policy) {
-            if self.kept(*place).rule() == rule {
-                count += 1;
+        let places = self.places_of(policy);
+        let mut left = places.len();
+        while left > 0 {
+            left -= 1;
+            if self.kept(places[left]).rule() == rule {
+                return self.number_before(places[left]) as usize + 1;
             }
         }
-        count
+        0
+    }
+
+    // The first place whose filter asks for this text first, is for the policy and the rule of a call, and holds of it.
+    fn first_asking(&self, text: &[u8], copies: &Snapshot) -> Option<usize>
+        ensures { result ≡ first_at (λ kept. asks_first text.now kept && decides copies.now kept) self.now.filters }
+    {
+        for place in self.places_asking(text) {
+            let kept = self.kept(*place);
+            if kept.is_for(copies.policy.bytes(), copies.rule) && holds(kept.filter(), copies) {
+                return Some(*place);
+            }
+        }
+        None
+    }
+
+    // The first place whose filter is for the policy and the rule of a call, and holds of it. One that asks an argument for a text first holds
+    // of no call without that text.
+    pub(crate) fn first_deciding(&self, copies: &Snapshot) -> Option<usize>
+        ensures { result ≡ first_at (decides copies.now) self.now.filters }
+    {
+        let mut first = self.first_asking(&[], copies);
+        for part in copies.parts.as_slice() {
+            let other = self.first_asking(part.text.bytes(), copies);
+            first = lesser(first, other);
+        }
+        first
     }
 }

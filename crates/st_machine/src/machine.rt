@@ -31,7 +31,7 @@ pub struct Machine<'a> {
     // Thread t stands at t - 1.
     pub(crate) threads: Vec<Thread<'a>>,
     pub(crate) answers: FastTable,
-    pub(crate) operator: Operator,
+    pub(crate) operator: Operator<'a>,
 }
 
 impl<'a> Model for Machine<'a> {

@@ -1,11 +1,15 @@
--- The next reply that is left, one after the other.
+-- The next reply that is left, and what the operator's answer leads on to.
 use native.Mathlib.Omega.{arith}
-use Rattle.std.proofs.Common.{◌≡◌, ◌≤◌, ◌<◌, ◌+◌, ◌-◌, ◌∙◌, ℕ, zero, suc, ◌&&◌, ◌||◌, ◌==◌, Bool, true, false, cond, not, set, get_or, List, [], ◌∷◌, ◌++◌, length, Option, Some, None, inl, inr, refl, ap, sym, subst}
+use Rattle.std.proofs.Common.{◌≡◌, ◌≢◌, ◌<◌, ◌+◌, ◌∙◌, ℕ, suc, ◌&&◌, ◌||◌, ◌==◌, Bool, true, false, cond, not, get_or, List, [], ◌∷◌, ◌++◌, length, Option, Some, None, inl, inr, refl, ap, sym, subst}
+use Rattle.std.proofs.Math.Bool.{and-false, and-true, and_assoc, and_comm}
 use Rattle.std.proofs.lemmas.Bool.{and_parts, cases_eq, eq-eqb, ne_eqb}
-use Rattle.std.proofs.lemmas.List.{get_or-set_same, get_or-set_other, length-set}
-use Rattle.std.proofs.lemmas.Option.{none-some, same_Some, slice_get-get_or, slice_get_within}
-use Rattle.std.specs.Prelude.{is_some, slice_get, slice_index_or}
-use Rattle.st_base.specs.Numbered.{item_at_number}
+use Rattle.std.proofs.lemmas.List.Quantifiers.{position-Some}
+use Rattle.std.proofs.lemmas.Option.{slice_get-get_or, slice_get_within}
+use Rattle.std.proofs.lemmas.Slice.Eq.{bytes_eq-Decides}
+use Rattle.std.specs.List.{find, remove}
+use Rattle.std.specs.Option.{option_map}
+use Rattle.std.specs.Prelude.{is_some, slice_get}
+use Rattle.std.specs.Str.{bytes_eq}
 use Rattle.st_calls.specs.declared.judged.Snapshot.{Snapshot}
 use Rattle.st_calls.specs.declared.rule.Rule.{Rule}
 use Rattle.st_filter.specs.Policies.{read_filters}
@@ -15,94 +19,118 @@ use Rattle.st_law.specs.declared.input.Input.{Input}
 use Rattle.st_law.specs.declared.input.Mode.{Mode}
 use Rattle.st_law.specs.declared.input.Mode.TheVariants.{Enforce, Learn, AskText}
 use Rattle.st_law.specs.Machine.{question_entry, reply_entry, state_after}
-use Rattle.st_law.specs.Sessions.{is_reply_for, kept_for, least_from, replied_by, session_filters}
+use Rattle.st_law.specs.Sessions.{is_reply_for, kept_for, replied_by, session_filters}
 use Rattle.st_law.specs.State.{State, filter_count, is_asked, is_reply_left, next_reply, snapshot_in}
-use Rattle.st_operator.specs.Operator.{Added, IsAdded, answers_in, is_given, is_left, next_left}
+use Rattle.st_learn.specs.Places.{GainsPlace, LosesPlace, PolicyPlaces, places_in}
+use Rattle.st_operator.specs.Operator.{Added, AreLeft, IsAdded, answers_in, is_for_rule, is_left, is_reply_of, next_left, places_among}
+use Rattle.st_operator.proofs.Places.{among_is, among_more, among_without, found_at, item_at, least_found, there_at}
 
-module _ (is : ℕ → Bool) where
-  less : (k i : ℕ) → i < k → k - i ≡ suc (k - (i + 1))
-  less k i low = omega (arith, low)
+-- ---- the next reply
 
-  -- one that isn't of the kind is passed
-  pub least_next : (i len : ℕ) → i < len → is (suc i) ≡ false → least_from is (suc (i + 1)) (len - (i + 1)) ≡ least_from is (suc i) (len - i)
-  least_next i len low e =
-      (λ k. least_from is (suc (one k)) (len - (i + 1)))
-      ∙ sym (ap (λ b. cond b (Some (suc i)) (least_from is (suc (suc i)) (len - (i + 1)))) e)
-      ∙ ap (least_from is (suc i)) (sym (less len i low)) where
-        one : i + 1 ≡ suc i
-        one = omega arith
+-- where the next reply was found, the place of a reply stands
+module _ (added : Added) (policy : List ℕ) (rule : Rule) (index : ℕ) (next : next_left added policy rule ≡ Some index) where
+  abbrev place : ℕ
+  place = get_or (places_in added.left policy) index 0
 
-  -- one that is of the kind is the least
-  pub least_here : (i len : ℕ) → i < len → is (suc i) ≡ true → least_from is (suc i) (len - i) ≡ Some (suc i)
-  least_here i len low e = ap (least_from is (suc i)) (less len i low) ∙ ap (λ b. cond b (Some (suc i)) (least_from is (suc (suc i)) (len - (i + 1)))) e
+  found : (index < length (places_in added.left policy)) × (is_for_rule rule (slice_get added.replies place) ≡ true)
+  found = let is = position-Some (λ at. is_for_rule rule (slice_get added.replies at)) (places_in added.left policy) index 0 next in (is.0, is.1)
 
-  -- none is left behind the last
-  pub least_none : (i len : ℕ) → len ≤ i → least_from is (suc i) (len - i) ≡ None
-  least_none i len high = ap (least_from is (suc i)) (let none : len - i ≡ 0 = omega (arith, high) in none)
+  pub place_there : slice_get (places_in added.left policy) index ≡ Some place
+  place_there = slice_get-get_or (places_in added.left policy) index 0 found.0
 
-  -- what is found is of the kind
-  pub least_is : (n count k : ℕ) → least_from is n count ≡ Some k → is k ≡ true
-  least_is n zero k e = absurd (none-some k e)
-  least_is n (suc count) k e = by (is n) refl e (least_is (suc n) count k) where
-    by : (b : Bool) → is n ≡ b → cond b (Some n) (least_from is (suc n) count) ≡ Some k → (least_from is (suc n) count ≡ Some k → is k ≡ true) → is k ≡ true
-    by true holds found later = subst (λ m. is m ≡ true) (same_Some n k found) holds
-    by false holds found later = later found
+  reply_there : (reply : Reply) × (slice_get added.replies place ≡ Some reply)
+  reply_there = by (slice_get added.replies place) refl found.1 where
+    by : (o : Option Reply) → slice_get added.replies place ≡ o → is_for_rule rule o ≡ true → (reply : Reply) × (slice_get added.replies place ≡ Some reply)
+    by None is for = cc
+    by (Some reply) is for = (reply, is)
 
--- a reply that is left is one of the replies
-pub left_there : (replies : List Reply) (given : List Bool) (policy : List ℕ) (rule : Rule) (n : ℕ) → next_left replies given policy rule ≡ Some n → (reply : Reply) × (item_at_number replies n ≡ Some reply)
-left_there replies given policy rule n e = by (item_at_number replies n) refl (and_parts (is_reply_for policy rule (item_at_number replies n)) (not (is_given given n)) (least_is (is_left replies given policy rule) 1 (length replies) n e)).0 where
-  by : (o : Option Reply) → item_at_number replies n ≡ o → is_reply_for policy rule o ≡ true → (reply : Reply) × (item_at_number replies n ≡ Some reply)
-  by None is for = cc
-  by (Some reply) is for = (reply, is)
+  pub place_within : place < length added.replies
+  place_within = slice_get_within added.replies place reply_there.0 reply_there.1
 
--- one that is for another policy or rule isn't left, nor is one that was given
-module _ (replies : List Reply) (given : List Bool) (policy : List ℕ) (rule : Rule) (i : ℕ) where
-  pub passed_by : (reply : Reply) → slice_get replies i ≡ Some reply → (b : Bool) → b ≡ is_reply_for policy rule (Some reply) → b ≡ false → is_left replies given policy rule (suc i) ≡ false
-  passed_by reply is b same e = ap (λ x. x && not (is_given given (suc i))) (ap (is_reply_for policy rule) is ∙ sym same ∙ e)
+-- ---- which replies are left
 
-  pub given_by : (b : Bool) → slice_index_or given i false ≡ b → not b ≡ false → is_left replies given policy rule (suc i) ≡ false
-  given_by b same e = ap (λ x. is_reply_for policy rule (slice_get replies i) && not x) same ∙ ap (λ x. is_reply_for policy rule (slice_get replies i) && x) e ∙ and_no (is_reply_for policy rule (slice_get replies i)) where
-    and_no : (x : Bool) → (x && false) ≡ false
-    and_no true = refl
-    and_no false = refl
+-- a reply that is for one policy is for no other
+other_policy : (policy other : List ℕ) (o : Option Reply) → bytes_eq policy other ≡ false → is_reply_of policy o ≡ true → is_reply_of other o ≡ false
+other_policy policy other None apart is = refl
+other_policy policy other (Some reply) apart is = ap (λ binary. bytes_eq binary other) ((bytes_eq-Decides reply.binary policy).0 is) ∙ apart
+
+module _ (replies : List Reply) (given : ℕ → Bool) (place : ℕ) where
+  -- those that were given, and the one at this place
+  abbrev given_too : ℕ → Bool
+  given_too n = suc place == n || given n
+
+  given_here : (policy : List ℕ) → is_left replies given_too policy place ≡ false
+  given_here policy = ap (λ b. is_reply_of policy (slice_get replies place) && not (b || given (suc place))) (eq-eqb (suc place) (suc place) refl) ∙ and-false (is_reply_of policy (slice_get replies place))
+
+  given_elsewhere : (policy : List ℕ) (n : ℕ) → n ≢ place → is_left replies given_too policy n ≡ is_left replies given policy n
+  given_elsewhere policy n differs =
+      ap (λ b. is_reply_of policy (slice_get replies n) && not (b || given (suc n))) (ne_eqb (suc place) (suc n) (λ same. differs (let e : n ≡ place = omega (arith, same) in e)))
+
+  given_to_other : (policy other : List ℕ) → bytes_eq policy other ≡ false → is_reply_of policy (slice_get replies place) ≡ true → (n : ℕ) → is_left replies given other n ≡ is_left replies given_too other n
+  given_to_other policy other apart is n = elim (cases_eq n place) [
+    | inl e ↦
+        let none : is_reply_of other (slice_get replies n) ≡ false = ap (λ m. is_reply_of other (slice_get replies m)) e ∙ other_policy policy other (slice_get replies place) apart is in
+        ap (λ b. b && not (given (suc n))) none ∙ sym (ap (λ b. b && not (given_too (suc n))) none)
+    | inr ne ↦ sym (given_elsewhere other n ne)
+  ]
+
+  -- those that are left, once the reply at a place is given
+  pub left_after : (count index : ℕ) (policy : List ℕ) (old new : List PolicyPlaces) → AreLeft replies given count old → slice_get (places_in old policy) index ≡ Some place → LosesPlace old policy index new → AreLeft replies given_too count new
+  left_after count index policy old new left there loses other = loses other ∙ by (bytes_eq policy other) refl where
+    at : slice_get (places_among (is_left replies given policy) 0 count) index ≡ Some place
+    at = sym (ap (λ places. slice_get places index) (left policy)) ∙ there
+
+    taken : remove (places_in old policy) index ≡ places_among (is_left replies given_too policy) 0 count
+    taken = ap (λ places. remove places index) (left policy)
+        ∙ among_without (is_left replies given policy) (is_left replies given_too policy) place (given_here policy) (given_elsewhere policy) 0 count index at
+
+    is : is_reply_of policy (slice_get replies place) ≡ true
+    is = (and_parts (is_reply_of policy (slice_get replies place)) (not (given (suc place))) (among_is (is_left replies given policy) 0 count index place at).1).0
+
+    by : (b : Bool) → bytes_eq policy other ≡ b → cond b (remove (places_in old other) index) (places_in old other) ≡ places_among (is_left replies given_too other) 0 count
+    by true e = subst (λ p. remove (places_in old p) index ≡ places_among (is_left replies given_too p) 0 count) ((bytes_eq-Decides policy other).0 e) taken
+    by false e = left other ∙ (λ k. places_among (λ n. given_to_other policy other e is n k) 0 count)
+
+  -- with one more reply, which wasn't given
+  pub left_more : (reply : Reply) (old new : List PolicyPlaces) → AreLeft replies given place old → slice_get replies place ≡ Some reply → given (suc place) ≡ false → GainsPlace old reply.binary place new → AreLeft replies given (place + 1) new
+  left_more reply old new left there none gains other =
+      let same : suc place ≡ place + 1 = omega arith in
+      let first : place ≡ 0 + place = omega arith in
+      let kind : bytes_eq reply.binary other ≡ is_left replies given other place = sym ((λ k. is_reply_of other (there k) && not (none k)) ∙ and-true (bytes_eq reply.binary other)) in
+      gains other
+      ∙ (λ k. cond (kind k) (left other k ++ place ∷ []) (left other k))
+      ∙ (λ k. cond (is_left replies given other (first k)) (places_among (is_left replies given other) 0 place ++ first k ∷ []) (places_among (is_left replies given other) 0 place))
+      ∙ sym (among_more (is_left replies given other) 0 place)
+      ∙ (λ k. places_among (is_left replies given other) 0 (same k))
 
 -- ---- what the operator adds
 
--- an item that is there has a number in range
-pub number_there : {X : Type 0} (items : List X) (n : ℕ) (x : X) → item_at_number items n ≡ Some x → (1 ≤ n) × (n - 1 < length items)
-number_there items zero x is = absurd (none-some x is)
-number_there items (suc k) x is =
-    let before : suc k - 1 ≡ k = omega arith in
-    (omega arith, subst (λ m. m < length items) (sym before) (slice_get_within items k x is))
-
--- what is read at the place before a number is the item of that number
-pub reply_here : {X : Type 0} (items : List X) (n : ℕ) (found x : X) → item_at_number items n ≡ Some found → x ≡ get_or items (n - 1) x → item_at_number items n ≡ Some x
-reply_here items zero found x there is = absurd (none-some found there)
-reply_here items (suc k) found x there is =
-    let before : suc k - 1 ≡ k = omega arith in
-    slice_get-get_or items k x (slice_get_within items k found there) ∙ ap Some (sym (is ∙ ap (λ m. get_or items m x) before))
-
--- whether each reply was given, once one more is
-given_more : (given : List Bool) (k : ℕ) → k < length given → (n : ℕ) → is_given (set given k true) n ≡ (suc k == n || is_given given n)
-given_more given k within zero = sym (ap (λ b. b || false) (ne_eqb (suc k) 0 (λ e. absurd (omega (arith, e)))))
-given_more given k within (suc j) = elim (cases_eq j k) [
-  | inl e ↦ ap (λ m. get_or (set given k true) m false) e ∙ get_or-set_same given k true false within ∙ sym (ap (λ b. b || get_or given j false) (eq-eqb (suc k) (suc j) (ap suc (sym e))))
-  | inr ne ↦ get_or-set_other given k j true false (λ same. ne (let e : j ≡ k = omega (arith, same) in e)) ∙ sym (ap (λ b. b || get_or given j false) (ne_eqb (suc k) (suc j) (λ same. ne (let e : j ≡ k = omega (arith, same) in e))))
-]
-
 module _ (i : Input) (st : State) (added : Added) (is : IsAdded i st added) where
-  left_same : (policy : List ℕ) (rule : Rule) (n : ℕ) → is_reply_left i st policy rule n ≡ is_left i.replies added.given policy rule n
-  left_same policy rule n = ap (λ b. is_reply_for policy rule (item_at_number i.replies n) && not b) (is.given n)
+  both_by : (policy : List ℕ) (rule : Rule) (o : Option Reply) (given : Bool) → (is_reply_for policy rule o && not given) ≡ ((is_reply_of policy o && not given) && is_for_rule rule o)
+  both_by policy rule None given = refl
+  both_by policy rule (Some reply) given =
+      let of = bytes_eq reply.binary policy in
+      let for = is_for_rule rule (Some reply) in
+      and_assoc of for (not given) ∙ ap (λ b. of && b) (and_comm for (not given)) ∙ sym (and_assoc of (not given) for)
 
   -- the next reply is the machine's
-  pub next_same : (policy : List ℕ) (rule : Rule) → next_reply i st policy rule ≡ next_left i.replies added.given policy rule
-  next_same policy rule = λ k. least_from (λ n. left_same policy rule n k) 1 (length i.replies)
+  pub next_same : (policy : List ℕ) (rule : Rule) → next_reply i st policy rule ≡ option_map suc (item_at (places_in added.left policy) (next_left added policy rule))
+  next_same policy rule =
+      least_found (is_reply_left i st policy rule) (is_left i.replies st.replied policy) (λ place. is_for_rule rule (slice_get i.replies place))
+      (λ n. both_by policy rule (slice_get i.replies n) (st.replied (suc n))) 0 (length i.replies)
+      ∙ (λ k. option_map suc (find (λ place. is_for_rule rule (slice_get (sym is.replies k) place)) (sym (is.left policy) k)))
+      ∙ ap (option_map suc) (found_at (λ place. is_for_rule rule (slice_get added.replies place)) (places_in added.left policy))
 
   -- so is what the operator answers
-  pub asked_same : (s : Snapshot) (mode : Mode) → is_asked i st s mode ≡ answers_in i added s mode
+  pub asked_same : (s : Snapshot) (mode : Mode) → is_asked i st s mode ≡ answers_in added s mode
   asked_same s Enforce = refl
   asked_same s Learn = refl
-  asked_same s AskText = ap is_some (next_same s.policy s.rule)
+  asked_same s AskText =
+      ap is_some (next_same s.policy s.rule) ∙ still (item_at (places_in added.left s.policy) (next_left added s.policy s.rule))
+      ∙ there_at (λ place. is_for_rule s.rule (slice_get added.replies place)) (places_in added.left s.policy) where
+        still : (o : Option ℕ) → is_some (option_map suc o) ≡ is_some o
+        still None = refl
+        still (Some n) = refl
 
   -- and what the session says
   pub filters_same : (policy : List ℕ) (rule : Rule) → session_filters st.session policy rule ≡ session_filters added.filters policy rule
@@ -112,22 +140,29 @@ module _ (i : Input) (st : State) (added : Added) (is : IsAdded i st added) wher
   number_same s = ap (λ fs. suc (length (read_filters i.policies s.policy s.rule ++ fs))) (filters_same s.policy s.rule)
 
   module _ (s : Snapshot) (there : snapshot_in st s.seq ≡ Some s) (new : Added) (number : ℕ) (numbered : number ≡ suc (length (read_filters i.policies s.policy s.rule ++ session_filters added.filters s.policy s.rule))) where
-    -- the reply of this number is given
-    pub is_replied : (n : ℕ) (reply : Reply) → next_left i.replies added.given s.policy s.rule ≡ Some n → item_at_number i.replies n ≡ Some reply → new.filters ≡ added.filters ++ kept_for reply.filter s ∷ [] → new.given ≡ set added.given (n - 1) true
-        → (question_entry i st s.seq s AskText ≡ Some (Replied s.seq n number)) × IsAdded i (state_after i st (Replied s.seq n number)) new
-    is_replied n reply next is_reply filters given =
-        let within = number_there i.replies n reply is_reply in
-        let one : suc (n - 1) ≡ n = omega (arith, within.0) in
-        let count = is.count in
-        let inside : n - 1 < length added.given = omega (arith, within.1, count) in (
-          ap (reply_entry i st s.seq s) (next_same s.policy s.rule ∙ next) ∙ ap (λ k. Some (Replied s.seq n k)) (number_same s ∙ sym numbered),
-          record {
-            session = (λ k. is.session k ++ replied_by (is_reply k) (there k)) ∙ sym filters;
-            count = ap length given ∙ length-set added.given (n - 1) true ∙ count;
-            given = λ m. ap (λ b. n == m || b) (is.given m) ∙ sym (ap (λ g. is_given g m) given ∙ given_more added.given (n - 1) inside m ∙ ap (λ k. k == m || is_given added.given m) one);
-          },
-        )
+    -- the next reply is given
+    pub is_replied : (index place : ℕ) (reply : Reply) → next_left added s.policy s.rule ≡ Some index → slice_get (places_in added.left s.policy) index ≡ Some place → slice_get added.replies place ≡ Some reply
+        → new.filters ≡ added.filters ++ kept_for reply.filter s ∷ [] → new.replies ≡ added.replies → LosesPlace added.left s.policy index new.left
+        → (question_entry i st s.seq s AskText ≡ Some (Replied s.seq (place + 1) number)) × IsAdded i (state_after i st (Replied s.seq (place + 1) number)) new
+    is_replied index place reply next at is_reply filters replies loses = subst Step one (
+      ap (reply_entry i st s.seq s) (next_same s.policy s.rule ∙ ap (λ o. option_map suc (item_at (places_in added.left s.policy) o)) next ∙ ap (option_map suc) at)
+          ∙ ap (λ k. Some (Replied s.seq (suc place) k)) (number_same s ∙ sym numbered),
+      record {
+        session = (λ k. is.session k ++ replied_by ((ap (λ all. slice_get all place) (sym is.replies) ∙ is_reply) k) (there k)) ∙ sym filters;
+        replies = replies ∙ is.replies;
+        left = left_after i.replies st.replied place (length i.replies) index s.policy added.left new.left is.left at loses;
+      },
+    ) where
+      Step : ℕ → Type 0
+      Step n = (question_entry i st s.seq s AskText ≡ Some (Replied s.seq n number)) × IsAdded i (state_after i st (Replied s.seq n number)) new
+
+      one : suc place ≡ place + 1
+      one = omega arith
 
 -- what was added is the machine's in each state that has the same session and the same replies given
 pub added_stands : (i : Input) (st new : State) (added : Added) → new.session ≡ st.session → new.replied ≡ st.replied → IsAdded i st added → IsAdded i new added
-added_stands i st new added session replied is = record { session = session ∙ is.session; count = is.count; given = λ n. ap (λ given. given n) replied ∙ is.given n }
+added_stands i st new added session replied is = record {
+  session = session ∙ is.session;
+  replies = is.replies;
+  left = λ policy. is.left policy ∙ (λ k. places_among (is_left i.replies (sym replied k) policy) 0 (length i.replies));
+}

@@ -1,44 +1,67 @@
 -- What the operator has added to a run, against what the law's machine keeps of it.
-use Rattle.std.specs.Prelude.{◌≡◌, ℕ, Bool, false, true, ◌&&◌, not, List, length, Option, is_some}
-use Rattle.st_base.specs.Numbered.{item_at_number, item_at_number_or}
+use Rattle.std.specs.Prelude.{◌≡◌, ℕ, zero, suc, Bool, false, true, ◌&&◌, not, if◌then◌else◌, List, [], ◌∷◌, length, slice_get, Option, Some, None, is_some}
+use Rattle.std.specs.List.{position}
+use Rattle.std.specs.Str.{bytes_eq}
 use Rattle.st_calls.specs.declared.judged.Snapshot.{Snapshot}
 use Rattle.st_calls.specs.declared.rule.Rule.{Rule}
+use Rattle.st_filter.specs.Policies.{is_for}
 use Rattle.st_filter.specs.declared.set.Reply.{Reply}
-use Rattle.st_law.specs.Sessions.{SessionFilter, is_reply_for, least_from}
+use Rattle.st_law.specs.Sessions.{SessionFilter}
 use Rattle.st_law.specs.State.{State}
 use Rattle.st_law.specs.declared.input.Input.{Input}
 use Rattle.st_law.specs.declared.input.Mode.{Mode}
 use Rattle.st_law.specs.declared.input.Mode.TheVariants.{Enforce, Learn, AskText}
+use Rattle.st_learn.specs.Places.{PolicyPlaces, places_in}
 
--- the filters of the session, and for each reply whether it was given
+-- the filters of the session, the script's replies, and for each policy the places of those that were not given yet
 pub record Added : Type 0 where
   pub filters : List SessionFilter
-  pub given : List Bool
+  pub replies : List Reply
+  pub left : List PolicyPlaces
 
--- whether the reply of a number was given
-abbrev pub is_given : List Bool → ℕ → Bool
-is_given given n = item_at_number_or false given n
+-- ---- the next reply
 
--- whether a reply is for a policy and a rule and was not given yet
-abbrev pub is_left : List Reply → List Bool → List ℕ → Rule → ℕ → Bool
-is_left replies given policy rule n = is_reply_for policy rule (item_at_number replies n) && not (is_given given n)
+-- whether there is a reply here for a rule, of whatever policy
+abbrev pub is_for_rule : Rule → Option Reply → Bool
+is_for_rule rule None = false
+is_for_rule rule (Some reply) = is_for rule reply.filter.name
 
--- the next reply for a policy and a rule, if there is one left
-abbrev pub next_left : List Reply → List Bool → List ℕ → Rule → Option ℕ
-next_left replies given policy rule = least_from (is_left replies given policy rule) 1 (length replies)
+-- where among the replies left of a policy the next for a rule stands, if there is one
+abbrev pub next_left : Added → List ℕ → Rule → Option ℕ
+next_left added policy rule = position (λ place. is_for_rule rule (slice_get added.replies place)) (places_in added.left policy)
 
 -- whether the operator answers for a call with these copies that no filter decides, by the mode
-abbrev pub answers_in : Input → Added → Snapshot → Mode → Bool
-answers_in i added s Enforce = false
-answers_in i added s Learn = true
-answers_in i added s AskText = is_some (next_left i.replies added.given s.policy s.rule)
+abbrev pub answers_in : Added → Snapshot → Mode → Bool
+answers_in added s Enforce = false
+answers_in added s Learn = true
+answers_in added s AskText = is_some (next_left added s.policy s.rule)
 
 -- whether the operator does
 abbrev pub answers : Input → Added → Snapshot → Bool
-answers i added s = answers_in i added s i.options.mode
+answers i added s = answers_in added s i.options.mode
+
+-- ---- which replies are left
+
+-- those of a kind among so many places from this one on, in order
+abbrev pub places_among : (ℕ → Bool) → ℕ → ℕ → List ℕ
+places_among is n zero = []
+places_among is n (suc count) = if is n then n ∷ places_among is (suc n) count else places_among is (suc n) count
+
+-- whether there is a reply here for a policy, of whatever rule
+abbrev pub is_reply_of : List ℕ → Option Reply → Bool
+is_reply_of policy None = false
+is_reply_of policy (Some reply) = bytes_eq reply.binary policy
+
+-- whether the reply at a place is for a policy and was not given yet, by the numbers that were; one at place n has number n + 1
+abbrev pub is_left : List Reply → (ℕ → Bool) → List ℕ → ℕ → Bool
+is_left replies given policy place = is_reply_of policy (slice_get replies place) && not (given (suc place))
+
+-- of each policy, the places of those of its replies that were not given yet, among the first so many
+abbrev pub AreLeft : List Reply → (ℕ → Bool) → ℕ → List PolicyPlaces → Type 0
+AreLeft replies given count left = (policy : List ℕ) → places_in left policy ≡ places_among (is_left replies given policy) 0 count
 
 -- what was added is what the machine keeps of it
 pub record IsAdded (i : Input) (st : State) (added : Added) : Type 0 where
   pub session : st.session ≡ added.filters
-  pub count : length added.given ≡ length i.replies
-  pub given : (n : ℕ) → st.replied n ≡ is_given added.given n
+  pub replies : added.replies ≡ i.replies
+  pub left : AreLeft i.replies st.replied (length i.replies) added.left

@@ -1,19 +1,19 @@
-ghost use Rattle.std.specs.Prelude.{◌≡◌, ◌++◌, ◌∷◌, [], suc, true, length, Some, None, IfOk, OnOk, OnErr};
+ghost use Rattle.std.specs.Prelude.{◌≡◌, ◌++◌, ◌∷◌, [], suc, true, false, length, slice_get, Some, IfOk, OnOk, OnErr};
 ghost use Rattle.st_filter.specs.Fast.{first_answer};
 ghost use Rattle.st_filter.specs.Judging.{verdict_from};
 ghost use Rattle.st_filter.specs.Policies.{read_filters};
 ghost use Rattle.st_law.specs.Machine.{first_state, question_entry, state_after};
-ghost use Rattle.st_law.specs.Sessions.{is_reply_for, kept_for, session_filters};
+ghost use Rattle.st_law.specs.Sessions.{kept_for, session_filters};
 ghost use Rattle.st_law.specs.State.{State, snapshot_in};
 ghost use Rattle.st_law.specs.declared.input.Input.{Input};
 ghost use Rattle.st_law.specs.declared.input.Mode.TheVariants.{AskText, Learn};
 ghost use Rattle.st_trace.specs.declared.entry.Entry.TheVariants.{Learned, Replied};
-ghost use Rattle.st_operator.specs.Operator.{answers, next_left, IsAdded};
+ghost use Rattle.st_operator.specs.Operator.{answers, is_for_rule, next_left, AreLeft, IsAdded};
 
 use st_calls::{FastAnswer, Rule, Snapshot, Verdict};
 use st_filter::{Filter, PolicySet, Reply};
 use st_law::{Input, Mode};
-use st_learn::{Session, learnt_filter};
+use st_learn::{Places, Session, learnt_filter};
 use st_trace::Entry;
 use std::alloc::{AllocError, Global};
 use std::marker::Model;
@@ -21,15 +21,18 @@ use std::marker::Model;
 // So many replies are too many for their numbers.
 const MOST_REPLIES: usize = 0xffff_ffff;
 
-/// What the operator has added to a run: the filters of the session, and which of the script's replies were given.
+/// What the operator has added to a run: the filters of the session, and which of the script's replies were given. Those left for a policy are
+/// found without the others.
 #[derive(Debug, Drop)]
-pub struct Operator {
+pub struct Operator<'a> {
     session: Session,
     // Reply n stands at n - 1.
-    given: Vec<bool>,
+    replies: &'a [Reply],
+    // Where those of each policy stand that were not given yet.
+    left: Places,
 }
 
-impl Model for Operator {
+impl<'a> Model for Operator<'a> {
     ghost use Rattle.std.specs.Coded.{codes};
     ghost use Rattle.st_filter.specs.FormulaCode.{formula_code};
     ghost use Rattle.std.specs.Prelude.{◌<◌, ◌-◌, ◌^◌, length};
@@ -39,21 +42,27 @@ impl Model for Operator {
 
     ghost coded = { Prim.hlevel (codes, formula_code) };
 
-    ghost view = { λ o. record { filters = o.session.filters; given = o.given.items } };
+    ghost view = { λ o. record { filters = o.session.filters; replies = o.replies.now; left = o.left } };
 
-    ghost invariant = { λ o. length o.given.items < 2 ^ 32 - 1 };
+    ghost invariant = { λ o. length o.replies.now < 2 ^ 32 - 1 };
 }
 
-// Whether a reply is for a policy and a rule.
-fn is_for(reply: &Reply, policy: &[u8], rule: Rule) -> bool
-    ensures { result ≡ is_reply_for policy.now rule (Some reply.now) }
+// Where the replies for each policy stand.
+fn places_of(alloc: Global, replies: &[Reply]) -> Result<Places, AllocError>
+    ensures { IfOk result (AreLeft replies.now (λ number. false) (length replies.now)) }
 {
-    reply.filter.is_for(rule) && reply.binary.bytes() == policy
+    let mut places = Places::new(alloc);
+    for (place, reply) in replies.iter().enumerate() {
+        let policy = reply.binary.bytes();
+        places.reserve(alloc, policy)?;
+        places.push(policy, place);
+    }
+    Ok(places)
 }
 
-impl Operator {
+impl<'a> Operator<'a> {
     /// Nothing learnt, and none of these replies given. More replies than have a number of 32 bits are taken as want of memory.
-    pub fn new(alloc: Global, replies: &[Reply]) -> Result<Self, AllocError>
+    pub fn new(alloc: Global, replies: &'a [Reply]) -> Result<Self, AllocError>
         ensures law { IfOk result (λ operator. (input : Input) → input.replies ≡ replies.now → IsAdded input (first_state input) operator) }
     {
         if replies.len() >= MOST_REPLIES {
@@ -61,7 +70,8 @@ impl Operator {
         }
         Ok(Operator {
             session: Session::new(alloc),
-            given: replies.iter().map(|_| false).collect(alloc)?,
+            replies,
+            left: places_of(alloc, replies)?,
         })
     }
 
@@ -79,31 +89,35 @@ impl Operator {
         self.session.verdict(policies, copies)
     }
 
-    // The number of the first reply for a policy and a rule that was not given yet.
-    fn next_reply(&self, replies: &[Reply], policy: &[u8], rule: Rule) -> Option<u32>
-        requires { length self.now.given ≡ length replies.now }
-        ensures { result ≡ next_left replies.now self.now.given policy.now rule }
+    // Whether a reply for a rule stands at a place.
+    fn is_for(&self, place: usize, rule: Rule) -> bool
+        ensures { result ≡ is_for_rule rule (slice_get self.now.replies place) }
     {
-        for i in 0..replies.len() {
-            if !self.given[i] && is_for(&replies[i], policy, rule) {
-                return Some(i as u32 + 1);
-            }
+        match self.replies.get(place) {
+            Some(reply) => reply.filter.is_for(rule),
+            None => false,
         }
-        None
+    }
+
+    // Where among the replies left for a policy the first for a rule stands.
+    fn next_left(&self, policy: &[u8], rule: Rule) -> Option<usize>
+        ensures { result ≡ next_left self.now policy.now rule }
+    {
+        self.left
+            .of(policy)
+            .iter()
+            .position(|place| self.is_for(*place, rule))
     }
 
     /// Whether the operator answers for a held call on which no filter decides, by the copies of its arguments: each is learnt, or there is a
     /// reply left for its policy and rule, as the mode says.
     pub fn answers(&self, input: &Input, copies: &Snapshot) -> bool
-        requires { length self.now.given ≡ length input.now.replies }
         ensures { result ≡ answers input.now self.now copies.now }
     {
         match input.options.mode {
             Mode::Enforce => false,
             Mode::Learn => true,
-            Mode::AskText => self
-                .next_reply(input.replies.as_slice(), copies.policy.bytes(), copies.rule)
-                .is_some(),
+            Mode::AskText => self.next_left(copies.policy.bytes(), copies.rule).is_some(),
         }
     }
 
@@ -117,13 +131,13 @@ impl Operator {
     ) -> Result<u32, AllocError>
         ensures number { IfOk result (λ number. number ≡ suc (length (read_filters policies.now copies.now.policy copies.now.rule ++ session_filters self.old.filters copies.now.policy copies.now.rule))) }
         ensures filters { OnOk result (self.new.filters ≡ self.old.filters ++ kept_for filter copies.now ∷ []) }
-        ensures given { self.new.given ≡ self.old.given }
+        ensures replies { self.new.replies ≡ self.old.replies }
+        ensures left { self.new.left ≡ self.old.left }
         ensures err { OnErr result (self.new ≡ self.old) }
     {
         let policy = copies.policy.bytes();
         let number = self.session.next_number(policies, policy, copies.rule);
-        self.session.reserve(alloc, policy, copies.rule)?;
-        self.session.add(filter);
+        self.session.add(alloc, policy, copies.rule, filter)?;
         Ok(number)
     }
 
@@ -137,7 +151,6 @@ impl Operator {
         requires { input.now.options.mode ≡ Learn }
         ensures law { IfOk result (λ entry. (st : State) → IsAdded input.now st self.old → snapshot_in st copies.now.seq ≡ Some copies.now →
             (question_entry input.now st copies.now.seq copies.now Learn ≡ Some entry) × IsAdded input.now (state_after input.now st entry) self.new) }
-        ensures count { self.new.given ≡ self.old.given }
         ensures err { OnErr result (self.new ≡ self.old) }
     {
         let filter = learnt_filter(alloc, copies)?;
@@ -148,27 +161,28 @@ impl Operator {
         })
     }
 
-    // Keeps the filter of the next reply for these copies.
+    // Keeps the filter of the next reply for these copies, which stands at this index among those left for the policy.
+    #[tactic(auto, using(crate::proofs::Replies::place_within))]
     fn reply(
         &mut self,
         alloc: Global,
         input: &Input,
         copies: &Snapshot,
-        reply: u32,
+        index: usize,
     ) -> Result<Entry, AllocError>
-        requires count { length self.old.given ≡ length input.now.replies }
-        requires next { next_left input.now.replies self.old.given copies.now.policy copies.now.rule ≡ Some reply }
+        requires { next_left self.old copies.now.policy copies.now.rule ≡ Some index }
         ensures law { IfOk result (λ entry. (st : State) → IsAdded input.now st self.old → snapshot_in st copies.now.seq ≡ Some copies.now →
             (question_entry input.now st copies.now.seq copies.now AskText ≡ Some entry) × IsAdded input.now (state_after input.now st entry) self.new) }
         ensures err { OnErr result (self.new ≡ self.old) }
     {
-        let place = reply as usize - 1;
-        let filter = input.replies.as_slice()[place].filter.copy(alloc)?;
+        let policy = copies.policy.bytes();
+        let place = self.left.of(policy)[index];
+        let filter = self.replies[place].filter.copy(alloc)?;
         let number = self.keep(alloc, &input.policies, copies, filter)?;
-        self.given[place] = true;
+        self.left.take_out(policy, index);
         Ok(Entry::Replied {
             seq: copies.seq,
-            reply,
+            reply: place as u32 + 1,
             number,
         })
     }
@@ -181,8 +195,7 @@ impl Operator {
         input: &Input,
         copies: &Snapshot,
     ) -> Result<Entry, AllocError>
-        requires count { length self.old.given ≡ length input.now.replies }
-        requires answers { answers input.now self.old copies.now ≡ true }
+        requires { answers input.now self.old copies.now ≡ true }
         ensures law { IfOk result (λ entry. (st : State) → IsAdded input.now st self.old → snapshot_in st copies.now.seq ≡ Some copies.now →
             (question_entry input.now st copies.now.seq copies.now input.now.options.mode ≡ Some entry) × IsAdded input.now (state_after input.now st entry) self.new) }
         ensures err { OnErr result (self.new ≡ self.old) }
@@ -191,12 +204,10 @@ impl Operator {
             Mode::Enforce => unreachable!(),
             Mode::Learn => self.learn(alloc, input, copies),
             Mode::AskText => {
-                let replies = input.replies.as_slice();
-                let Some(reply) = self.next_reply(replies, copies.policy.bytes(), copies.rule)
-                else {
+                let Some(index) = self.next_left(copies.policy.bytes(), copies.rule) else {
                     unreachable!()
                 };
-                self.reply(alloc, input, copies, reply)
+                self.reply(alloc, input, copies, index)
             }
         }
     }

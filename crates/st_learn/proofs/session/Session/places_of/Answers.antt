@@ -4,7 +4,6 @@ use Rattle.st_learn.proofs.session.Session.places_of.Goals as goal
 
 pub returns-clause-few : goal.returns-clause-few
 returns-clause-few c =
-    let few : length c.of.result.now ≤ length c.self.inside.kept.items = few_items c.self.inside.kept.items c.args.policy.now c.of.result.now (c.of.ensures ∙ c.self.invariant.places c.args.policy.now) in
+    let few : length c.of.result.now ≤ length c.self.inside.kept.items = few_items c.self.inside.kept.items c.args.policy.now c.of.result.now (c.of.ensures ∙ c.self.invariant.policies_are c.args.policy.now) in
     let bound = c.self.invariant.few in
-    let len = c.self.inside.kept.ok.0 in
-    omega (arith, few, bound, len)
+    omega (arith, few, bound)

@@ -6,8 +6,8 @@ use Rattle.st_machine.proofs.Asked.{answered_on, answers_here, with_operator}
 use Rattle.st_machine.proofs.Served.{running_step}
 use Rattle.st_machine.proofs.machine.Machine.ask.Goals as goal
 
-pub answer-requires-clause-answers : goal.answer-requires-clause-answers
-answer-requires-clause-answers c =
+pub answer-requires : goal.answer-requires
+answer-requires c =
     let m : Running = record { input = c.self.inside.input.now; system = c.self.inside.system; workers = c.self.inside.workers; threads = c.self.inside.threads.items; answers = c.self.inside.answers; operator = c.self.inside.operator } in
     let st = c.self.invariant.state in
     let is = c.self.invariant.is in

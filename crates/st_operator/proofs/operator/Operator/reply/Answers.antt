@@ -1,36 +1,28 @@
-use Rattle.std.proofs.Common.{◌∙◌, ◌-◌, ◌++◌, ◌∷◌, [], true, length, set, Bool, List, ap, sym, get_or, arith}
+use Rattle.std.proofs.Common.{◌≡◌, ◌<◌, ◌∙◌, ◌++◌, ◌∷◌, [], ℕ, Some, length, get_or, List, ap, sym, subst}
+use Rattle.std.proofs.lemmas.Option.{slice_get-get_or}
 use Rattle.st_filter.specs.Formula.{FilterValue}
 use Rattle.st_filter.specs.declared.set.Reply.{Reply}
 use Rattle.st_law.specs.Sessions.{kept_for}
+use Rattle.st_learn.specs.Places.{LosesPlace, PolicyPlaces, places_in}
 use Rattle.st_operator.specs.Operator.{Added}
-use Rattle.st_operator.proofs.Replies.{is_replied, left_there, number_there, reply_here}
+use Rattle.st_operator.proofs.Replies.{is_replied, place_there, place_within}
 use Rattle.st_operator.proofs.operator.Operator.reply.Goals as goal
-
-pub overflow_sub-place : goal.overflow_sub-place
-overflow_sub-place c =
-    let found = left_there c.args.input.now.replies c.args.self.now.given c.args.copies.now.policy c.args.copies.now.rule c.args.reply c.requires.next in
-    (number_there c.args.input.now.replies c.args.reply found.0 found.1).0
-
-pub bounds-as_slice-place : goal.bounds-as_slice-place
-bounds-as_slice-place c =
-    let found = left_there c.args.input.now.replies c.args.self.now.given c.args.copies.now.policy c.args.copies.now.rule c.args.reply c.requires.next in
-    let within = (number_there c.args.input.now.replies c.args.reply found.0 found.1).1 in
-    let same = ap length c.as_slice.ensures in
-    omega (arith, within, same)
-
-pub index_mut-requires : goal.index_mut-requires
-index_mut-requires c =
-    let found = left_there c.args.input.now.replies c.args.self.now.given c.args.copies.now.policy c.args.copies.now.rule c.args.reply c.requires.next in
-    let within = (number_there c.args.input.now.replies c.args.reply found.0 found.1).1 in
-    let long = ap (λ (added : Added). length added.given) c.self.view_is in
-    let kept = ap length c.in_ok-number.ensures.given in
-    let len = c.self.inside.given.ok.0 in
-    omega (arith, within, long, kept, len, c.requires.count)
 
 pub returns-clause-law : goal.returns-clause-law
 returns-clause-law c = λ st is copies.
-    let found = left_there c.args.input.now.replies c.args.self.now.given c.args.copies.now.policy c.args.copies.now.rule c.args.reply c.requires.next in
-    is_replied c.args.input.now st c.args.self.now is c.args.copies.now copies _ c.in_ok-number.number c.in_ok-number.ensures.number c.args.reply c.index-as_slice-place.result c.requires.next
-    (reply_here c.args.input.now.replies c.args.reply found.0 c.index-as_slice-place.result found.1 (c.index-as_slice-place.is ∙ ap (λ (replies : List Reply). get_or replies (c.args.reply - 1) c.index-as_slice-place.result) c.as_slice.ensures))
-    (ap (λ (added : Added). added.filters) c.self.view_is ∙ c.in_ok-number.ensures.filters ∙ ap (λ (f : FilterValue). c.args.self.now.filters ++ kept_for f c.args.copies.now ∷ []) (c.in_ok-filter.ensures ∙ ap (λ (reply : Reply). reply.filter) (sym c.index-as_slice-place.is)))
-    (ap (λ (added : Added). set added.given (c.args.reply - 1) true) c.self.view_is ∙ ap (λ (given : List Bool). set given (c.args.reply - 1) true) c.in_ok-number.ensures.given)
+    let s = c.args.copies.now in
+    let added = c.args.self.now in
+    let reply = c.index-self-place.result in
+    let place = get_or c.of.result.now c.args.index 0 in
+    let read : c.of.result.now ≡ places_in added.left s.policy = c.of.ensures ∙ (λ k. places_in (c.self.view_is k).left (c.bytes-policy.ensures k)) in
+    let at : get_or (places_in added.left s.policy) c.args.index 0 ≡ place = ap (λ (places : List ℕ). get_or places c.args.index 0) (sym read) in
+    let replies : c.self.inside.replies.now ≡ added.replies = ap (λ (a : Added). a.replies) c.self.view_is in
+    let within : place < length added.replies = subst (λ (n : ℕ). n < length added.replies) at (place_within added s.policy s.rule c.args.index c.requires) in
+    let left : c.self-2.inside.left ≡ added.left = ap (λ (a : Added). a.left) c.self-2.view_is ∙ c.in_ok-number.ensures.left in
+    is_replied c.args.input.now st added is s copies _ c.in_ok-number.number c.in_ok-number.ensures.number c.args.index place reply c.requires
+    (place_there added s.policy s.rule c.args.index c.requires ∙ ap Some at)
+    (slice_get-get_or added.replies place reply within ∙ ap Some (sym (c.index-self-place.is ∙ ap (λ (all : List Reply). get_or all place reply) replies)))
+    (ap (λ (a : Added). a.filters) c.self-2.view_is ∙ c.in_ok-number.ensures.filters ∙ ap (λ (f : FilterValue). added.filters ++ kept_for f s ∷ []) (c.in_ok-filter.ensures ∙ ap (λ (r : Reply). r.filter) (sym c.index-self-place.is)))
+    (ap (λ (a : Added). a.replies) c.self-2.view_is ∙ c.in_ok-number.ensures.replies)
+    (subst (λ (rows : List PolicyPlaces). LosesPlace rows s.policy c.args.index c.take_out.new.self) left
+    (subst (λ (policy : List ℕ). LosesPlace c.self-2.inside.left policy c.args.index c.take_out.new.self) c.bytes-policy.ensures c.take_out.ensures))

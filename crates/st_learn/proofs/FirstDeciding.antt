@@ -1,0 +1,101 @@
+-- What the first filter of a session says that decides on a call, and its number.
+use Rattle.std.proofs.Common.{◌≡◌, ◌+◌, ◌∙◌, ◌&&◌, ◌||◌, ℕ, suc, Bool, true, false, cond, List, [], ◌∷◌, length, filter, Option, Some, None, option_map, refl, ap, sym, subst, take, arith}
+use Rattle.std.proofs.lemmas.Slice.Eq.{bytes_eq-Decides}
+use Rattle.std.specs.List.{fold, list_any}
+use Rattle.std.specs.Prelude.{slice_get}
+use Rattle.std.specs.Str.{bytes_eq}
+use Rattle.st_base.specs.Numbered.{item_at_number}
+use Rattle.st_calls.proofs.Rules.{same_rule-Decides}
+use Rattle.st_calls.specs.Rules.{same_rule}
+use Rattle.st_calls.specs.declared.argument.ArgText.{ArgText}
+use Rattle.st_calls.specs.declared.judged.Snapshot.{Snapshot}
+use Rattle.st_calls.specs.declared.judged.Verdict.TheVariants.{Unmatched}
+use Rattle.st_filter.specs.Formula.{FilterValue}
+use Rattle.st_filter.specs.Judging.{holds, verdict_by, verdict_from}
+use Rattle.st_law.specs.Sessions.{SessionFilter, is_kept_for, session_filters}
+use Rattle.st_learn.specs.Deciding.{asks_first, count_for, decides, first_at, lesser, IsDeciding}
+use Rattle.st_learn.proofs.Asking.{asks_of_call, left_of, right_of}
+use Rattle.st_learn.proofs.Filters.{mapped}
+use Rattle.st_learn.proofs.First.{first_of_any, first_same}
+
+-- the first place that decides, or an earlier one whose filter asks for an argument's text first and decides
+abbrev pub earlier_with : Snapshot → List SessionFilter → Option ℕ → ArgText → Option ℕ
+earlier_with s session first arg = lesser first (first_at (λ kept. asks_first arg.text kept && decides s kept) session)
+
+-- among those that ask for none, and those that ask for an argument's text, the first that decides is the first of all
+pub earliest : (s : Snapshot) (session : List SessionFilter) → fold (earlier_with s session) (first_at (λ kept. asks_first [] kept && decides s kept) session) s.parts ≡ first_at (decides s) session
+earliest s session =
+    first_of_any (λ (arg : ArgText) kept. asks_first arg.text kept) (decides s) session s.parts (asks_first [])
+    ∙ first_same (λ kept. (asks_first [] kept || list_any (λ (arg : ArgText). asks_first arg.text kept) s.parts) && decides s kept) (decides s) session (asks_of_call s)
+
+-- the filters of a call's policy and rule
+abbrev pub filters_for : Snapshot → List SessionFilter → List FilterValue
+filters_for s session = session_filters session s.policy s.rule
+
+-- this filter, which has so many before it among these, decides
+pub record IsFirst (s : Snapshot) (filters : List FilterValue) (n : ℕ) (kept : SessionFilter) : Type 0 where
+  pub is_kept : is_kept_for s.policy s.rule kept ≡ true
+  pub there : slice_get filters n ≡ Some kept.filter
+  pub says : (m : ℕ) → verdict_from m filters s ≡ verdict_by (m + n) kept.filter.grant s.ids kept.filter.action
+
+-- what is said where the first one that decides is at this place
+abbrev pub Says : Snapshot → List SessionFilter → Option ℕ → Type 0
+Says s session None = (m : ℕ) → verdict_from m (filters_for s session) s ≡ Unmatched
+Says s session (Some p) = (kept : SessionFilter) → slice_get session p ≡ Some kept → IsFirst s (filters_for s session) (length (filters_for s (take p session))) kept
+
+module _ (s : Snapshot) (x : SessionFilter) where
+  -- one more before them
+  with_first : (b : Bool) → is_kept_for s.policy s.rule x ≡ b → (xs : List SessionFilter) → filters_for s (x ∷ xs) ≡ cond b (x.filter ∷ filters_for s xs) (filters_for s xs)
+  with_first b is xs = mapped (is_kept_for s.policy s.rule x) x (filter (is_kept_for s.policy s.rule) xs) ∙ ap (λ c. cond c (x.filter ∷ filters_for s xs) (filters_for s xs)) is
+
+  passed : (filters : List FilterValue) (m : ℕ) → holds x.filter s ≡ false → verdict_from m (x.filter ∷ filters) s ≡ verdict_from (suc m) filters s
+  passed filters m is = ap (λ b. cond b (verdict_by m x.filter.grant s.ids x.filter.action) (verdict_from (suc m) filters s)) is
+
+  here : (xs : List SessionFilter) (kept : SessionFilter) → is_kept_for s.policy s.rule x ≡ true → holds x.filter s ≡ true → x ≡ kept → IsFirst s (x.filter ∷ filters_for s xs) 0 kept
+  here xs kept is true_of same = subst (IsFirst s (x.filter ∷ filters_for s xs) 0) same (record {
+    is_kept = is;
+    there = refl;
+    says = λ m. let sum : m ≡ m + 0 = omega arith in ap (λ b. cond b (verdict_by m x.filter.grant s.ids x.filter.action) (verdict_from (suc m) (filters_for s xs) s)) true_of ∙ ap (λ n. verdict_by n x.filter.grant s.ids x.filter.action) sum;
+  })
+
+  behind : (filters : List FilterValue) (n : ℕ) (kept : SessionFilter) → holds x.filter s ≡ false → IsFirst s filters n kept → IsFirst s (x.filter ∷ filters) (suc n) kept
+  behind filters n kept is later = record {
+    is_kept = later.is_kept;
+    there = later.there;
+    says = λ m. let sum : suc m + n ≡ m + suc n = omega arith in passed filters m is ∙ later.says (suc m) ∙ ap (λ k. verdict_by k kept.filter.grant s.ids kept.filter.action) sum;
+  }
+
+  says_by : (a h : Bool) (xs : List SessionFilter) (o : Option ℕ) → is_kept_for s.policy s.rule x ≡ a → holds x.filter s ≡ h → Says s xs o → Says s (x ∷ xs) (cond (a && h) (Some 0) (option_map suc o))
+  says_by true true xs o a_is h_is later = λ kept at. subst (λ filters. IsFirst s filters 0 kept) (sym (with_first true a_is xs)) (here xs kept a_is h_is (same kept at)) where
+    same : (kept : SessionFilter) → slice_get (x ∷ xs) 0 ≡ Some kept → x ≡ kept
+    same kept e = cc
+  says_by true false xs None a_is h_is later = λ m. ap (λ filters. verdict_from m filters s) (with_first true a_is xs) ∙ passed (filters_for s xs) m h_is ∙ later (suc m)
+  says_by true false xs (Some i) a_is h_is later = λ kept at.
+      subst (λ filters. IsFirst s filters (length (filters_for s (x ∷ take i xs))) kept) (sym (with_first true a_is xs))
+      (subst (λ before. IsFirst s (x.filter ∷ filters_for s xs) (length before) kept) (sym (with_first true a_is (take i xs)))
+      (behind (filters_for s xs) (length (filters_for s (take i xs))) kept h_is (later kept at)))
+  says_by false h xs None a_is h_is later = λ m. ap (λ filters. verdict_from m filters s) (with_first false a_is xs) ∙ later m
+  says_by false h xs (Some i) a_is h_is later = λ kept at.
+      subst (λ filters. IsFirst s filters (length (filters_for s (x ∷ take i xs))) kept) (sym (with_first false a_is xs))
+      (subst (λ before. IsFirst s (filters_for s xs) (length before) kept) (sym (with_first false a_is (take i xs)))
+      (later kept at))
+
+-- the first one that decides says what all of them do
+pub says : (s : Snapshot) (session : List SessionFilter) → Says s session (first_at (decides s) session)
+says s [] = λ m. refl
+says s (x ∷ xs) = says_by s x (is_kept_for s.policy s.rule x) (holds x.filter s) xs (first_at (decides s) xs) refl refl (says s xs)
+
+-- the number among a policy's and a rule's filters is that before it, and one
+pub deciding : (s : Snapshot) (session : List SessionFilter) (p n : ℕ) (kept : SessionFilter) → first_at (decides s) session ≡ Some p → slice_get session p ≡ Some kept → n ≡ count_for (take p session) kept
+    → IsDeciding (session_filters session s.policy s.rule) s (n + 1) kept.filter
+deciding s session p n kept first at number =
+    let it : IsFirst s (filters_for s session) (length (filters_for s (take p session))) kept = subst (Says s session) first (says s session) kept at in
+    let policy : kept.policy ≡ s.policy = (bytes_eq-Decides kept.policy s.policy).0 (left_of (bytes_eq kept.policy s.policy) (same_rule kept.rule s.rule) it.is_kept) in
+    let rule : kept.rule ≡ s.rule = (same_rule-Decides kept.rule s.rule).0 (right_of (bytes_eq kept.policy s.policy) (same_rule kept.rule s.rule) it.is_kept) in
+    let same : n ≡ length (filters_for s (take p session)) = number ∙ (λ k. length (session_filters (take p session) (policy k) (rule k))) in
+    let next : n + 1 ≡ suc (length (filters_for s (take p session))) = omega (arith, same) in
+    record {
+      there = ap (item_at_number (filters_for s session)) next ∙ it.there;
+      says = λ read. let sum : suc read + length (filters_for s (take p session)) ≡ read + (n + 1) = omega (arith, same) in
+          it.says (suc read) ∙ ap (λ m. verdict_by m kept.filter.grant s.ids kept.filter.action) sum;
+    }
