@@ -1,8 +1,8 @@
 -- A course that goes on by one choice.
 use native.Mathlib.Omega.{arith}
-use Rattle.std.proofs.Common.{inl, inr, length, ◌≡◌, ◌≤◌, ◌<◌, ◌∙◌, ℕ, suc, ◌+◌, Bool, true, false, ◌∷◌, ◌++◌, List, [], Some, None, reverse, ap, sym, subst}
-use Rattle.std.proofs.lemmas.Bool.Decides.{leb_tells}
-use Rattle.std.proofs.lemmas.List.{length-append, reverse-append}
+use Rattle.std.proofs.Common.{inl, inr, length, ◌≡◌, ◌≤◌, ◌<◌, ◌∙◌, ℕ, suc, ◌+◌, Bool, true, false, ◌∷◌, ◌++◌, List, [], Some, None, get_or, set, reverse, ap, sym, subst}
+use Rattle.std.proofs.lemmas.Bool.{cases_eq}
+use Rattle.std.proofs.lemmas.List.{get_or-set_other, length-append, length-set, reverse-append}
 use Rattle.std.proofs.lemmas.Grind.{reverse_onto}
 use Rattle.st_trace.specs.declared.entry.Choice.{Choice}
 use Rattle.st_trace.specs.declared.entry.Entry.{Entry}
@@ -17,9 +17,8 @@ use Rattle.st_report.specs.Detail.{noted}
 use Rattle.st_report.specs.declared.detail.Detail.{Detail}
 use Rattle.st_report.proofs.Noted.{noted_in_order}
 use Rattle.st_machine.specs.Machine.{IsMachine, IsStep, Running}
-use Rattle.st_kernel.specs.Cursor.{HasFirstAble}
 use Rattle.st_kernel.specs.Kernel.{IsCourse}
-use Rattle.st_kernel.specs.Waking.{AreStill, is_asleep, is_woken}
+use Rattle.st_kernel.specs.Waking.{is_asleep, is_woken}
 use Rattle.st_kernel.specs.declared.waking.Woken.{Woken}
 use Rattle.st_kernel.proofs.Unwoken.{not_woken, wakes_behind}
 
@@ -109,55 +108,35 @@ course_same m new detail trace choices first asleep course same is = record {
   count = course.count ∙ ap thread_count (sym same);
 }
 
--- ---- asked for the first thread that can move
+-- ---- the threads before one
 
--- the marks are lent out, and come back with more of them
-module _ (m : Running) (detail : Detail) (trace : List Entry) (choices : List Choice) (first : ℕ) (asleep : List Bool) (course : IsCourse m detail trace choices first asleep) (lent marks written : List Bool) (lent_is : lent ≡ asleep)
-    (still : (st : State) → IsMachine m st → AreStill m.input st lent → AreStill m.input st marks) (count : length marks ≡ length lent) (written_is : written ≡ marks) where
-  abbrev there : State
-  there = state_of_run m.input choices
+-- the cursor goes on
+pub course_from : (m : Running) (detail : Detail) (trace : List Entry) (choices : List Choice) (first then : ℕ) (asleep : List Bool) → IsCourse m detail trace choices first asleep → 1 ≤ then → then ≤ thread_count m.input
+    → ((t : ℕ) → 1 ≤ t → t < then → thread_entry m.input (state_of_run m.input choices) t ≡ None) → IsCourse m detail trace choices then asleep
+course_from m detail trace choices first then asleep course from to still = record {
+  machine = course.machine;
+  trace_is = course.trace_is;
+  enabled = course.enabled;
+  still = still;
+  from = from;
+  to = omega (arith, to);
+  marked = course.marked;
+  count = course.count;
+}
 
-  lent_still : AreStill m.input there lent
-  lent_still = subst (AreStill m.input there) (sym lent_is) course.marked
-
-  written_still : AreStill m.input there written
-  written_still = subst (AreStill m.input there) (sym written_is) (still there course.machine lent_still)
-
-  written_count : length written ≡ thread_count m.input
-  written_count = ap length written_is ∙ count ∙ ap length lent_is ∙ course.count
-
-  -- the cursor stays
-  pub course_marked : IsCourse m detail trace choices first written
-  course_marked = record {
-    machine = course.machine;
-    trace_is = course.trace_is;
-    enabled = course.enabled;
-    still = course.still;
-    from = course.from;
-    to = course.to;
-    marked = written_still;
-    count = written_count;
-  }
-
-  module _ (first_then : ℕ) (found : (st : State) → IsMachine m st → AreStill m.input st lent → HasFirstAble m.input st first first_then) where
-    pub first_found : HasFirstAble m.input there first first_then
-    first_found = found there course.machine lent_still
-
-    -- or it has gone on
-    pub course_found : IsCourse m detail trace choices first_then written
-    course_found =
-        let from = course.from in
-        let on = first_found.from_on in
-        record {
-          machine = course.machine;
-          trace_is = course.trace_is;
-          enabled = course.enabled;
-          still = λ t some before. elim (leb_tells first t) [
-            | inl x ↦ first_found.none t x.1 before
-            | inr x ↦ course.still t some x.1
-          ];
-          from = omega (arith, from, on);
-          to = first_found.to;
-          marked = written_still;
-          count = written_count;
-        }
+-- one that can't move is marked
+pub course_marked : (m : Running) (detail : Detail) (trace : List Entry) (choices : List Choice) (first place : ℕ) (asleep marks : List Bool) → IsCourse m detail trace choices first asleep → marks ≡ set asleep place true
+    → thread_entry m.input (state_of_run m.input choices) (suc place) ≡ None → IsCourse m detail trace choices first marks
+course_marked m detail trace choices first place asleep marks course is none = record {
+  machine = course.machine;
+  trace_is = course.trace_is;
+  enabled = course.enabled;
+  still = course.still;
+  from = course.from;
+  to = course.to;
+  marked = λ other marked. elim (cases_eq other place) [
+    | inl same ↦ ap (λ (k : ℕ). thread_entry m.input (state_of_run m.input choices) (suc k)) same ∙ none
+    | inr ne ↦ course.marked other (sym (get_or-set_other asleep place other true false ne) ∙ ap (λ (l : List Bool). get_or l other false) (sym is) ∙ marked)
+  ];
+  count = ap length is ∙ length-set asleep place true ∙ course.count;
+}

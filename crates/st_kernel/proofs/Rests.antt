@@ -1,6 +1,6 @@
 -- What `rest` comes to, step by step. It may make so many steps that how many doesn't matter.
 use native.Mathlib.Omega.{arith}
-use Rattle.std.proofs.Common.{◌≡◌, ◌≤◌, ◌<◌, ◌∙◌, ℕ, zero, suc, ◌+◌, ◌-◌, ◌∷◌, ◌++◌, Bool, true, false, List, [], length, Option, Some, None, refl, ap, sym, subst}
+use Rattle.std.proofs.Common.{◌≡◌, ◌≤◌, ◌<◌, ◌∙◌, ℕ, zero, suc, ◌+◌, ◌-◌, ◌∷◌, ◌++◌, true, List, [], length, Option, Some, None, refl, ap, sym, subst}
 use Rattle.std.proofs.lemmas.List.{append_assoc, length-append}
 use Rattle.std.proofs.lemmas.Option.{none-some, same_Some}
 use Rattle.std.specs.Option.{option_map}
@@ -14,7 +14,7 @@ use Rattle.st_law.specs.declared.input.Input.{Input}
 use Rattle.st_law.proofs.EndOfRuns.{run_bound}
 use Rattle.st_law.proofs.Resting.{first_found, rest_settles}
 use Rattle.st_report.specs.declared.detail.Detail.{Detail}
-use Rattle.st_kernel.specs.Kernel.{Course, IsChosen, IsPlayed, next_of, rested}
+use Rattle.st_kernel.specs.Kernel.{Course, IsNext, IsPlayed, next_of, rested}
 use Rattle.st_kernel.proofs.Courses.{run_more, state_more}
 
 module _ (i : Input) (startable : IsStartable i) where
@@ -115,19 +115,17 @@ pub record GoesOn (before after : Course) : Type 0 where
   pub less : most_steps after.input - length after.choices < most_steps before.input - length before.choices
 
 -- the first choice that is enabled is made, and leads on
-pub goes_on : (before after : Course) (c : Choice) (enabled : Bool) → IsPlayed before → next_of before ≡ Some c → IsChosen before c enabled after → GoesOn before after
-goes_on before after c true played next chosen = subst (GoesOn before) (sym chosen.0) (record {
-  on_the_way = rest_further before.input played.startable before.detail before.choices c played.enabled next;
-  made = (c, refl);
-  less =
-      let adds = next_adds before.input played.startable before.detail before.choices c next in
-      let more = room before.input played.startable before.choices c adds.0 played.enabled adds.1 in
-      let long = length-append before.choices (c ∷ []) in
-      omega (arith, more, long);
-})
-goes_on before after c false played next chosen =
-    let adds = next_adds before.input played.startable before.detail before.choices c next in
-    absurd (none-some adds.0 (sym chosen.1 ∙ adds.1))
+pub goes_on : (before after : Course) → IsPlayed before → IsNext before true after → GoesOn before after
+goes_on before after played made =
+    let c = made.0 in
+    let adds = next_adds before.input played.startable before.detail before.choices c made.1 in
+    let more = room before.input played.startable before.choices c adds.0 played.enabled adds.1 in
+    let long = length-append before.choices (c ∷ []) in
+    subst (GoesOn before) (sym made.2) (record {
+      on_the_way = rest_further before.input played.startable before.detail before.choices c played.enabled made.1;
+      made = (c, refl);
+      less = omega (arith, more, long);
+    })
 
 -- choices that were made earlier stay
 pub made_on : (first : List Choice) (before after : Course) → (made : List Choice) × (before.choices ≡ first ++ made) → GoesOn before after → (made : List Choice) × (after.choices ≡ first ++ made)

@@ -1,5 +1,5 @@
 -- A run so far, as the kernel keeps it.
-use Rattle.std.specs.Prelude.{◌≡◌, ◌≤◌, ◌<◌, ℕ, suc, Bool, true, false, List, [], ◌∷◌, ◌++◌, length, Option, None, option_map}
+use Rattle.std.specs.Prelude.{◌≡◌, ◌≤◌, ◌<◌, ℕ, suc, Bool, true, false, List, [], ◌∷◌, ◌++◌, length, Option, Some, None, option_map}
 use Rattle.st_trace.specs.declared.entry.Choice.{Choice}
 use Rattle.st_trace.specs.declared.entry.Entry.{Entry}
 use Rattle.st_law.specs.declared.input.Input.{Input}
@@ -43,6 +43,29 @@ standing course = record { choices = course.choices; state = state_of_run course
 -- the first choice that is enabled
 abbrev pub next_of : Course → Option Choice
 next_of course = option_map (λ found. found.choice) (first_enabled course.input (state_of_run course.input course.choices))
+
+-- no thread before this one can move
+abbrev pub NoneMoves : Course → ℕ → Type 0
+NoneMoves course tid = (t : ℕ) → 1 ≤ t → t < tid → thread_entry course.input (state_of_run course.input course.choices) t ≡ None
+
+-- the first of some choices that is enabled was made
+pub record IsFirstMade (of : ℕ → Choice) (count : ℕ) (old new : Course) : Type 0 where
+  pub number : ℕ
+  pub from : 1 ≤ number
+  pub to : number ≤ count
+  pub before : (n : ℕ) → 1 ≤ n → n < number → entry_of old.input (state_of_run old.input old.choices) (of n) ≡ None
+  pub enabled : IsEnabled old.input (state_of_run old.input old.choices) (of number)
+  pub made : new ≡ with_choice old (of number)
+
+-- it was; or none of so many is enabled, and all is as before
+abbrev pub HasMade : (ℕ → Choice) → ℕ → Course → Bool → Course → Type 0
+HasMade of count old true new = IsFirstMade of count old new
+HasMade of count old false new = ((n : ℕ) → 1 ≤ n → n ≤ count → entry_of old.input (state_of_run old.input old.choices) (of n) ≡ None) × (new ≡ old)
+
+-- the first choice that is enabled was made; or none is, and the run is as before
+abbrev pub IsNext : Course → Bool → Course → Type 0
+IsNext old true new = (c : Choice) × (next_of old ≡ Some c) × (new ≡ with_choice old c)
+IsNext old false new = (next_of old ≡ None) × (new ≡ old)
 
 -- with the first enabled choice again and again, until none is enabled
 abbrev pub rested : Course → Course

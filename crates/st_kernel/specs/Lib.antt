@@ -1,3 +1,2 @@
-pub mod Cursor
 pub mod Kernel
 pub mod Waking

@@ -1,14 +1,15 @@
-ghost use Rattle.std.specs.Prelude.{◌≡◌, [], None, is_some, IfOk, OnOk, OnErr};
+ghost use Rattle.std.specs.Prelude.{◌≡◌, ◌≤◌, [], None, is_some, IfOk, OnOk, OnErr};
 ghost use Rattle.st_law.specs.Inputs.{IsStartable};
 ghost use Rattle.st_law.specs.Lawful.{Lawful};
 ghost use Rattle.st_law.specs.Machine.{entry_of, run, state_of_run, IsEnabled, IsSettled};
 ghost use Rattle.st_reached.specs.Grants.{RepliesUngranted, SetIdsUngranted};
 ghost use Rattle.st_reached.specs.Scripts.{IsBounded};
 ghost use Rattle.st_report.specs.Detail.{noted};
+ghost use Rattle.st_law.specs.State.{thread_count};
 ghost use Rattle.st_system.specs.Start.{CanStart};
-ghost use Rattle.st_kernel.specs.Kernel.{next_of, rested, with_choice, Continues, IsChosen, IsPlayed};
+ghost use Rattle.st_trace.specs.declared.entry.Choice.TheVariants.{Thread, Worker};
+ghost use Rattle.st_kernel.specs.Kernel.{rested, with_choice, Continues, HasMade, IsChosen, IsNext, IsPlayed, NoneMoves};
 
-use crate::cursor::{first_able, first_server};
 use crate::waking::woken_by;
 use st_base::Tid;
 use st_law::Input;
@@ -162,23 +163,68 @@ impl<'a> Kernel<'a> {
         }
     }
 
-    // The first choice that is enabled: threads by number, then workers by number, then the operator. The cursor goes on to its thread.
-    fn next_choice(&mut self, alloc: Global) -> Result<Option<Choice>, AllocError>
-        ensures next { IfOk result (λ next. next ≡ next_of self.old) }
-        ensures same { self.new ≡ self.old }
-        ensures played { IsPlayed self.old }
+    // Has a thread move where none before it can, and says whether it does. One that can't is marked as asleep. Without memory the run is as
+    // before.
+    fn move_here(&mut self, alloc: Global, tid: Tid) -> Result<bool, AllocError>
+        requires from { 1 ≤ tid }
+        requires to { tid ≤ thread_count self.old.input }
+        requires before { NoneMoves self.old tid }
+        ensures chosen { IfOk result (λ moved. IsChosen self.old (Thread tid) moved self.new) }
+        ensures err { OnErr result (self.new ≡ self.old) }
     {
-        self.first = first_able(&self.machine, alloc, self.first, &mut self.asleep)?;
-        if self.first <= self.machine.thread_count() {
-            return Ok(Some(Choice::Thread(self.first)));
+        self.first = tid;
+        let place = tid as usize - 1;
+        if self.asleep[place] {
+            return Ok(false);
         }
-        if let Some(worker) = first_server(&self.machine) {
-            return Ok(Some(Choice::Worker(worker)));
+        let moved = self.choose(alloc, Choice::Thread(tid))?;
+        if !moved {
+            self.asleep[place] = true;
         }
-        if self.machine.can_ask(alloc)? {
-            return Ok(Some(Choice::Operator));
+        Ok(moved)
+    }
+
+    // Has the first thread move that can, and says whether there is one. Without memory the run is as before.
+    fn move_first(&mut self, alloc: Global) -> Result<bool, AllocError>
+        ensures made { IfOk result (λ made. HasMade Thread (thread_count self.old.input) self.old made self.new) }
+        ensures played { IsPlayed self.old }
+        ensures err { OnErr result (self.new ≡ self.old) }
+    {
+        for tid in self.first..self.machine.thread_count() + 1 {
+            if self.move_here(alloc, tid)? {
+                return Ok(true);
+            }
         }
-        Ok(None)
+        Ok(false)
+    }
+
+    // Has the first worker move that can, and says whether there is one. Without memory the run is as before.
+    fn serve_first(&mut self, alloc: Global) -> Result<bool, AllocError>
+        ensures made { IfOk result (λ made. HasMade Worker self.old.input.options.workers self.old made self.new) }
+        ensures err { OnErr result (self.new ≡ self.old) }
+    {
+        for worker in 1..self.machine.worker_count() + 1 {
+            if self.choose(alloc, Choice::Worker(worker))? {
+                return Ok(true);
+            }
+        }
+        Ok(false)
+    }
+
+    // Makes the first choice that is enabled, and says whether there is one: threads come by number, then workers by number, then the operator. Each
+    // is tried, since to ask it first would cost as much. Without memory the run is as before.
+    fn make_next(&mut self, alloc: Global) -> Result<bool, AllocError>
+        ensures made { IfOk result (λ made. IsNext self.old made self.new) }
+        ensures played { IsPlayed self.old }
+        ensures err { OnErr result (self.new ≡ self.old) }
+    {
+        if self.move_first(alloc)? {
+            return Ok(true);
+        }
+        if self.serve_first(alloc)? {
+            return Ok(true);
+        }
+        self.choose(alloc, Choice::Operator)
     }
 
     /// Makes the first enabled choice again and again, until none is enabled. Without memory the steps that were made stand.
@@ -189,9 +235,7 @@ impl<'a> Kernel<'a> {
         ensures made { Continues self.old self.new }
         ensures played { OnOk result (IsPlayed self.new) }
     {
-        while let Some(choice) = self.next_choice(alloc)? {
-            self.choose(alloc, choice)?;
-        }
+        while self.make_next(alloc)? {}
         Ok(())
     }
 }

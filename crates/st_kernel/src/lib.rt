@@ -1,7 +1,6 @@
 //! The kernel: the machine that runs, with the trace of what it did and the schedule by which it did it.
 #![tactic(auto)]
 
-mod cursor;
 pub mod kernel;
 pub mod play;
 mod waking;
