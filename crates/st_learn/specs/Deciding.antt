@@ -1,5 +1,5 @@
 -- Which filter of a session decides on a call.
-use Rattle.std.specs.Prelude.{◌≡◌, ℕ, suc, ◌+◌, Bool, ◌&&◌, nat_lt, if◌then◌else◌, List, [], ◌∷◌, take, length, slice_get, Option, Some, None, option_map}
+use Rattle.std.specs.Prelude.{◌≡◌, ℕ, suc, ◌+◌, ◌-◌, Bool, true, false, ◌&&◌, nat_lt, if◌then◌else◌, List, [], ◌∷◌, All, take, length, slice_get, Option, Some, None, option_map}
 use Rattle.std.specs.Str.{bytes_eq}
 use Rattle.st_base.specs.Numbered.{item_at_number}
 use Rattle.st_calls.specs.declared.judged.Snapshot.{Snapshot}
@@ -35,7 +35,13 @@ count_for session kept = length (session_filters session kept.policy kept.rule)
 abbrev pub NumberIs : List SessionFilter → ℕ → ℕ → Type 0
 NumberIs session place number = (kept : SessionFilter) → slice_get session place ≡ Some kept → number ≡ count_for (take place session) kept
 
--- this filter, which has this number among those of a policy and a rule, decides on a call of theirs
+-- none of these filters holds of a call
+abbrev pub NoneHolds : List FilterValue → Snapshot → Type 0
+NoneHolds filters s = All (λ f. holds f s ≡ false) filters
+
+-- this filter, which has this number among those of a policy and a rule, is the first of them that holds of a call of theirs, so it says what they do
 pub record IsDeciding (filters : List FilterValue) (s : Snapshot) (number : ℕ) (deciding : FilterValue) : Type 0 where
   pub there : item_at_number filters number ≡ Some deciding
+  pub holds_of_call : holds deciding s ≡ true
+  pub none_before : NoneHolds (take (number - 1) filters) s
   pub says : (read : ℕ) → verdict_from (suc read) filters s ≡ verdict_by (read + number) deciding.grant s.ids deciding.action

@@ -5,7 +5,7 @@ ghost use Rattle.st_filter.specs.Fast.{first_answer};
 ghost use Rattle.st_filter.specs.Judging.{verdict_from};
 ghost use Rattle.st_filter.specs.Policies.{filters_of, read_filters};
 ghost use Rattle.st_law.specs.Sessions.{session_filters};
-ghost use Rattle.st_learn.specs.Deciding.{IsDeciding};
+ghost use Rattle.st_learn.specs.Deciding.{IsDeciding, NoneHolds};
 
 use crate::session::Session;
 use st_calls::{FastAnswer, Rule, Snapshot, Verdict};
@@ -24,12 +24,13 @@ fn read_count(policy: &Policy, rule: Rule) -> usize
 }
 
 impl Session {
-    /// The session's filter that decides on a held call by the copies of its arguments, as the first for its policy and rule that holds, with its number
-    /// among those of the session, from 1.
+    /// The session's filter that decides on a held call by the copies of its arguments, as the first for its policy and rule that holds, also where it
+    /// asks, with its number among those of the session, from 1; none where none holds.
     pub fn deciding(&self, copies: &Snapshot) -> Option<(u32, &Filter)>
         ensures few { IfSome result (λ found. found.0 ≤ 2 ^ 31) }
-        ensures none { result ≡ None → (read : ℕ) → verdict_from read (session_filters self.now.filters copies.now.policy copies.now.rule) copies.now ≡ Unmatched }
+        ensures none { result ≡ None → NoneHolds (session_filters self.now.filters copies.now.policy copies.now.rule) copies.now }
         ensures some { IfSome result (λ found. IsDeciding (session_filters self.now.filters copies.now.policy copies.now.rule) copies.now found.0 found.1.now) }
+        ensures unmatched { result ≡ None → (read : ℕ) → verdict_from read (session_filters self.now.filters copies.now.policy copies.now.rule) copies.now ≡ Unmatched }
     {
         let place = self.first_deciding(copies)?;
         Some((self.number_before(place) + 1, self.kept(place).filter()))

@@ -36,6 +36,10 @@ impl Places {
     pub fn of(&self, policy: &[u8]) -> &[usize]
         ensures { result.now ≡ places_in self.now policy.now }
     {
+        // Most runs have none, and then nothing is hashed.
+        if self.rows.is_empty() {
+            return &[];
+        }
         match self.rows.get(policy) {
             Some(places) => places.as_slice(),
             None => &[],

@@ -2,11 +2,16 @@ use Rattle.std.proofs.Common.{◌∙◌, sym, subst}
 use Rattle.st_learn.specs.Deciding.{decides, IsDeciding}
 use Rattle.st_law.specs.Sessions.{session_filters}
 use Rattle.st_learn.proofs.First.{first_inside}
-use Rattle.st_learn.proofs.FirstDeciding.{Says, deciding, says}
+use Rattle.st_learn.proofs.FirstDeciding.{deciding, none_holds, unmatched}
 use Rattle.st_learn.proofs.session.Session.deciding.Goals as goal
 
 pub returns-in_err-place-clause-none : goal.returns-in_err-place-clause-none
-returns-in_err-place-clause-none c = λ none read. subst (Says c.args.copies.now c.args.self.now.filters) (sym c.first_deciding.ensures ∙ c.in_err-place.was) (says c.args.copies.now c.args.self.now.filters) read
+returns-in_err-place-clause-none c = λ none. none_holds c.args.copies.now c.args.self.now.filters (sym c.first_deciding.ensures ∙ c.in_err-place.was)
+
+pub returns-in_err-place-clause-unmatched : goal.returns-in_err-place-clause-unmatched
+returns-in_err-place-clause-unmatched c = λ none read.
+    unmatched c.args.copies.now (session_filters c.args.self.now.filters c.args.copies.now.policy c.args.copies.now.rule) read
+    (none_holds c.args.copies.now c.args.self.now.filters (sym c.first_deciding.ensures ∙ c.in_err-place.was))
 
 pub number_before-requires : goal.number_before-requires
 number_before-requires c = first_inside (decides c.args.copies.now) c.args.self.now.filters c.in_ok-place.place (sym c.first_deciding.ensures ∙ c.in_ok-place.was)
