@@ -1,11 +1,11 @@
 -- The bytes before the first zero one, and what a text spells by their count.
 use native.Mathlib.Omega.{arith}
-use Rattle.std.proofs.Common.{◌≡◌, ◌<◌, ◌≤◌, ◌+◌, ◌/◌, ◌%◌, ℕ, zero, suc, Bool, true, false, cond, not, ◌||◌, nat_lt, List, [], ◌∷◌, ◌++◌, length, take, drop, min, Some, None, refl, ap, sym, ◌∙◌, ltb, eqb}
-use Rattle.std.proofs.lemmas.Bool.{ltb-true, ltb-false, eqb-false, or_parts}
+use Rattle.std.proofs.Common.{◌≡◌, ◌<◌, ◌≤◌, ◌+◌, ◌/◌, ◌%◌, ℕ, zero, suc, Bool, true, false, cond, not, ◌||◌, nat_lt, List, [], ◌∷◌, ◌++◌, length, take, drop, get_or, min, Some, None, refl, ap, sym, ◌∙◌, ltb, eqb}
+use Rattle.std.proofs.lemmas.Bool.{ltb-true, ltb-false, eqb-true, eqb-false, or_parts}
 use Rattle.std.specs.Int.{w64, to_le_bytes}
 use Rattle.std.specs.List.{position, prefix_len, flat_map, list_any}
 use Rattle.std.proofs.lemmas.List.{drop-append-le, length-drop, length-take}
-use Rattle.std.proofs.lemmas.List.Sums.{prefix_len-le-length}
+use Rattle.std.proofs.lemmas.List.Sums.{prefix_len-le-length, prefix_len_passes, prefix_len_stops}
 use Rattle.std.proofs.lemmas.List.Folds.{prefix_len-append}
 use Rattle.st_base.specs.declared.errno.Errno.TheVariants.{ENAMETOOLONG}
 use Rattle.st_model.specs.Spelling.{Spelled, Text, Fault, bytes_of_words, is_zero, next_word, spell_text, text_before_zero}
@@ -60,21 +60,47 @@ position_some xs l = picked (ltb (prefix_len is_letter xs) (length xs)) (prefix_
 position_none : (xs : List ℕ) → length xs ≤ prefix_len is_letter xs → position is_zero xs ≡ None
 position_none xs l = left_out (ltb (prefix_len is_letter xs) (length xs)) (prefix_len is_letter xs) (length xs) refl l
 
-same_end : (i j : ℕ) → Some i ≡ Some j → i ≡ j
-same_end i j e = cc
+-- ---- one byte further
 
--- whether one is zero, and how many come before it
-pub position-none : (xs : List ℕ) → position is_zero xs ≡ None → (length xs ≡ prefix_len is_letter xs) × (list_any is_zero xs ≡ false)
-position-none xs e = by_test (list_any is_zero xs) refl where
-  by_test : (b : Bool) → list_any is_zero xs ≡ b → (length xs ≡ prefix_len is_letter xs) × (list_any is_zero xs ≡ false)
-  by_test true t = let some = position_some xs (letters_some xs t) in cc
-  by_test false t = (sym (letters_all xs t), t)
+some_zero : (bytes : List ℕ) → prefix_len is_letter bytes < length bytes → list_any is_zero bytes ≡ true
+some_zero bytes l = by_test (list_any is_zero bytes) refl where
+  by_test : (b : Bool) → list_any is_zero bytes ≡ b → list_any is_zero bytes ≡ true
+  by_test true t = t
+  by_test false t = let all = letters_all bytes t in absurd (omega (arith, all, l))
 
-pub position-some : (xs : List ℕ) (end : ℕ) → position is_zero xs ≡ Some end → (end ≡ prefix_len is_letter xs) × (list_any is_zero xs ≡ true)
-position-some xs end e = by_test (list_any is_zero xs) refl where
-  by_test : (b : Bool) → list_any is_zero xs ≡ b → (end ≡ prefix_len is_letter xs) × (list_any is_zero xs ≡ true)
-  by_test true t = (same_end end (prefix_len is_letter xs) (sym e ∙ position_some xs (letters_some xs t)), t)
-  by_test false t = let none = position_none xs (let all = letters_all xs t in omega (arith, all)) in cc
+-- a zero byte behind those that are letters is the first one
+pub stops_at : (bytes : List ℕ) (i : ℕ) → i ≤ prefix_len is_letter bytes → i < length bytes → get_or bytes i 0 ≡ 0 → (i ≡ prefix_len is_letter bytes) × (list_any is_zero bytes ≡ true)
+stops_at bytes i front below e = by_test (ltb i (prefix_len is_letter bytes)) refl where
+  by_test : (b : Bool) → ltb i (prefix_len is_letter bytes) ≡ b → (i ≡ prefix_len is_letter bytes) × (list_any is_zero bytes ≡ true)
+  by_test true t =
+      let letter = prefix_len_passes is_letter bytes i 0 (ltb-true i (prefix_len is_letter bytes) t) in
+      let zero = ap is_letter e in
+      cc
+  by_test false t = let late = ltb-false i (prefix_len is_letter bytes) t in (omega (arith, front, late), some_zero bytes (omega (arith, late, below)))
+
+-- another byte is one more letter
+pub goes_past : (bytes : List ℕ) (i : ℕ) → i ≤ prefix_len is_letter bytes → i < length bytes → (get_or bytes i 0 ≡ 0 → ⊥) → i + 1 ≤ prefix_len is_letter bytes
+goes_past bytes i front below other = by_test (ltb i (prefix_len is_letter bytes)) refl where
+  is_zero_there : (byte : ℕ) → is_letter byte ≡ false → byte ≡ 0
+  is_zero_there byte e = by_first (eqb byte 0) refl where
+    by_first : (b : Bool) → eqb byte 0 ≡ b → byte ≡ 0
+    by_first true t = eqb-true byte 0 t
+    by_first false t = let letter = ap not t in cc
+
+  by_test : (b : Bool) → ltb i (prefix_len is_letter bytes) ≡ b → i + 1 ≤ prefix_len is_letter bytes
+  by_test true t = let early = ltb-true i (prefix_len is_letter bytes) t in omega (arith, early)
+  by_test false t =
+      let late = ltb-false i (prefix_len is_letter bytes) t in
+      let here : prefix_len is_letter bytes ≡ i = omega (arith, front, late) in
+      let stops = prefix_len_stops is_letter bytes 0 (omega (arith, late, below)) in
+      absurd (other (ap (λ (n : ℕ). get_or bytes n 0) (sym here) ∙ is_zero_there (get_or bytes (prefix_len is_letter bytes) 0) stops))
+
+-- where all are letters none is zero
+pub none_stops : (bytes : List ℕ) → length bytes ≤ prefix_len is_letter bytes → list_any is_zero bytes ≡ false
+none_stops bytes l = by_test (list_any is_zero bytes) refl where
+  by_test : (b : Bool) → list_any is_zero bytes ≡ b → list_any is_zero bytes ≡ false
+  by_test true t = let some = letters_some bytes t in absurd (omega (arith, l, some))
+  by_test false t = t
 
 -- ---- what a text spells
 

@@ -34,6 +34,8 @@ fn push_port(text: &mut Vec<u8>, port: u16)
 }
 
 /// Adds the text of the address that a word has, which takes 28 bytes of the room at most.
+// Apart, since it is rare and long: the words of texts are taken without the room and the registers that it needs.
+#[inline(never)]
 pub fn push_address(text: &mut Vec<u8>, word: u64)
     requires { vec_len text.old + 28 ≤ vec_capacity text.old }
     ensures bytes { text.new.items ≡ text.old.items ++ address_text (to_le_bytes w64 word) }

@@ -70,8 +70,7 @@ fn read_again(kind: PartKind, at: u64, words: &[u64], text: &mut Vec<u8>) -> Sta
     text.clear();
     let mut stage = Stage::start(kind, at);
     for word in words {
-        stage.push(text, *word);
-        stage = stage.after(*word);
+        stage.take(text, *word);
     }
     stage
 }
@@ -119,9 +118,8 @@ impl Copying {
         ensures words { self.new ≡ with_word self.old word }
         ensures took { result ≡ took_of (spelled self.new) }
     {
-        self.stage.push(&mut self.text, word);
         self.words.push_reserved(word);
-        self.stage = self.stage.after(word);
+        self.stage.take(&mut self.text, word);
         took_at(self.stage)
     }
 

@@ -1,13 +1,13 @@
-ghost use Rattle.std.specs.Prelude.{◌≡◌, ℕ, ◌+◌, ◌/◌, ◌<◌, ◌≤◌, true, List, [], ◌∷◌, ◌++◌, position, vec_capacity, vec_len};
+ghost use Rattle.std.specs.Prelude.{◌≡◌, ℕ, ◌+◌, ◌/◌, ◌<◌, ◌≤◌, true, List, [], ◌∷◌, ◌++◌, length, vec_capacity, vec_len};
+ghost use Rattle.std.specs.List.{list_any, prefix_len, take_while};
 ghost use Rattle.st_model.specs.Spelling.{is_zero};
-ghost use Rattle.st_translate.specs.Bytes.{ends_at, letter_count, letters_at, next_word_byte};
+ghost use Rattle.st_translate.specs.Bytes.{ends_at, is_letter, letter_count, letters_at, next_word_byte};
 ghost use Rattle.st_translate.specs.Copied.{asked_word, fault_of, lies_in_memory};
 ghost use Rattle.st_translate.specs.Stage.{AsksWord, IsWithin, Reaches, Reads, spelled_at, text_added};
 ghost use Rattle.st_calls.specs.declared.argument.PartKind.{PartKind};
 ghost use Rattle.st_model.specs.declared.limits.TheConstants.{SPACE_WORDS};
 
 use crate::address::{is_internet, push_address};
-use crate::buffer::push_all;
 use st_base::Errno;
 use st_calls::PartKind;
 use st_model::{ARGV_BYTES, ARGV_PARTS, LONGEST_TEXT, SPACE_BYTES, SPACE_WORDS};
@@ -64,44 +64,60 @@ fn next_word_byte(next: u32) -> u32
     8 * (next / 8 + 1)
 }
 
-// Where the first zero byte stands.
-fn first_zero(bytes: &[u8]) -> Option<usize>
-    ensures { result ≡ position is_zero bytes.now }
+// Adds the bytes before the first zero one. Gives their count, and whether one is zero.
+#[inline]
+fn push_until_zero(text: &mut Vec<u8>, bytes: &[u8]) -> (usize, bool)
+    requires { vec_len text.old + length bytes.now ≤ vec_capacity text.old }
+    ensures bytes { text.new.items ≡ text.old.items ++ take_while is_letter bytes.now }
+    ensures count { result.0 ≡ prefix_len is_letter bytes.now }
+    ensures ended { result.1 ≡ list_any is_zero bytes.now }
+    ensures capacity { vec_capacity text.new ≡ vec_capacity text.old }
 {
-    bytes.iter().position(|byte| *byte == 0)
-}
-
-// How many bytes of a word, from this byte of memory on, stand before the first zero one, and whether one is zero.
-fn letters_in(next: u32, word: u64) -> (usize, bool)
-    ensures count { result.0 ≡ letter_count next word }
-    ensures ended { result.1 ≡ ends_at next word }
-{
-    let bytes = word.to_le_bytes();
-    let rest = &bytes[(next % 8) as usize..];
-    match first_zero(rest) {
-        Some(end) => (end, true),
-        None => (rest.len(), false),
+    for (count, byte) in bytes.iter().enumerate() {
+        if *byte == 0 {
+            return (count, true);
+        }
+        text.push_reserved(*byte);
     }
+    (bytes.len(), false)
 }
 
-// Adds the bytes of a word, from this byte of memory on, that stand before the first zero one.
-fn push_letters(text: &mut Vec<u8>, next: u32, word: u64)
+// Adds the bytes of a word, from this byte of memory on, that stand before the first zero one. Gives their count, and whether one is
+// zero.
+fn push_letters(text: &mut Vec<u8>, next: u32, word: u64) -> (usize, bool)
     requires { vec_len text.old + 8 ≤ vec_capacity text.old }
     ensures bytes { text.new.items ≡ text.old.items ++ letters_at next word }
+    ensures count { result.0 ≡ letter_count next word }
+    ensures ended { result.1 ≡ ends_at next word }
     ensures capacity { vec_capacity text.new ≡ vec_capacity text.old }
 {
     let bytes = word.to_le_bytes();
-    let rest = &bytes[(next % 8) as usize..];
-    let (count, _) = letters_in(next, word);
-    push_all(text, &rest[..count]);
+    let skipped = (next % 8) as usize;
+    if skipped == 0 {
+        // The common word. That it has eight bytes is known here, so that their loop is unrolled.
+        push_until_zero(text, &bytes)
+    } else {
+        push_until_zero(text, &bytes[skipped..])
+    }
 }
 
-// The stage of a text after one more word.
-fn after_text(next: u32, read: usize, longest: usize, word: u64) -> Stage
-    requires { AsksWord (Stage.Text next read longest) }
-    ensures { (kind : PartKind) (at : ℕ) (words text : List ℕ) → Reads kind at words text (Stage.Text next read longest) → Reaches kind at (words ++ word ∷ []) (text ++ letters_at next word) result }
+// Adds the blank between two parts of an argument vector, where this pointer is of a part behind others.
+fn push_blank(text: &mut Vec<u8>, vector: Vector, word: u64)
+    requires { vec_len text.old < vec_capacity text.old }
+    ensures bytes { text.new.items ≡ text.old.items ++ text_added (Stage.Pointer vector) word }
+    ensures capacity { vec_capacity text.new ≡ vec_capacity text.old }
 {
-    let (letters, ended) = letters_in(next, word);
+    if word != 0 && vector.parts != 0 {
+        text.push_reserved(b' ');
+    }
+}
+
+// The stage of a text after one more word, which has so many letters, and ends it or not.
+fn after_text(next: u32, read: usize, longest: usize, letters: usize, ended: bool) -> Stage
+    requires asks { AsksWord (Stage.Text next read longest) }
+    requires few { letters ≤ 8 }
+    ensures { (kind : PartKind) (at word : ℕ) (words text : List ℕ) → letters ≡ letter_count next word → ended ≡ ends_at next word → Reads kind at words text (Stage.Text next read longest) → Reaches kind at (words ++ word ∷ []) (text ++ letters_at next word) result }
+{
     let read = read + letters;
     if read > longest {
         Stage::Fault(Errno::ENAMETOOLONG)
@@ -150,12 +166,12 @@ fn after_pointer(vector: Vector, word: u64) -> Stage
     }
 }
 
-// The stage of an argument vector after one more word of a part.
-fn after_part(next: u32, vector: Vector, word: u64) -> Stage
-    requires { AsksWord (Stage.Part next vector) }
-    ensures { (kind : PartKind) (at : ℕ) (words text : List ℕ) → Reads kind at words text (Stage.Part next vector) → Reaches kind at (words ++ word ∷ []) (text ++ letters_at next word) result }
+// The stage of an argument vector after one more word of a part, which has so many letters, and ends it or not.
+fn after_part(next: u32, vector: Vector, letters: usize, ended: bool) -> Stage
+    requires asks { AsksWord (Stage.Part next vector) }
+    requires few { letters ≤ 8 }
+    ensures { (kind : PartKind) (at word : ℕ) (words text : List ℕ) → letters ≡ letter_count next word → ended ≡ ends_at next word → Reads kind at words text (Stage.Part next vector) → Reaches kind at (words ++ word ∷ []) (text ++ letters_at next word) result }
 {
-    let (letters, ended) = letters_in(next, word);
     let bytes = vector.bytes + letters;
     if bytes > ARGV_BYTES {
         Stage::Fault(Errno::E2BIG)
@@ -246,36 +262,36 @@ impl Stage {
         }
     }
 
-    /// Where the part stands after one more word.
-    pub fn after(self, word: u64) -> Self
-        requires { AsksWord self }
-        ensures { (kind : PartKind) (at : ℕ) (words text : List ℕ) → Reaches kind at words text self → Reaches kind at (words ++ word ∷ []) (text ++ text_added self word) result }
+    /// Goes on by one more word, and adds to a text what it adds to it, which takes 28 bytes of the room at most.
+    #[inline]
+    pub fn take(&mut self, text: &mut Vec<u8>, word: u64)
+        requires room { vec_len text.old + 28 ≤ vec_capacity text.old }
+        requires asks { AsksWord self.old }
+        ensures stage { (kind : PartKind) (at : ℕ) (words : List ℕ) → Reaches kind at words text.old.items self.old → Reaches kind at (words ++ word ∷ []) text.new.items self.new }
+        ensures capacity { vec_capacity text.new ≡ vec_capacity text.old }
     {
-        match self {
+        *self = match *self {
             Stage::Text {
                 next,
                 read,
                 longest,
-            } => after_text(next, read, longest, word),
-            Stage::Address { next } => after_address(next, word),
-            Stage::Pointer { vector } => after_pointer(vector, word),
-            Stage::Part { next, vector } => after_part(next, vector, word),
-            Stage::Fault(_) | Stage::Done => self,
-        }
-    }
-
-    /// Adds to a text what one more word adds to it, which takes 28 bytes of the room at most.
-    #[inline]
-    pub fn push(self, text: &mut Vec<u8>, word: u64)
-        requires { vec_len text.old + 28 ≤ vec_capacity text.old }
-        ensures bytes { text.new.items ≡ text.old.items ++ text_added self word }
-        ensures capacity { vec_capacity text.new ≡ vec_capacity text.old }
-    {
-        match self {
-            Stage::Text { next, .. } | Stage::Part { next, .. } => push_letters(text, next, word),
-            Stage::Address { .. } => push_address(text, word),
-            Stage::Pointer { vector } if word != 0 && vector.parts != 0 => text.push_reserved(b' '),
-            _ => {}
-        }
+            } => {
+                let (letters, ended) = push_letters(text, next, word);
+                after_text(next, read, longest, letters, ended)
+            }
+            Stage::Address { next } => {
+                push_address(text, word);
+                after_address(next, word)
+            }
+            Stage::Pointer { vector } => {
+                push_blank(text, vector, word);
+                after_pointer(vector, word)
+            }
+            Stage::Part { next, vector } => {
+                let (letters, ended) = push_letters(text, next, word);
+                after_part(next, vector, letters, ended)
+            }
+            Stage::Fault(_) | Stage::Done => return,
+        };
     }
 }

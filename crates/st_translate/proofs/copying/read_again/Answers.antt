@@ -1,11 +1,10 @@
-use Rattle.std.proofs.Common.{◌<◌, ◌≤◌, ◌+◌, ◌++◌, ℕ, List, length, take, get_or, subst, sym, arith}
-use Rattle.st_translate.specs.Stage.{Reaches, text_added}
+use Rattle.std.proofs.Common.{◌<◌, ◌≤◌, length, take, arith}
 use Rattle.st_translate.proofs.Rooms.{few_letters}
 use Rattle.st_translate.proofs.Stages.{asks, further}
 use Rattle.st_translate.proofs.copying.read_again.Goals as goal
 
-pub push-requires : goal.push-requires
-push-requires c =
+pub take-requires-clause-room : goal.take-requires-clause-room
+take-requires-clause-room c =
     let below : c.loop-word.word-index < length c.args.words.now = omega arith in
     let some = c.requires.asked c.loop-word.word-index below in
     let reached = c.loop-word.invariant.0 in
@@ -19,10 +18,8 @@ push-requires c =
 
 pub loop-word-preserved : goal.loop-word-preserved
 loop-word-preserved c =
-    let below : c.loop-word.word-index < length c.args.words.now = omega arith in
-    let text : List ℕ = c.loop-word.text.items ++ text_added c.loop-word.stage (get_or c.args.words.now c.loop-word.word-index 0) in (
-      subst (λ (text : List ℕ). Reaches c.args.kind c.args.at (take (c.loop-word.word-index + 1) c.args.words.now) text c.after-stage.result) (sym c.push.ensures.bytes)
-          (further c.args.kind c.args.at c.args.words.now text c.after-stage.result c.loop-word.word-index below
-          (c.after-stage.ensures c.args.kind c.args.at (take c.loop-word.word-index c.args.words.now) c.loop-word.text.items c.loop-word.invariant.0)),
-      (let pushed = c.push.ensures.capacity in let same = c.loop-word.invariant.1 in omega (arith, pushed, same)),
+    let below : c.loop-word.word-index < length c.args.words.now = omega arith in (
+      further c.args.kind c.args.at c.args.words.now c.take.new.text.items c.take.new.self c.loop-word.word-index below
+          (c.take.ensures.stage c.args.kind c.args.at (take c.loop-word.word-index c.args.words.now) c.loop-word.invariant.0),
+      (let took = c.take.ensures.capacity in let same = c.loop-word.invariant.1 in omega (arith, took, same)),
     )

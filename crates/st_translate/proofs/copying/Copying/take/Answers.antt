@@ -1,15 +1,14 @@
 use Rattle.std.proofs.Common.{◌∙◌, ◌++◌, ◌∷◌, [], ℕ, List, IsSome, ap, sym, subst, arith}
 use Rattle.st_model.specs.Spelling.{spell}
 use Rattle.st_translate.specs.Copied.{Copied, asked_word, spelled}
-use Rattle.st_translate.specs.Stage.{Reaches, text_added}
 use Rattle.st_translate.specs.Taken.{took_of}
 use Rattle.st_translate.proofs.Asked.{AreAsked-push, few_words}
 use Rattle.st_translate.proofs.Rooms.{few_letters}
 use Rattle.st_translate.proofs.Stages.{asks, spells}
 use Rattle.st_translate.proofs.copying.Copying.take.Goals as goal
 
-pub push-requires : goal.push-requires
-push-requires c =
+pub take-requires-clause-room : goal.take-requires-clause-room
+take-requires-clause-room c =
     let some : IsSome (asked_word (spell c.self.inside.kind c.self.inside.at c.self.inside.words.items)) = subst (λ (copied : Copied). IsSome (asked_word (spelled copied))) (sym c.self.view_is) c.requires in
     let few = few_letters c.self.inside.kind c.self.inside.at c.self.inside.words.items c.self.inside.text.items c.self.inside.stage c.self.invariant.reached
     (asks c.self.inside.kind c.self.inside.at c.self.inside.words.items c.self.inside.text.items c.self.inside.stage c.self.invariant.reached some) in
@@ -25,8 +24,8 @@ push_reserved-requires c =
     let room = c.self.invariant.has_room in
     omega (arith, few, len, room)
 
-pub after-self-inside-requires : goal.after-self-inside-requires
-after-self-inside-requires c =
+pub take-requires-clause-asks : goal.take-requires-clause-asks
+take-requires-clause-asks c =
     let some : IsSome (asked_word (spell c.self.inside.kind c.self.inside.at c.self.inside.words.items)) = subst (λ (copied : Copied). IsSome (asked_word (spelled copied))) (sym c.self.view_is) c.requires in
     asks c.self.inside.kind c.self.inside.at c.self.inside.words.items c.self.inside.text.items c.self.inside.stage c.self.invariant.reached some
 
@@ -36,16 +35,14 @@ invariant_of-self c =
     record {
       lies = c.self.invariant.lies;
       asked = rw c.push_reserved.ensures.items (AreAsked-push c.self.inside.kind c.self.inside.at c.self.inside.words.items c.args.word c.self.invariant.asked some);
-      reached = rw c.push_reserved.ensures.items (subst (λ (text : List ℕ). Reaches c.self.inside.kind c.self.inside.at (c.self.inside.words.items ++ c.args.word ∷ []) text c.after-self-inside.result) (sym c.push.ensures.bytes)
-          (c.after-self-inside.ensures c.self.inside.kind c.self.inside.at c.self.inside.words.items c.self.inside.text.items c.self.invariant.reached));
-      has_text_room = (let same = c.push.ensures.capacity in let room = c.self.invariant.has_text_room in omega (arith, same, room));
+      reached = rw c.push_reserved.ensures.items (c.take.ensures.stage c.self.inside.kind c.self.inside.at c.self.inside.words.items c.self.invariant.reached);
+      has_text_room = (let same = c.take.ensures.capacity in let room = c.self.invariant.has_text_room in omega (arith, same, room));
       has_room = (let same = c.push_reserved.ensures.capacity in let room = c.self.invariant.has_room in omega (arith, same, room));
     }
 
 pub returns-clause-took : goal.returns-clause-took
 returns-clause-took c =
-    let reached = c.after-self-inside.ensures c.self.inside.kind c.self.inside.at c.self.inside.words.items c.self.inside.text.items c.self.invariant.reached in
-    let text : List ℕ = c.self.inside.text.items ++ text_added c.self.inside.stage c.args.word in
-    c.took_at.ensures text
-    ∙ ap took_of (sym (spells c.self.inside.kind c.self.inside.at (c.self.inside.words.items ++ c.args.word ∷ []) text c.after-self-inside.result reached))
+    let reached = c.take.ensures.stage c.self.inside.kind c.self.inside.at c.self.inside.words.items c.self.invariant.reached in
+    c.took_at.ensures c.take.new.text.items
+    ∙ ap took_of (sym (spells c.self.inside.kind c.self.inside.at (c.self.inside.words.items ++ c.args.word ∷ []) c.take.new.text.items c.take.new.self reached))
     ∙ ap (λ (words : List ℕ). took_of (spell c.self.inside.kind c.self.inside.at words)) (sym c.push_reserved.ensures.items)
