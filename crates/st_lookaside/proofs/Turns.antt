@@ -1,9 +1,10 @@
 -- What a change of one argument makes of a message.
-use Rattle.std.proofs.Common.{◌≡◌, ◌<◌, ◌≤◌, ℕ, zero, suc, true, List, [], ◌∷◌, length, ◌++◌, map, take, drop, get_or, set, append-nil, inl, inr, refl, ap, sym, ◌∙◌, subst, arith, Fits, w32}
+use Rattle.std.proofs.Common.{◌≡◌, ◌<◌, ◌≤◌, ◌+◌, ℕ, zero, suc, nat_lt, not, Bool, true, false, cond, List, [], ◌∷◌, length, ◌++◌, map, take, drop, get_or, set, append-nil, inl, inr, refl, ap, sym, ◌∙◌, subst, arith, Fits, w32}
 use Rattle.std.specs.Prelude.{All, Option, Some, None, is_some, Result, Ok, Err, IsSome, OnOk, OnErr}
 use Rattle.st_effects.specs.Progress.{Progress, Word, Look, Stuck, Ready, progress}
 use Rattle.st_names.specs.Name.{Components}
-use Rattle.std.proofs.lemmas.Bool.{cases_lt}
+use Rattle.std.specs.List.{position, position_or_len}
+use Rattle.std.proofs.lemmas.Bool.{cases_lt, lt-ltb}
 use Rattle.std.proofs.lemmas.List.{get_or-map, get_or-set_other, get_or-set_same, get_or_default, get_or_past, length-map, length-set, map-set}
 use Rattle.std.proofs.lemmas.List.Elements.{All-set}
 use Rattle.std.proofs.Math.Seq.{map-set_same, take-length}
@@ -15,14 +16,15 @@ use Rattle.st_calls.specs.declared.call.SysCall.TheVariants as call
 use Rattle.st_calls.specs.declared.rule.Rule.{Rule}
 use Rattle.st_calls.specs.declared.rule.Rule.TheVariants as rule
 use Rattle.st_lookaside.specs.Head.{request_of}
-use Rattle.st_lookaside.specs.Need.{need_of, IsWord}
+use Rattle.st_lookaside.specs.Need.{is_finished, need_of, IsWord}
 use Rattle.st_lookaside.specs.Part.{Filled, filled_of, nothing_filled, with_walk, IsPart}
 use Rattle.st_lookaside.specs.Slot.{Slot, after_begin, begun_at, is_readied, new_slot, next_of, part_at, part_next, progress_of, with_part, AreInOrder, IsDue, IsInOrder, IsLookNext, IsSlot, IsWordNext}
 use Rattle.st_lookaside.specs.declared.head.Head.{Head}
+use Rattle.st_lookaside.specs.declared.need.Need.{Need}
 use Rattle.st_lookaside.specs.declared.need.Need.TheVariants as need
 use Rattle.st_lookaside.specs.declared.part.Part.{Part}
 use Rattle.st_lookaside.proofs.Parts.{unseen}
-use Rattle.st_lookaside.proofs.Progress.{due_place, in_front, look_due, next_at, next_is, not_finished, progress_of_part, word_due, IsOpenAt}
+use Rattle.st_lookaside.proofs.Progress.{due_place, in_front, look_due, next_at, next_is, not_finished, open_at, progress_of_part, word_due, IsOpenAt}
 
 -- ---- an argument that may change
 
@@ -243,3 +245,31 @@ module _ (head : Head) (parts : List Part) (now : Slot) (j : ℕ) (part : Part) 
       ∙ ap (λ (s : Slot). (part_at s.parts (part_next (progress_of now))).walking) (begun_look (progress_of now) now look)
       ∙ ap (λ (k : ℕ). (part_at (set now.parts k (with_walk (part_at now.parts k))) k).walking) (here_due due)
       ∙ ap (λ (f : Filled). f.walking) (get_or-set_same now.parts j (with_walk (part_at now.parts j)) nothing_filled within)
+
+-- ---- an argument that isn't finished yet once it has changed
+
+first_place : (p : Part → Bool) (parts : List Part) (j : ℕ) (d : Part) → j < length parts → ((k : ℕ) → k < j → p (get_or parts k d) ≡ false) → p (get_or parts j d) ≡ true → position_or_len p parts ≡ j
+first_place p [] j d within before here = absurd (omega (arith, within))
+first_place p (x ∷ parts) zero d within before here = ap (λ (b : Bool). cond (not b) (1 + position_or_len p parts) 0) here
+first_place p (x ∷ parts) (suc j) d within before here =
+    let next : 1 + j ≡ suc j = omega arith in
+    ap (λ (b : Bool). cond (not b) (1 + position_or_len p parts) 0) (before 0 (omega arith))
+    ∙ ap (λ (n : ℕ). 1 + n) (first_place p parts j d (omega (arith, within)) (λ k lt. before (suc k) (omega (arith, lt))) here)
+    ∙ next
+
+first_is : (p : Part → Bool) (parts : List Part) (j : ℕ) (d : Part) → j < length parts → ((k : ℕ) → k < j → p (get_or parts k d) ≡ false) → p (get_or parts j d) ≡ true → position p parts ≡ Some j
+first_is p parts j d within before here =
+    ap (λ (n : ℕ). cond (nat_lt n (length parts)) (Some n) None) (first_place p parts j d within before here) ∙ ap (λ (b : Bool). cond b (Some j) None) (lt-ltb j (length parts) within)
+
+-- it decides again what is needed next
+pub next_again : (head : Head) (parts : List Part) (now new : Slot) (j : ℕ) (part after : Part) → IsSlot head parts → record { head = head; parts = map filled_of parts } ≡ now → IsOpenAt head parts j part
+    → IsPart (request_of head) after → after.spec ≡ part.spec → not (is_finished after.need) ≡ true → record { head = head; parts = map filled_of (set parts j after) } ≡ new → next_at j after.need ≡ next_of (progress_of new)
+next_again head parts now new j part after slot view at is_part same unfinished new_view =
+    let kept : IsSlot head (set parts j after) = slot_kept head parts j part after slot (turn head parts now j part slot view at) at.here is_part same in
+    let len = length-set parts j after in
+    let here : get_or (set parts j after) j after ≡ after = get_or-set_same parts j after after at.within in
+    let first : position (λ (p : Part). not (is_finished p.need)) (set parts j after) ≡ Some j =
+    first_is (λ p. not (is_finished p.need)) (set parts j after) j after (let within = at.within in omega (arith, len, within))
+    (λ k lt. ap (λ (p : Part). not (is_finished p.need)) (get_or-set_other parts j k after after (λ e. let is : k ≡ j = e in omega (arith, is, lt))) ∙ ap (λ (n : Need). not (is_finished n)) (at.before k after lt))
+    (ap (λ (p : Part). not (is_finished p.need)) here ∙ unfinished) in
+    here_next head (set parts j after) new j after kept new_view (open_at head (set parts j after) (set parts j after) j after kept refl (sym first) (sym here))

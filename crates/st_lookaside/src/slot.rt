@@ -146,10 +146,11 @@ impl Slot {
         part.begin_walk(alloc, &self.head)
     }
 
-    /// Takes the word that is needed next, without memory.
-    pub fn fill(&mut self, word: u64)
+    /// Takes the word that is needed next, without memory, and gives what is needed behind it.
+    pub fn fill(&mut self, word: u64) -> Next
         requires { IsWordNext (progress_of self.old) }
         ensures slot { self.new ≡ after_word self.old word }
+        ensures next { result ≡ next_of (progress_of (after_word self.old word)) }
         ensures order { IsInOrder self.old }
     {
         let Some(j) = unfinished(&self.parts) else {
@@ -157,6 +158,11 @@ impl Slot {
         };
         let part = &mut self.parts[j];
         part.fill(&self.head, word);
+        // Mostly it needs one more word, and then the others need not be looked at.
+        if let Need::Word(place) = part.need {
+            return Next::Word(j as u32, place);
+        }
+        self.next()
     }
 
     /// The name that is looked at next, where its walk is readied.

@@ -38,13 +38,16 @@ impl Model for Slots {
 }
 
 // Where the slot of this number stands, if it stands as far behind the first as it is greater. Calls mostly end in the order in which they
-// were entered, and then it does.
+// were entered, and then it does. Where few are under way, it mostly is the first.
 #[inline]
 fn guess_of(slots: &VecDeque<Slot>, seq: Seq) -> Option<usize>
     ensures { IfSome result (IsAt slots.now.items seq) }
 {
     let first = slots.front()?;
     let place = seq.checked_sub(first.head().seq)? as usize;
+    if place == 0 {
+        return Some(0);
+    }
     let slot = slots.get(place)?;
     if slot.head().seq == seq {
         Some(place)
@@ -54,6 +57,7 @@ fn guess_of(slots: &VecDeque<Slot>, seq: Seq) -> Option<usize>
 }
 
 // The same for any slot, in the logarithm of how many there are.
+#[inline(never)]
 fn search_of(slots: &VecDeque<Slot>, seq: Seq) -> Result<usize, usize>
     requires { AreAscending slots.now.items }
     ensures found { IfOk result (IsAt slots.now.items seq) }
@@ -149,18 +153,19 @@ impl Slots {
         slot.begin_part(alloc)
     }
 
-    /// Takes the word that a message needs next, without memory.
-    pub fn fill(&mut self, seq: Seq, word: u64)
+    /// Takes the word that a message needs next, without memory, and gives what it needs behind it.
+    pub fn fill(&mut self, seq: Seq, word: u64) -> Next
         requires slot { IsSome (slot_at self.old seq) }
         requires next { IfSome (slot_at self.old seq) (λ slot. IsWordNext (progress_of slot)) }
         ensures slot { IfSome (slot_at self.old seq) (λ slot. ChangesSlot self.old seq (Some (after_word slot word)) self.new) }
+        ensures next { IfSome (slot_at self.old seq) (λ slot. result ≡ next_of (progress_of (after_word slot word))) }
         ensures order { IfSome (slot_at self.old seq) IsInOrder }
     {
         let Ok(place) = place_of(&self.slots, seq) else {
             unreachable!()
         };
         let slot = &mut self.slots[place];
-        slot.fill(word);
+        slot.fill(word)
     }
 
     /// The name that a message looks at next, where its walk is readied.

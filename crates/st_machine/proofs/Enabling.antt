@@ -138,7 +138,7 @@ over_by m st is q o come has (Some copies) question live = sym (ap (λ (b : Bool
 pub work_moves : (i : Input) (st : State) (kept : UnderWay) (worker : ℕ) (task : Task) → IsTask i st kept worker task → is_work task ≡ is_some (worker_entry i st worker)
 work_moves i st kept worker Rest x = ap (λ (o : Option Entry). is_some o) (sym x)
 work_moves i st kept worker Claim x = ap (λ (o : Option Entry). is_some o) (sym x.1)
-work_moves i st kept worker (Copy seq part place) x = ap (λ (o : Option Entry). is_some o) (sym x)
+work_moves i st kept worker (Copy seq pid part place) x = ap (λ (o : Option Entry). is_some o) (sym x.0)
 work_moves i st kept worker (LookAt seq part) x = ap (λ (o : Option Entry). is_some o) (sym x.1)
 work_moves i st kept worker (Fault seq errno) x = ap (λ (o : Option Entry). is_some o) (sym x)
 work_moves i st kept worker Answer x = ap (λ (o : Option Entry). is_some o) (sym x.2)

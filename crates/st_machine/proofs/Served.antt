@@ -1,16 +1,15 @@
 -- Steps of workers, put together from what the messages and the system say.
 use Rattle.std.proofs.Common.{◌↔◌, ◌≡◌, ◌≢◌, ◌<◌, ◌∙◌, zero, suc, ℕ, arith, Bool, false, true, Option, Some, None, refl, ap, subst, sym}
+use Rattle.std.proofs.lemmas.Option.{none-some, same_Some}
 use Rattle.std.specs.Option.{option_map}
-use Rattle.std.specs.Prelude.{IfSome, OnErr, Result, Ok, Err, is_some}
+use Rattle.std.specs.Prelude.{OnErr, Result, Ok, Err}
 use Rattle.st_calls.specs.declared.judged.Snapshot.{Snapshot}
 use Rattle.st_calls.specs.declared.judged.Verdict.{Verdict}
 use Rattle.st_filter.specs.Judging.{verdict}
 use Rattle.st_filter.specs.Policies.{filters_of, policy_of}
-use Rattle.st_lookaside.specs.declared.head.Head as kept
-use Rattle.st_messages.specs.Messages.{is_live, message_at, thread_at}
+use Rattle.st_messages.specs.Messages.{is_live}
 use Rattle.st_messages.specs.declared.message.Delivered.{Delivered}
 use Rattle.st_messages.specs.declared.message.Delivered.TheVariants.{Applied, Stale}
-use Rattle.st_messages.specs.declared.message.Message.{Message}
 use Rattle.st_model.specs.Memory.{word_of}
 use Rattle.st_model.specs.Processes.{next_pid, IsPid}
 use Rattle.st_model.specs.Tree.{Tree, look}
@@ -28,7 +27,8 @@ use Rattle.st_law.specs.State.{State, ThreadState}
 use Rattle.st_base.specs.declared.errno.Errno.{Errno}
 use Rattle.st_model.specs.Processes.{StartedThread, thread_at as started_at}
 use Rattle.st_system.specs.System.{IsSystem, IsThread, Parts}
-use Rattle.st_workers.specs.Kept.{head_of, Follows, IsKept, IsKeptAfter, Stands}
+use Rattle.st_workers.specs.Kept.{Follows, IsKept, IsKeptAfter, Stands}
+use Rattle.st_workers.specs.Tasks.{IsOfProcess}
 use Rattle.st_workers.specs.UnderWay.{turn_at, UnderWay}
 use Rattle.st_workers.specs.declared.task.Task.TheVariants as tasks
 use Rattle.st_workers.specs.declared.turn.Turn.{Turn}
@@ -66,14 +66,18 @@ above_none : (n : ℕ) → n ≢ 0 → 0 < n
 above_none zero ne = absurd (ne refl)
 above_none (suc n) ne = omega arith
 
--- what holds of a live number's thread
-of_live : (P : ℕ → Type 0) (o : Option Message) → is_some o ≡ true → IfSome (option_map (λ (message : Message). message.tid) o) P → (t : ℕ) × P t
-of_live P None live x = cc
-of_live P (Some message) live x = (message.tid, x)
+space_is : (st : State) (o : Option Head) (pid : ℕ) → option_map (λ (head : Head). head.pid) o ≡ Some pid → space_of_head st o ≡ (st.processes pid).space
+space_is st None pid is = absurd (none-some pid is)
+space_is st (Some head) pid is = ap (λ (p : ℕ). (st.processes p).space) (same_Some head.pid pid is)
 
 -- the word at a place of the memory of a message's process
-word_is : (st : State) (q place t : ℕ) (head : kept.Head) → (st.messages q).head ≡ Some (head_of t head) → word_for st q place ≡ word_of (st.memory (st.processes head.pid).space) place
-word_is st q place t head is = ap (λ (o : Option Head). word_of (st.memory (space_of_head st o)) place) is
+word_is : (st : State) (q place pid : ℕ) → IsOfProcess st q pid → word_for st q place ≡ word_of (st.memory (st.processes pid).space) place
+word_is st q place pid is = ap (λ (space : ℕ). word_of (st.memory space) place) (space_is st (st.messages q).head pid is)
+
+-- the head of a message that is of a process
+head_there : (o : Option Head) (pid : ℕ) → option_map (λ (head : Head). head.pid) o ≡ Some pid → (head : Head) × (o ≡ Some head) × (head.pid ≡ pid)
+head_there None pid is = absurd (none-some pid is)
+head_there (Some head) pid is = (head, refl, same_Some head.pid pid is)
 
 -- the copies that a worker is ready with are one
 abbrev copies_of : Snapshot → Option Turn → Snapshot
@@ -170,14 +174,13 @@ module _ (m : Running) (w : ℕ) (new : UnderWay) where
   faulted q errno task follows = λ st is. faulted_step m st is w new q errno (task.law m.input st is.workers) (follows m.input st (law.is_live st) is.workers)
 
   -- a worker that copies the word that its message's memory has
-  pub copied : (q part place word : ℕ) (head : kept.Head) → HasTask m w (tasks.Copy q part place)
-      → IfSome (thread_at m.workers.calls q) (λ t. (i : Input) (st : State) → IsKept i st (law.is_live st) m.workers → (st.messages q).head ≡ Some (head_of t head))
-      → ((i : Input) (st : State) → IsSystem i st m.system → word ≡ word_of (st.memory (st.processes head.pid).space) place)
+  pub copied : (q pid part place word : ℕ) → HasTask m w (tasks.Copy q pid part place)
+      → ((i : Input) (st : State) → IsSystem i st m.system → word ≡ word_of (st.memory (st.processes pid).space) place)
       → Follows m.workers (entry.Copied q part place word) new → IsStep m (choice.Worker w) (Some (entry.Copied q part place word)) (with_workers m new)
-  copied q part place word head task head_is is_word follows = λ st is.
-      let own = of_live (λ t. (i : Input) (st : State) → IsKept i st (law.is_live st) m.workers → (st.messages q).head ≡ Some (head_of t head)) (message_at m.workers.calls q) task.there.0 head_is in
+  copied q pid part place word task is_word follows = λ st is.
+      let own = task.law m.input st is.workers in
       copied_step m st is w new q part place word
-      (task.law m.input st is.workers ∙ ap (λ (v : ℕ). Some (entry.Copied q part place v)) (word_is st q place own.0 head (own.1 m.input st is.workers) ∙ sym (is_word m.input st is.system)))
+      (own.0 ∙ ap (λ (v : ℕ). Some (entry.Copied q part place v)) (word_is st q place pid own.1 ∙ sym (is_word m.input st is.system)))
       (follows m.input st (law.is_live st) is.workers)
 
   -- a worker that looks at a name, and sees of it what the tree has
@@ -204,18 +207,17 @@ module _ (m : Running) (w : ℕ) (new : UnderWay) where
       (subst (λ (b : Bool). IsKeptAfter m.input st (entry.Answered w s v b) (law.is_live st) new) (sym applies) (after m.input st (law.is_live st) is.workers judged))
 
 -- the process of a live message is there
-pub head_process : (m : Running) → IsRunning m → (q : ℕ) (head : kept.Head) → is_live m.workers.calls q ≡ true
-    → IfSome (thread_at m.workers.calls q) (λ t. (i : Input) (st : State) → IsKept i st (law.is_live st) m.workers → (st.messages q).head ≡ Some (head_of t head)) → IsPid m.system.processes head.pid
-head_process m run q head live head_is =
+pub process_there : (m : Running) → IsRunning m → (q pid : ℕ) → is_live m.workers.calls q ≡ true
+    → ((i : Input) (st : State) → IsKept i st (law.is_live st) m.workers → IsOfProcess st q pid) → IsPid m.system.processes pid
+process_there m run q pid live of_process =
     let st = run.state in
     let is = run.is in
-    let own = of_live (λ t. (i : Input) (st : State) → IsKept i st (law.is_live st) m.workers → (st.messages q).head ≡ Some (head_of t head)) (message_at m.workers.calls q) live head_is in
-    let posted : (st.messages q).head ≡ Some (head_of own.0 head) = own.1 m.input st is.workers in
+    let own = head_there (st.messages q).head pid (of_process m.input st is.workers) in
     let alive : law.is_live st q ≡ true = sym (lives_as m.input st (law.is_live st) m.workers q is.workers) ∙ live in
     let reached = reached_of m.input st is.reached in
-    let owner : head.pid ≡ (st.threads own.0).owner = own_process st reached.owned m.input reached.whole.calls q (head_of own.0 head) alive posted in
-    let some : 0 < (st.threads own.0).owner = above_none (st.threads own.0).owner (reached.owned.own q (head_of own.0 head) alive posted).started in
-    let low : (st.threads own.0).owner < st.next_process = reached.whole.calls.owners own.0 in
+    let owner : pid ≡ (st.threads own.0.tid).owner = sym own.2 ∙ own_process st reached.owned m.input reached.whole.calls q own.0 alive own.1 in
+    let some : 0 < (st.threads own.0.tid).owner = above_none (st.threads own.0.tid).owner (reached.owned.own q own.0 alive own.1).started in
+    let low : (st.threads own.0.tid).owner < st.next_process = reached.whole.calls.owners own.0.tid in
     let next : st.next_process ≡ next_pid m.system.processes = is.system.next_process in
     (omega (arith, owner, some), omega (arith, owner, low, next))
 

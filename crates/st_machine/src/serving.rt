@@ -1,13 +1,13 @@
 // The steps of workers: each makes of the messages what its entry says, and gives the entry.
-ghost use Rattle.std.specs.Prelude.{◌≡◌, ◌<◌, ℕ, true, Some, IfOk, OnErr};
+ghost use Rattle.std.specs.Prelude.{◌≡◌, ◌<◌, ℕ, Some, IfOk, OnErr};
 ghost use Rattle.st_machine.specs.Machine.{HasTask, IsStep, Stands};
 ghost use Rattle.st_machine.specs.Serving.{is_applied};
-ghost use Rattle.st_messages.specs.Messages.{is_live, IsWorker};
+ghost use Rattle.st_messages.specs.Messages.{IsWorker};
 ghost use Rattle.st_trace.specs.declared.entry.Choice.TheVariants.{Worker};
 ghost use Rattle.st_workers.specs.declared.task.Task.TheVariants as tasks;
 
 use crate::machine::Machine;
-use st_base::{Errno, Seq, Worker};
+use st_base::{Errno, Pid, Seq, Worker};
 use st_filter::decide;
 use st_messages::Delivered;
 use st_trace::Entry;
@@ -35,9 +35,12 @@ impl<'a> Machine<'a> {
         match self.workers.task(worker) {
             Task::Rest => Ok(None),
             Task::Claim => Ok(Some(self.claim(alloc, worker)?)),
-            Task::Copy { seq, part, place } => {
-                Ok(Some(self.copy(alloc, worker, seq, part, place)?))
-            }
+            Task::Copy {
+                seq,
+                pid,
+                part,
+                place,
+            } => Ok(Some(self.copy(alloc, worker, seq, pid, part, place)?)),
             Task::Look { seq, part } => Ok(Some(self.look(alloc, worker, seq, part)?)),
             Task::Fault { seq, errno } => Ok(Some(self.fault(worker, seq, errno))),
             Task::Answer => Ok(Some(self.answer_of(worker))),
@@ -55,21 +58,21 @@ impl<'a> Machine<'a> {
         Ok(Entry::Claimed { worker, seq })
     }
 
-    // A worker copies the word at a place of the memory of its message's process.
+    // A worker copies the word at a place of the memory of its message's process, which is this.
     fn copy(
         &mut self,
         alloc: Global,
         worker: Worker,
         seq: Seq,
+        pid: Pid,
         part: u32,
         place: u32,
     ) -> Result<Entry, AllocError>
-        requires task { HasTask self.old worker (tasks.Copy seq part place) }
+        requires task { HasTask self.old worker (tasks.Copy seq pid part place) }
         ensures step { IfOk result (λ entry. IsStep self.old (Worker worker) (Some entry) self.new) }
         ensures err { OnErr result (Stands self.old self.new) }
         ensures input { self.new.input ≡ self.old.input }
     {
-        let pid = self.workers.head(seq).pid;
         let word = self.system.word(pid, place);
         self.workers.copy(alloc, worker, word)?;
         Ok(Entry::Copied {

@@ -5,8 +5,10 @@ use Rattle.std.proofs.lemmas.List.{length-set}
 use Rattle.std.proofs.lemmas.Option.{none-some, same_Some}
 use Rattle.st_effects.specs.Progress.{Progress, Word, Look, Stuck, Ready}
 use Rattle.st_lookaside.specs.Part.{Filled, with_walk, without_walk}
-use Rattle.st_lookaside.specs.Slot.{Slot, after_begin, after_look, after_word, begun_at, is_readied, part_at, part_next, progress_of, unreadied, with_part, IsInOrder, IsLookNext, IsWordNext}
+use Rattle.st_lookaside.specs.Slot.{Slot, after_begin, after_look, after_word, begun_at, is_readied, next_of, part_at, part_next, progress_of, unreadied, with_part, IsInOrder, IsLookNext, IsReady, IsWordNext}
 use Rattle.st_lookaside.specs.Slots.{slot_at, ChangesSlot}
+use Rattle.st_lookaside.specs.declared.slot.Next.TheVariants as next
+use Rattle.st_lookaside.proofs.Callers.{ready_asked}
 use Rattle.st_names.specs.declared.seen.SeenText.{SeenText}
 use Rattle.st_workers.specs.Filling.{AreSame, HasSame, IsSameSlot}
 
@@ -99,6 +101,15 @@ last_change old mid new seq a b first second other = elim (cases_eq other seq) [
 
 pub changed_to : (old new : List Slot) (seq : ℕ) (o : Option Slot) → ChangesSlot old seq o new → slot_at new seq ≡ o
 changed_to old new seq o changes = changes seq ∙ ap (λ (c : Bool). cond c o (slot_at old seq)) (eq-eqb seq seq refl)
+
+-- where nothing more is needed behind a word, all is there
+pub word_ready : (old mid : List Slot) (seq word : ℕ) → IsSome (slot_at old seq) → IfSome (slot_at old seq) (λ slot. ChangesSlot old seq (Some (after_word slot word)) mid)
+    → IfSome (slot_at old seq) (λ slot. next.Ready ≡ next_of (progress_of (after_word slot word))) → IfSome (slot_at mid seq) (λ slot. IsReady (progress_of slot))
+word_ready old mid seq word there filled asks =
+    let slot = the_slot (slot_at old seq) there in
+    let changes : ChangesSlot old seq (Some (after_word slot.0 word)) mid = told (slot_at old seq) (λ s. ChangesSlot old seq (Some (after_word s word)) mid) slot.0 slot.1 filled in
+    tells (slot_at mid seq) (λ s. IsReady (progress_of s)) (after_word slot.0 word) (changed_to old mid seq (Some (after_word slot.0 word)) changes)
+    (ready_asked (progress_of (after_word slot.0 word)) (told (slot_at old seq) (λ s. next.Ready ≡ next_of (progress_of (after_word s word))) slot.0 slot.1 asks))
 
 -- ---- what is taken back
 

@@ -1,5 +1,7 @@
 -- A worker's copy and a worker's look, by the tasks that ask for them.
-use Rattle.std.proofs.Common.{◌≡◌, ◌-◌, ℕ, set, Some, IfSome, subst}
+use Rattle.std.proofs.Common.{◌≡◌, ◌-◌, ◌∙◌, ℕ, get_or, set, Some, IfSome, OnErr, OnOk, Result, Ok, Err, ap, sym, subst}
+use Rattle.std.proofs.lemmas.List.{set-get_or}
+use Rattle.std.proofs.lemmas.Option.{same_Some}
 use Rattle.st_lookaside.specs.Slot.{after_begin, after_look, after_word, Slot}
 use Rattle.st_lookaside.specs.Slots.{slot_at, ChangesSlot}
 use Rattle.st_names.specs.Name.{Components}
@@ -15,6 +17,23 @@ use Rattle.st_workers.specs.declared.turn.Turn.TheVariants.{Working}
 use Rattle.st_workers.proofs.Filled.{told}
 use Rattle.st_workers.proofs.Served.{fills_look, fills_word, served_kept, served_whole}
 use Rattle.st_workers.proofs.Tasks.{copy_is, look_asked, look_is, word_asked, working_slot}
+use Rattle.st_workers.proofs.Turns.{item_here, number_within, read_is}
+
+-- what holds of a call's result, whether it took what it was given or not
+pub either_way : {A E : Type 0} (r : Result A E) (P Q R : Type 0) → (P → R) → (Q → R) → OnOk r P → OnErr r Q → R
+either_way (Ok x) P Q R taken not_taken ok err = taken ok
+either_way (Err e) P Q R taken not_taken ok err = not_taken err
+
+pub both_err : {A E : Type 0} (r : Result A E) (P Q : Type 0) → OnErr r P → OnErr r Q → OnErr r (P × Q)
+both_err (Ok x) P Q p q = p
+both_err (Err e) P Q p q = (p, q)
+
+-- a worker whose turn is put as it was read stands as before
+pub put_again : (old new : UnderWay) (w : ℕ) (was read t : Turn) → turn_at old w ≡ Some was → read ≡ get_or old.turns (w - 1) read → t ≡ read → new.turns ≡ set old.turns (w - 1) t → new.turns ≡ old.turns
+put_again old new w was read t at here same put =
+    let within = number_within old.turns w was at in
+    let its : get_or old.turns (w - 1) t ≡ was = same_Some (get_or old.turns (w - 1) t) was (sym (item_here old.turns w t within.0 within.1) ∙ at) in
+    put ∙ ap (set old.turns (w - 1)) (same ∙ read_is old.turns w was read at here ∙ sym its) ∙ set-get_or old.turns (w - 1) t
 
 module _ (old new : UnderWay) (w seq : ℕ) (t : Turn) (working : turn_at old w ≡ Some (Working seq)) (whole : IsWhole old) (calls : new.calls ≡ old.calls) (put : new.turns ≡ set old.turns (w - 1) t) where
   slot : (slot : Slot) × (slot_at old.slots seq ≡ Some slot)
@@ -33,9 +52,9 @@ module _ (old new : UnderWay) (w seq : ℕ) (t : Turn) (working : turn_at old w 
         let asked = word_asked old w seq slot.0 working slot.1 is in
         served_whole (entry.Copied seq asked.0 asked.1 word) old new w seq slot.0 (after_word slot.0 word) t working slot.1 calls slots_word put turn_word (fills_word seq asked.0 asked.1 word slot.0 asked.2) whole
 
-    pub copied_follows : (q part place : ℕ) → task_of old w ≡ task.Copy q part place → Follows old (entry.Copied q part place word) new
-    copied_follows q part place e =
-        let asked = copy_is old w seq slot.0 working slot.1 q part place e in
+    pub copied_follows : (q pid part place : ℕ) → task_of old w ≡ task.Copy q pid part place → Follows old (entry.Copied q part place word) new
+    copied_follows q pid part place e =
+        let asked = copy_is old w seq slot.0 working slot.1 q pid part place e in
         let follows : Follows old (entry.Copied seq part place word) new = λ i st alive is.
         served_kept (entry.Copied seq part place word) old new w seq slot.0 (after_word slot.0 word) t working slot.1 calls slots_word put turn_word (fills_word seq part place word slot.0 asked.1) i st.messages st.turns alive st.posted is in
         subst (λ (n : ℕ). Follows old (entry.Copied n part place word) new) asked.0 follows

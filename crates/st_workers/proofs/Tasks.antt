@@ -1,5 +1,6 @@
 -- What a worker does next is what the machine has it do.
 use Rattle.std.proofs.Common.{◌≡◌, ◌≢◌, ◌≤◌, ℕ, ◌&&◌, ◌||◌, not, nat_lt, nat_le, Bool, true, false, cond, Option, Some, None, IfSome, IsSome, inl, inr, refl, ap, sym, ◌∙◌, subst, arith}
+use Rattle.std.specs.Prelude.{option_map}
 use Rattle.std.proofs.lemmas.Bool.{cases_lt, le-leb, lt-ltb, true≢false}
 use Rattle.std.proofs.lemmas.Option.{none-some, same_Some}
 use Rattle.st_base.specs.declared.errno.Errno.{Errno}
@@ -19,7 +20,7 @@ use Rattle.st_law.specs.Messages.{Head}
 use Rattle.st_law.specs.State.{Message, State, is_live, is_ready, is_waiting, is_worker, progress_in, read_for, seq_at_work, snapshot_of_progress, worker_at}
 use Rattle.st_law.proofs.Least.{least}
 use Rattle.st_workers.specs.Kept.{at_work, Agrees, HasCome, IsKept, IsLive, IsState, IsTurn, IsWhole}
-use Rattle.st_workers.specs.Tasks.{idle_task, task_at, task_of, task_of_slot, task_of_turn, IsCopy, IsFault, IsLook, IsTask}
+use Rattle.st_workers.specs.Tasks.{idle_task, task_at, task_of, task_of_slot, task_of_turn, IsCopy, IsFault, IsLook, IsOfProcess, IsTask}
 use Rattle.st_workers.specs.UnderWay.{UnderWay, found_in, turn_at}
 use Rattle.st_workers.specs.declared.task.Task.TheVariants as task
 use Rattle.st_workers.specs.declared.turn.Turn.{Turn}
@@ -36,7 +37,7 @@ idle_claims (Some seq) e = refl
 slot_claims : (seq : ℕ) (o : Option Slot) → task_of_slot seq o ≡ task.Claim → ⊥
 slot_claims seq None e = cc
 slot_claims seq (Some slot) e = by (progress_of slot) e where
-  by : (p : Progress) → task_at seq p ≡ task.Claim → ⊥
+  by : (p : Progress) → task_at seq slot.head.pid p ≡ task.Claim → ⊥
   by (Word part place) e = cc
   by (Look part name) e = cc
   by (Stuck errno) e = cc
@@ -53,11 +54,11 @@ idle_rests : (o : Option ℕ) → idle_task o ≡ task.Answer → ⊥
 idle_rests None e = cc
 idle_rests (Some seq) e = cc
 
-ready_task : (seq : ℕ) (p : Progress) → task_at seq p ≡ task.Answer → is_ready p ≡ true
-ready_task seq (Word part place) e = cc
-ready_task seq (Look part name) e = cc
-ready_task seq (Stuck errno) e = cc
-ready_task seq (Whole args) e = refl
+ready_task : (seq pid : ℕ) (p : Progress) → task_at seq pid p ≡ task.Answer → is_ready p ≡ true
+ready_task seq pid (Word part place) e = cc
+ready_task seq pid (Look part name) e = cc
+ready_task seq pid (Stuck errno) e = cc
+ready_task seq pid (Whole args) e = refl
 
 module _ (kept : UnderWay) (whole : IsWhole kept) (w : ℕ) where
   not_working : (seq : ℕ) → turn_at kept w ≡ Some (Working seq) → task_of_slot seq (slot_at kept.slots seq) ≡ task.Answer → ⊥
@@ -65,7 +66,7 @@ module _ (kept : UnderWay) (whole : IsWhole kept) (w : ℕ) where
       let at : IsTurn whole.messages whole.alive (whole.turns w) (Working seq) = whole.agrees.workers w (Working seq) working in
       let live : IsLive whole.turns seq (whole.messages seq) (found_in kept) = whole.agrees.live seq at.1 in
       let same = same_progress (whole.messages seq) live.tid live.slot live.is_slot in
-      true≢false (sym (ready_task seq (progress_of live.slot) (sym (ap (task_of_slot seq) live.slot_is) ∙ e)) ∙ sym (ap is_ready same) ∙ at.2)
+      true≢false (sym (ready_task seq live.slot.head.pid (progress_of live.slot) (sym (ap (task_of_slot seq) live.slot_is) ∙ e)) ∙ sym (ap is_ready same) ∙ at.2)
 
   answers_by : (o : Option Turn) → turn_at kept w ≡ o → task_of_turn kept o ≡ task.Answer → (s : Snapshot) × (turn_at kept w ≡ Some (Ready s))
   answers_by None o_is e = cc
@@ -156,21 +157,23 @@ module _ (i : Input) (st : State) (kept : UnderWay) (w : ℕ) (is : IsKept i st 
 
   -- ---- a worker at a number
 
-  working_task : (q : ℕ) (p : Progress) → worker_at st w ≡ Some q → progress_in st q ≡ p → is_ready p ≡ false → IsTask i st kept w (task_at q p)
-  working_task q (Word part place) at p_is unready = entry_by i st w (Some q) there at ∙ ap (working_entry i st w q) p_is
-  working_task q (Look part name) at p_is unready = (name, entry_by i st w (Some q) there at ∙ ap (working_entry i st w q) p_is)
-  working_task q (Stuck errno) at p_is unready = entry_by i st w (Some q) there at ∙ ap (working_entry i st w q) p_is
-  working_task q (Whole args) at p_is unready = absurd (true≢false unready)
+  working_task : (q pid : ℕ) (p : Progress) → worker_at st w ≡ Some q → progress_in st q ≡ p → is_ready p ≡ false → IsOfProcess st q pid → IsTask i st kept w (task_at q pid p)
+  working_task q pid (Word part place) at p_is unready of_process = (entry_by i st w (Some q) there at ∙ ap (working_entry i st w q) p_is, of_process)
+  working_task q pid (Look part name) at p_is unready of_process = (name, entry_by i st w (Some q) there at ∙ ap (working_entry i st w q) p_is)
+  working_task q pid (Stuck errno) at p_is unready of_process = entry_by i st w (Some q) there at ∙ ap (working_entry i st w q) p_is
+  working_task q pid (Whole args) at p_is unready of_process = absurd (true≢false unready)
 
   at_live : (o : Option ℕ) (q : ℕ) → o ≡ Some q → is_live st q ≡ true → seq_at_work st o ≡ Some q
   at_live o q is live = ap (seq_at_work st) is ∙ ap (λ (b : Bool). cond (b || is_ready (progress_in st q)) (Some q) None) live
 
-  pub working_is : (q : ℕ) (slot : Slot) → turn_at kept w ≡ Some (Working q) → slot_at kept.slots q ≡ Some slot → IsTask i st kept w (task_at q (progress_of slot))
+  pub working_is : (q : ℕ) (slot : Slot) → turn_at kept w ≡ Some (Working q) → slot_at kept.slots q ≡ Some slot → IsTask i st kept w (task_at q slot.head.pid (progress_of slot))
   working_is q slot working slot_is =
       let turn : IsTurn st.messages (is_live st) (st.turns w) (Working q) = is.agrees.workers w (Working q) working in
       let live : IsLive st.turns q (st.messages q) (found_in kept) = is.agrees.live q turn.1 in
-      let same : progress_in st q ≡ progress_of slot = same_progress (st.messages q) live.tid live.slot live.is_slot ∙ ap progress_of (same_Some live.slot slot (sym live.slot_is ∙ slot_is)) in
-      working_task q (progress_of slot) (at_live (st.turns w) q turn.0 turn.1) same (ap is_ready (sym same) ∙ turn.2)
+      let its : live.slot ≡ slot = same_Some live.slot slot (sym live.slot_is ∙ slot_is) in
+      let same : progress_in st q ≡ progress_of slot = same_progress (st.messages q) live.tid live.slot live.is_slot ∙ ap progress_of its in
+      let of_process : IsOfProcess st q slot.head.pid = ap (option_map (λ (head : Head). head.pid)) live.is_slot.head ∙ ap (λ (s : Slot). Some s.head.pid) its in
+      working_task q slot.head.pid (progress_of slot) (at_live (st.turns w) q turn.0 turn.1) same (ap is_ready (sym same) ∙ turn.2) of_process
 
   -- the machine's entry at a number that has come so far
   pub working_entry_is : (q : ℕ) (slot : Slot) (p : Progress) → turn_at kept w ≡ Some (Working q) → slot_at kept.slots q ≡ Some slot → progress_of slot ≡ p → worker_entry i st w ≡ working_entry i st w q p
@@ -216,64 +219,64 @@ working_slot kept whole w q working =
 
 -- ---- what a task asks for
 
-word_by : (seq : ℕ) (p : Progress) → IsCopy (task_at seq p) → (part : ℕ) × (place : ℕ) × (p ≡ Word part place)
-word_by seq (Word part place) is = (part, place, refl)
-word_by seq (Look part name) is = absurd is
-word_by seq (Stuck errno) is = absurd is
-word_by seq (Whole args) is = absurd is
+word_by : (seq pid : ℕ) (p : Progress) → IsCopy (task_at seq pid p) → (part : ℕ) × (place : ℕ) × (p ≡ Word part place)
+word_by seq pid (Word part place) is = (part, place, refl)
+word_by seq pid (Look part name) is = absurd is
+word_by seq pid (Stuck errno) is = absurd is
+word_by seq pid (Whole args) is = absurd is
 
-look_by : (seq : ℕ) (p : Progress) → IsLook (task_at seq p) → (part : ℕ) × (name : Components) × (p ≡ Look part name)
-look_by seq (Word part place) is = absurd is
-look_by seq (Look part name) is = (part, name, refl)
-look_by seq (Stuck errno) is = absurd is
-look_by seq (Whole args) is = absurd is
+look_by : (seq pid : ℕ) (p : Progress) → IsLook (task_at seq pid p) → (part : ℕ) × (name : Components) × (p ≡ Look part name)
+look_by seq pid (Word part place) is = absurd is
+look_by seq pid (Look part name) is = (part, name, refl)
+look_by seq pid (Stuck errno) is = absurd is
+look_by seq pid (Whole args) is = absurd is
 
-fault_by : (seq : ℕ) (p : Progress) → IsFault (task_at seq p) → (errno : Errno) × (p ≡ Stuck errno)
-fault_by seq (Word part place) is = absurd is
-fault_by seq (Look part name) is = absurd is
-fault_by seq (Stuck errno) is = (errno, refl)
-fault_by seq (Whole args) is = absurd is
+fault_by : (seq pid : ℕ) (p : Progress) → IsFault (task_at seq pid p) → (errno : Errno) × (p ≡ Stuck errno)
+fault_by seq pid (Word part place) is = absurd is
+fault_by seq pid (Look part name) is = absurd is
+fault_by seq pid (Stuck errno) is = (errno, refl)
+fault_by seq pid (Whole args) is = absurd is
 
-copy_parts : (seq : ℕ) (p : Progress) (q part place : ℕ) → task_at seq p ≡ task.Copy q part place → (seq ≡ q) × (p ≡ Word part place)
-copy_parts seq (Word a b) q part place e = (cc, cc)
-copy_parts seq (Look a b) q part place e = cc
-copy_parts seq (Stuck errno) q part place e = cc
-copy_parts seq (Whole args) q part place e = cc
+copy_parts : (seq pid : ℕ) (p : Progress) (q its part place : ℕ) → task_at seq pid p ≡ task.Copy q its part place → (seq ≡ q) × (p ≡ Word part place)
+copy_parts seq pid (Word a b) q its part place e = (cc, cc)
+copy_parts seq pid (Look a b) q its part place e = cc
+copy_parts seq pid (Stuck errno) q its part place e = cc
+copy_parts seq pid (Whole args) q its part place e = cc
 
-look_parts : (seq : ℕ) (p : Progress) (q part : ℕ) → task_at seq p ≡ task.Look q part → (seq ≡ q) × (name : Components) × (p ≡ Look part name)
-look_parts seq (Word a b) q part e = cc
-look_parts seq (Look a b) q part e = (cc, b, cc)
-look_parts seq (Stuck errno) q part e = cc
-look_parts seq (Whole args) q part e = cc
+look_parts : (seq pid : ℕ) (p : Progress) (q part : ℕ) → task_at seq pid p ≡ task.Look q part → (seq ≡ q) × (name : Components) × (p ≡ Look part name)
+look_parts seq pid (Word a b) q part e = cc
+look_parts seq pid (Look a b) q part e = (cc, b, cc)
+look_parts seq pid (Stuck errno) q part e = cc
+look_parts seq pid (Whole args) q part e = cc
 
-fault_parts : (seq : ℕ) (p : Progress) (q : ℕ) (errno : Errno) → task_at seq p ≡ task.Fault q errno → (seq ≡ q) × (p ≡ Stuck errno)
-fault_parts seq (Word a b) q errno e = cc
-fault_parts seq (Look a b) q errno e = cc
-fault_parts seq (Stuck x) q errno e = (cc, cc)
-fault_parts seq (Whole args) q errno e = cc
+fault_parts : (seq pid : ℕ) (p : Progress) (q : ℕ) (errno : Errno) → task_at seq pid p ≡ task.Fault q errno → (seq ≡ q) × (p ≡ Stuck errno)
+fault_parts seq pid (Word a b) q errno e = cc
+fault_parts seq pid (Look a b) q errno e = cc
+fault_parts seq pid (Stuck x) q errno e = (cc, cc)
+fault_parts seq pid (Whole args) q errno e = cc
 
 module _ (kept : UnderWay) (w seq : ℕ) (slot : Slot) (working : turn_at kept w ≡ Some (Working seq)) (there : slot_at kept.slots seq ≡ Some slot) where
   -- the task of a worker at a number is what its slot asks for
-  pub task_is : task_of kept w ≡ task_at seq (progress_of slot)
+  pub task_is : task_of kept w ≡ task_at seq slot.head.pid (progress_of slot)
   task_is = ap (task_of_turn kept) working ∙ ap (task_of_slot seq) there
 
   pub word_asked : IsCopy (task_of kept w) → (part : ℕ) × (place : ℕ) × (progress_of slot ≡ Word part place)
-  word_asked is = word_by seq (progress_of slot) (subst IsCopy task_is is)
+  word_asked is = word_by seq slot.head.pid (progress_of slot) (subst IsCopy task_is is)
 
   pub look_asked : IsLook (task_of kept w) → (part : ℕ) × (name : Components) × (progress_of slot ≡ Look part name)
-  look_asked is = look_by seq (progress_of slot) (subst IsLook task_is is)
+  look_asked is = look_by seq slot.head.pid (progress_of slot) (subst IsLook task_is is)
 
   pub fault_asked : IsFault (task_of kept w) → (errno : Errno) × (progress_of slot ≡ Stuck errno)
-  fault_asked is = fault_by seq (progress_of slot) (subst IsFault task_is is)
+  fault_asked is = fault_by seq slot.head.pid (progress_of slot) (subst IsFault task_is is)
 
-  pub copy_is : (q part place : ℕ) → task_of kept w ≡ task.Copy q part place → (seq ≡ q) × (progress_of slot ≡ Word part place)
-  copy_is q part place e = copy_parts seq (progress_of slot) q part place (sym task_is ∙ e)
+  pub copy_is : (q pid part place : ℕ) → task_of kept w ≡ task.Copy q pid part place → (seq ≡ q) × (progress_of slot ≡ Word part place)
+  copy_is q pid part place e = copy_parts seq slot.head.pid (progress_of slot) q pid part place (sym task_is ∙ e)
 
   pub look_is : (q part : ℕ) → task_of kept w ≡ task.Look q part → (seq ≡ q) × (name : Components) × (progress_of slot ≡ Look part name)
-  look_is q part e = look_parts seq (progress_of slot) q part (sym task_is ∙ e)
+  look_is q part e = look_parts seq slot.head.pid (progress_of slot) q part (sym task_is ∙ e)
 
   pub fault_is : (q : ℕ) (errno : Errno) → task_of kept w ≡ task.Fault q errno → (seq ≡ q) × (progress_of slot ≡ Stuck errno)
-  fault_is q errno e = fault_parts seq (progress_of slot) q errno (sym task_is ∙ e)
+  fault_is q errno e = fault_parts seq slot.head.pid (progress_of slot) q errno (sym task_is ∙ e)
 
 -- the slot of a number at which a name is looked at
 pub look_slot : (kept : UnderWay) (w seq : ℕ) → IsWhole kept → turn_at kept w ≡ Some (Working seq) → IsLook (task_of kept w) → IsSome (slot_at kept.slots seq) × IfSome (slot_at kept.slots seq) (λ slot. IsLookNext (progress_of slot))

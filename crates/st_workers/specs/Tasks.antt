@@ -1,5 +1,5 @@
 -- What a worker does next, by what is kept and by the machine.
-use Rattle.std.specs.Prelude.{◌≡◌, ◌<◌, ℕ, true, Option, Some, None}
+use Rattle.std.specs.Prelude.{◌≡◌, ◌<◌, ℕ, true, Option, Some, None, option_map}
 use Rattle.st_calls.specs.declared.judged.Snapshot.{Snapshot}
 use Rattle.st_effects.specs.Progress.{Progress, Word, Look, Stuck, Ready}
 use Rattle.st_filter.specs.Judging.{verdict}
@@ -12,6 +12,7 @@ use Rattle.st_names.specs.Name.{Components}
 use Rattle.st_trace.specs.declared.entry.Entry.TheVariants as entry
 use Rattle.st_law.specs.declared.input.Input.{Input}
 use Rattle.st_law.specs.Machine.{word_for, worker_entry}
+use Rattle.st_law.specs.Messages.{Head}
 use Rattle.st_law.specs.State.{State, is_live, read_for}
 use Rattle.st_workers.specs.UnderWay.{UnderWay, turn_at}
 use Rattle.st_workers.specs.declared.task.Task.{Task}
@@ -24,17 +25,17 @@ abbrev pub idle_task : Option ℕ → Task
 idle_task None = Rest
 idle_task (Some seq) = Claim
 
--- what a worker does at a number that has come so far
-abbrev pub task_at : ℕ → Progress → Task
-task_at seq (Word part place) = Copy seq part place
-task_at seq (Look part name) = LookAt seq part
-task_at seq (Stuck errno) = Fault seq errno
-task_at seq (Ready args) = Answer
+-- what a worker does at a number of this process that has come so far
+abbrev pub task_at : ℕ → ℕ → Progress → Task
+task_at seq pid (Word part place) = Copy seq pid part place
+task_at seq pid (Look part name) = LookAt seq part
+task_at seq pid (Stuck errno) = Fault seq errno
+task_at seq pid (Ready args) = Answer
 
 -- the same by its slot
 abbrev pub task_of_slot : ℕ → Option Slot → Task
 task_of_slot seq None = Rest
-task_of_slot seq (Some slot) = task_at seq (progress_of slot)
+task_of_slot seq (Some slot) = task_at seq slot.head.pid (progress_of slot)
 
 -- what a worker does, by what it is at
 abbrev pub task_of_turn : UnderWay → Option Turn → Task
@@ -51,7 +52,7 @@ task_of kept worker = task_of_turn kept (turn_at kept worker)
 abbrev pub IsBusy : Task → Type 0
 IsBusy Rest = ⊥
 IsBusy Claim = ⊥
-IsBusy (Copy seq part place) = Unit {0}
+IsBusy (Copy seq pid part place) = Unit {0}
 IsBusy (LookAt seq part) = Unit {0}
 IsBusy (Fault seq errno) = Unit {0}
 IsBusy Answer = ⊥
@@ -60,7 +61,7 @@ IsBusy Answer = ⊥
 abbrev pub IsCopy : Task → Type 0
 IsCopy Rest = ⊥
 IsCopy Claim = ⊥
-IsCopy (Copy seq part place) = Unit {0}
+IsCopy (Copy seq pid part place) = Unit {0}
 IsCopy (LookAt seq part) = ⊥
 IsCopy (Fault seq errno) = ⊥
 IsCopy Answer = ⊥
@@ -69,7 +70,7 @@ IsCopy Answer = ⊥
 abbrev pub IsLook : Task → Type 0
 IsLook Rest = ⊥
 IsLook Claim = ⊥
-IsLook (Copy seq part place) = ⊥
+IsLook (Copy seq pid part place) = ⊥
 IsLook (LookAt seq part) = Unit {0}
 IsLook (Fault seq errno) = ⊥
 IsLook Answer = ⊥
@@ -78,7 +79,7 @@ IsLook Answer = ⊥
 abbrev pub IsFault : Task → Type 0
 IsFault Rest = ⊥
 IsFault Claim = ⊥
-IsFault (Copy seq part place) = ⊥
+IsFault (Copy seq pid part place) = ⊥
 IsFault (LookAt seq part) = ⊥
 IsFault (Fault seq errno) = Unit {0}
 IsFault Answer = ⊥
@@ -87,16 +88,20 @@ IsFault Answer = ⊥
 abbrev pub IsThere : HeldCalls → Task → Type 0
 IsThere calls Rest = Unit {0}
 IsThere calls Claim = Unit {0}
-IsThere calls (Copy seq part place) = (is_live_here calls seq ≡ true) × (place < SPACE_WORDS)
+IsThere calls (Copy seq pid part place) = (is_live_here calls seq ≡ true) × (place < SPACE_WORDS)
 IsThere calls (LookAt seq part) = is_live_here calls seq ≡ true
 IsThere calls (Fault seq errno) = is_live_here calls seq ≡ true
 IsThere calls Answer = Unit {0}
+
+-- a message is of this process
+abbrev pub IsOfProcess : State → ℕ → ℕ → Type 0
+IsOfProcess st q pid = option_map (λ (head : Head). head.pid) (st.messages q).head ≡ Some pid
 
 -- the machine has the worker do that: its next entry is that of the task
 abbrev pub IsTask : Input → State → UnderWay → ℕ → Task → Type 0
 IsTask i st kept worker Rest = worker_entry i st worker ≡ None
 IsTask i st kept worker Claim = (q : ℕ) × (worker_entry i st worker ≡ Some (entry.Claimed worker q))
-IsTask i st kept worker (Copy seq part place) = worker_entry i st worker ≡ Some (entry.Copied seq part place (word_for st seq place))
+IsTask i st kept worker (Copy seq pid part place) = (worker_entry i st worker ≡ Some (entry.Copied seq part place (word_for st seq place))) × IsOfProcess st seq pid
 IsTask i st kept worker (LookAt seq part) = (name : Components) × (worker_entry i st worker ≡ Some (entry.Looked seq part name (look st.tree name)))
 IsTask i st kept worker (Fault seq errno) = worker_entry i st worker ≡ Some (entry.Faulted seq errno)
 IsTask i st kept worker Answer = (s : Snapshot) × (turn_at kept worker ≡ Some (turn.Ready s)) × (worker_entry i st worker ≡ Some (entry.Answered worker s (verdict (read_for i s.policy s.rule) s) (is_live st s.seq)))

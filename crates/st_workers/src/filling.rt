@@ -1,27 +1,35 @@
 // One more word or look for a message, and the turn of its worker behind it.
-ghost use Rattle.std.specs.Prelude.{◌≡◌, ℕ, true, Some, IsSome, IfSome, IfOk, OnErr};
+ghost use Rattle.std.specs.Prelude.{◌≡◌, ℕ, true, Some, IsSome, IfSome, IfOk, OnOk, OnErr};
 ghost use Rattle.st_effects.specs.Progress.{Progress};
-ghost use Rattle.st_lookaside.specs.Slot.{after_begin, after_look, after_word, next_of, progress_of, IsInside, IsLookNext, IsWordNext};
+ghost use Rattle.st_lookaside.specs.Slot.{after_begin, after_look, after_word, next_of, progress_of, unreadied, IsInOrder, IsInside, IsLookNext, IsReady, IsWordNext, Slot};
 ghost use Rattle.st_lookaside.specs.Slots.{slot_at, ChangesSlot};
 ghost use Rattle.st_messages.specs.Messages.{is_live, HeldCalls};
 ghost use Rattle.st_names.specs.Seen.{seen_text};
+ghost use Rattle.st_names.specs.declared.seen.SeenText.{SeenText};
 ghost use Rattle.st_workers.specs.Filling.{AreSame, IsTurnFor};
 ghost use Rattle.st_workers.specs.Tasks.{task_at, IsThere};
+ghost use Rattle.st_workers.specs.declared.turn.Turn.TheVariants.{Ready, Working};
 
 use crate::task::Task;
 use crate::turn::Turn;
-use st_base::Seq;
+use st_base::{Pid, Seq};
+use st_calls::Snapshot;
 use st_lookaside::{Next, Slots};
 use st_names::Seen;
 use std::alloc::{AllocError, Global};
 
-/// What a worker does at a message that needs this next.
-pub fn task_at(seq: Seq, next: Next) -> Task
-    ensures task { (progress : Progress) → next ≡ next_of progress → result ≡ task_at seq progress }
+/// What a worker does at a message of this process that needs this next.
+pub fn task_at(seq: Seq, pid: Pid, next: Next) -> Task
+    ensures task { (progress : Progress) → next ≡ next_of progress → result ≡ task_at seq pid progress }
     ensures there { (calls : HeldCalls) → is_live calls seq ≡ true → IsInside next → IsThere calls result }
 {
     match next {
-        Next::Word(part, place) => Task::Copy { seq, part, place },
+        Next::Word(part, place) => Task::Copy {
+            seq,
+            pid,
+            part,
+            place,
+        },
         Next::Look(part) => Task::Look { seq, part },
         Next::Fault(errno) => Task::Fault { seq, errno },
         Next::Ready => Task::Answer,
@@ -40,17 +48,17 @@ pub fn turn_for(slots: &Slots, alloc: Global, seq: Seq) -> Result<Turn, AllocErr
     Ok(Turn::Working(seq))
 }
 
-/// Takes the word that a message needs next, and gives the turn of its worker. Without memory nothing is taken.
-pub fn take_word(slots: &mut Slots, alloc: Global, seq: Seq, word: u64) -> Result<Turn, AllocError>
+// Seals a message of which its last word or look made the whole. Without memory that word or look is undone.
+fn seal_last(slots: &mut Slots, alloc: Global, seq: Seq) -> Result<Snapshot, AllocError>
     requires slot { IsSome (slot_at slots.old seq) }
-    requires next { IfSome (slot_at slots.old seq) (λ slot. IsWordNext (progress_of slot)) }
-    ensures slot { IfOk result (λ turn. IfSome (slot_at slots.old seq) (λ slot. ChangesSlot slots.old seq (Some (after_word slot word)) slots.new)) }
-    ensures turn { IfOk result (λ turn. IfSome (slot_at slots.old seq) (λ slot. IsTurnFor seq (after_word slot word) turn)) }
-    ensures err { OnErr result (AreSame slots.old slots.new) }
+    requires ready { IfSome (slot_at slots.old seq) (λ slot. IsReady (progress_of slot)) }
+    ensures same { OnOk result (slots.new ≡ slots.old) }
+    ensures turn { IfOk result (λ copies. IfSome (slot_at slots.old seq) (λ slot. IsTurnFor seq slot (Ready copies))) }
+    ensures word { OnErr result ((before : Slot) (word : ℕ) → IsInOrder before → IsWordNext (progress_of before) → slot_at slots.old seq ≡ Some (after_word before word) → ChangesSlot slots.old seq (Some (unreadied before)) slots.new) }
+    ensures look { OnErr result ((before : Slot) (seen : SeenText) → IsInOrder before → IsLookNext (progress_of before) → slot_at slots.old seq ≡ Some (after_look before seen) → ChangesSlot slots.old seq (Some (unreadied before)) slots.new) }
 {
-    slots.fill(seq, word);
-    match turn_for(slots, alloc, seq) {
-        Ok(turn) => Ok(turn),
+    match slots.seal(alloc, seq) {
+        Ok(copies) => Ok(copies),
         Err(error) => {
             slots.take_back(seq);
             Err(error)
@@ -58,26 +66,50 @@ pub fn take_word(slots: &mut Slots, alloc: Global, seq: Seq, word: u64) -> Resul
     }
 }
 
-/// Takes what was seen of the name that a message looks at next, and gives the turn of its worker. Without memory nothing is taken.
+/// Takes the word that a message needs next. Where all is there behind it, it is sealed, and its worker's turn is to answer; else the
+/// turn stays as it is. Without memory nothing is taken.
+pub fn take_word(
+    slots: &mut Slots,
+    turn: &mut Turn,
+    alloc: Global,
+    seq: Seq,
+    word: u64,
+) -> Result<(), AllocError>
+    requires slot { IsSome (slot_at slots.old seq) }
+    requires next { IfSome (slot_at slots.old seq) (λ slot. IsWordNext (progress_of slot)) }
+    requires turn { turn.old ≡ Working seq }
+    ensures slot { OnOk result (IfSome (slot_at slots.old seq) (λ slot. ChangesSlot slots.old seq (Some (after_word slot word)) slots.new)) }
+    ensures turn { OnOk result (IfSome (slot_at slots.old seq) (λ slot. IsTurnFor seq (after_word slot word) turn.new)) }
+    ensures err { OnErr result (AreSame slots.old slots.new) }
+    ensures stays { OnErr result (turn.new ≡ turn.old) }
+{
+    if let Next::Ready = slots.fill(seq, word) {
+        *turn = Turn::Ready(seal_last(slots, alloc, seq)?);
+    }
+    Ok(())
+}
+
+/// Takes what was seen of the name that a message looks at next. Where all is there behind it, it is sealed, and its worker's turn is to
+/// answer; else the turn stays as it is. Without memory nothing is taken.
 pub fn take_look(
     slots: &mut Slots,
+    turn: &mut Turn,
     alloc: Global,
     seq: Seq,
     seen: Seen<'_>,
-) -> Result<Turn, AllocError>
+) -> Result<(), AllocError>
     requires slot { IsSome (slot_at slots.old seq) }
     requires next { IfSome (slot_at slots.old seq) (λ slot. IsLookNext (progress_of slot)) }
-    ensures slot { IfOk result (λ turn. IfSome (slot_at slots.old seq) (λ slot. ChangesSlot slots.old seq (Some (after_look (after_begin slot) (seen_text seen.entry))) slots.new)) }
-    ensures turn { IfOk result (λ turn. IfSome (slot_at slots.old seq) (λ slot. IsTurnFor seq (after_look (after_begin slot) (seen_text seen.entry)) turn)) }
+    requires turn { turn.old ≡ Working seq }
+    ensures slot { OnOk result (IfSome (slot_at slots.old seq) (λ slot. ChangesSlot slots.old seq (Some (after_look (after_begin slot) (seen_text seen.entry))) slots.new)) }
+    ensures turn { OnOk result (IfSome (slot_at slots.old seq) (λ slot. IsTurnFor seq (after_look (after_begin slot) (seen_text seen.entry)) turn.new)) }
     ensures err { OnErr result (AreSame slots.old slots.new) }
+    ensures stays { OnErr result (turn.new ≡ turn.old) }
 {
     slots.begin_part(alloc, seq)?;
     slots.saw(alloc, seq, seen)?;
-    match turn_for(slots, alloc, seq) {
-        Ok(turn) => Ok(turn),
-        Err(error) => {
-            slots.take_back(seq);
-            Err(error)
-        }
+    if let Next::Ready = slots.next(seq) {
+        *turn = Turn::Ready(seal_last(slots, alloc, seq)?);
     }
+    Ok(())
 }

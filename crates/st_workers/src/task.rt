@@ -1,4 +1,4 @@
-use st_base::{Errno, Seq};
+use st_base::{Errno, Pid, Seq};
 
 /// What a worker does next. A message's arguments are numbered from 0 in their order.
 #[derive(Clone, Copy, Debug, PartialEq, Eq)]
@@ -7,12 +7,23 @@ pub enum Task {
     Rest,
     /// It claims the least number that waits.
     Claim,
-    /// It copies the word at this place of memory for an argument.
-    Copy { seq: Seq, part: u32, place: u32 },
+    /// It copies the word at this place of the memory of the message's process, for an argument.
+    Copy {
+        seq: Seq,
+        pid: Pid,
+        part: u32,
+        place: u32,
+    },
     /// It looks at the next name of an argument's walk.
-    Look { seq: Seq, part: u32 },
+    Look {
+        seq: Seq,
+        part: u32,
+    },
     /// It tells this error of a message.
-    Fault { seq: Seq, errno: Errno },
+    Fault {
+        seq: Seq,
+        errno: Errno,
+    },
     /// It answers a message of which all is there.
     Answer,
 }

@@ -170,7 +170,10 @@ impl Workers {
                 Some(_) => Task::Claim,
                 None => Task::Rest,
             },
-            Turn::Working(seq) => filling::task_at(*seq, self.slots.next(*seq)),
+            Turn::Working(seq) => {
+                let slot = self.slots.slot(*seq);
+                filling::task_at(*seq, slot.head().pid, slot.next())
+            }
             Turn::Ready(_) => Task::Answer,
         }
     }
@@ -231,13 +234,12 @@ impl Workers {
     pub fn copy(&mut self, alloc: Global, worker: Worker, word: u64) -> Result<(), AllocError>
         requires { IsCopy (task_of self.old worker) }
         ensures calls { self.new.calls ≡ self.old.calls }
-        ensures kept { OnOk result ((seq part place : ℕ) → task_of self.old worker ≡ Copy seq part place → Follows self.old (entry.Copied seq part place word) self.new) }
+        ensures kept { OnOk result ((seq pid part place : ℕ) → task_of self.old worker ≡ Copy seq pid part place → Follows self.old (entry.Copied seq part place word) self.new) }
         ensures err { OnErr result (Stands self.old self.new) }
     {
         let seq = self.seq_at(worker);
-        let turn = filling::take_word(&mut self.slots, alloc, seq, word)?;
-        self.turns[worker as usize - 1] = turn;
-        Ok(())
+        let turn = &mut self.turns[worker as usize - 1];
+        filling::take_word(&mut self.slots, turn, alloc, seq, word)
     }
 
     /// The name that a worker looks at, where its task is a look. It readies the walk of that name, and all stands as before.
@@ -261,9 +263,8 @@ impl Workers {
         ensures err { OnErr result (Stands self.old self.new) }
     {
         let seq = self.seq_at(worker);
-        let turn = filling::take_look(&mut self.slots, alloc, seq, seen)?;
-        self.turns[worker as usize - 1] = turn;
-        Ok(())
+        let turn = &mut self.turns[worker as usize - 1];
+        filling::take_look(&mut self.slots, turn, alloc, seq, seen)
     }
 
     /// A worker tells the error that its task names, and is idle. It takes no memory.

@@ -17,7 +17,9 @@ returns-in_err-saw-clause-err c =
     subst (λ (l : List Slot). AreSame c.args.slots.now l) (sym c.in_err-saw.ensures.err) (begun_all_same c.args.slots.now c.begin_part.new.self c.args.seq c.requires.slot c.requires.next c.in_ok-begin_part.ensures.ok) in
     search (rules, same)
 
-pub returns-in-Err-clause-err : goal.returns-in-Err-clause-err
-returns-in-Err-clause-err c =
-    look_undone c.args.slots.now c.begin_part.new.self c.args.seq c.requires.slot c.requires.next c.in_ok-begin_part.ensures.ok (seen_text c.args.seen) c.saw.new.self c.in_ok-saw.ensures.ok c.take_back.new.self c.in_ok-saw.ensures.order
-    (begun_next c.args.slots.now c.begin_part.new.self c.args.seq c.requires.slot c.requires.next c.in_ok-begin_part.ensures.ok c.in_ok-begin_part.ensures.same) c.take_back.ensures.look
+pub returns-in_err-seal_last-clause-err : goal.returns-in_err-seal_last-clause-err
+returns-in_err-seal_last-clause-err c =
+    let same : AreSame c.args.slots.now c.seal_last.new.slots =
+    look_undone c.args.slots.now c.begin_part.new.self c.args.seq c.requires.slot c.requires.next c.in_ok-begin_part.ensures.ok (seen_text c.args.seen) c.saw.new.self c.in_ok-saw.ensures.ok c.seal_last.new.slots c.in_ok-saw.ensures.order
+    (begun_next c.args.slots.now c.begin_part.new.self c.args.seq c.requires.slot c.requires.next c.in_ok-begin_part.ensures.ok c.in_ok-begin_part.ensures.same) c.in_err-seal_last.ensures.look in
+    search (rules, same)

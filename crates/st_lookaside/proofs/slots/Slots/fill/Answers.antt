@@ -1,6 +1,6 @@
-use Rattle.std.proofs.Common.{ap, refl}
+use Rattle.std.proofs.Common.{◌≡◌, ap, refl}
 use Rattle.st_lookaside.specs.Slot as slot
-use Rattle.st_lookaside.specs.Slot.{after_word, progress_of, IsInOrder, IsWordNext}
+use Rattle.st_lookaside.specs.Slot.{after_word, next_of, progress_of, IsInOrder, IsWordNext}
 use Rattle.st_lookaside.proofs.Places.{asked_of, gone, kept_set, told_changed, told_of}
 use Rattle.st_lookaside.proofs.slots.Slots.fill.Goals as goal
 
@@ -18,3 +18,6 @@ returns-clause-slot c = told_changed c.self.inside.slots.items c.args.self.now c
 
 pub returns-clause-order : goal.returns-clause-order
 returns-clause-order c = told_of c.self.inside.slots.items c.args.self.now c.self.inside.slots.items c.self.invariant c.self.view_is refl c.args.seq c.in-Ok.place c.in-Ok.ensures.found c.index_mut-slot.result.now c.index_mut-slot.ensures.value IsInOrder c.fill.ensures.order
+
+pub returns-clause-next : goal.returns-clause-next
+returns-clause-next c = told_of c.self.inside.slots.items c.args.self.now c.self.inside.slots.items c.self.invariant c.self.view_is refl c.args.seq c.in-Ok.place c.in-Ok.ensures.found c.index_mut-slot.result.now c.index_mut-slot.ensures.value (λ s. c.fill.result ≡ next_of (progress_of (after_word s c.args.word))) c.fill.ensures.next

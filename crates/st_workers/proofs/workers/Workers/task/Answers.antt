@@ -1,8 +1,10 @@
 use Rattle.std.proofs.Common.{◌≡◌, ◌≤◌, ◌-◌, ◌∙◌, ℕ, List, get_or, true, Some, IsSome, ap, refl, sym, subst}
+use Rattle.std.proofs.lemmas.Option.{same_Some}
 use Rattle.st_law.specs.State.{is_live, is_worker, State}
 use Rattle.st_law.specs.declared.input.Input.{Input}
 use Rattle.st_lookaside.specs.Slot.{next_of, progress_of, Slot}
 use Rattle.st_lookaside.specs.Slots.{slot_at}
+use Rattle.st_lookaside.specs.declared.head.Head.{Head}
 use Rattle.st_workers.specs.Kept.{IsKept, IsWhole}
 use Rattle.st_workers.specs.Tasks.{idle_task, task_at, task_of, task_of_slot, task_of_turn, IsTask, IsThere}
 use Rattle.st_workers.specs.UnderWay.{turn_at, UnderWay}
@@ -12,7 +14,6 @@ use Rattle.st_workers.specs.declared.turn.Turn.{Turn}
 use Rattle.st_workers.specs.declared.turn.Turn.TheVariants.{Idle, Ready, Working}
 use Rattle.st_messages.specs.declared.message.MsgState.TheVariants.{Claimed}
 use Rattle.st_workers.proofs.Ended.{state_live, working_claimed}
-use Rattle.st_workers.proofs.Filled.{told}
 use Rattle.st_workers.proofs.Tasks.{claim_entry, ready_is, rest_entry, working_is, working_slot, worker_there}
 use Rattle.st_workers.proofs.Turns.{item_here}
 use Rattle.st_workers.proofs.workers.Workers.task.Goals as goal
@@ -37,8 +38,8 @@ inside c = record { calls = c.self.inside.messages; slots = c.self.inside.slots;
 working : (c : goal.After-row_known-1) → turn_at (inside c) c.args.worker ≡ Some (Working c.in-Working.seq)
 working c = here (inside c).turns (inside c) c.args.self.now c.self.view_is c.self.invariant refl c.args.worker c.requires.0 c.requires.1 (Working c.in-Working.seq) c.index.result.now c.index.ensures c.in-Working.is
 
-pub next-requires : goal.next-requires
-next-requires c = subst IsSome (sym (working_slot (inside c) c.self.invariant c.args.worker c.in-Working.seq (working c)).1) refl
+pub slot-slot-requires : goal.slot-slot-requires
+slot-slot-requires c = subst IsSome (sym (working_slot (inside c) c.self.invariant c.args.worker c.in-Working.seq (working c)).1) refl
 
 abbrev kept : goal.After-task_at → UnderWay
 kept c = record { calls = c.self.inside.messages; slots = c.self.inside.slots; turns = c.self.inside.turns.items }
@@ -47,8 +48,13 @@ slot : (c : goal.After-task_at) → (slot : Slot) × (slot_at (kept c).slots c.i
 slot c = working_slot (kept c) c.self.invariant c.args.worker c.in-Working.seq
     (here (kept c).turns (kept c) c.args.self.now c.self.view_is c.self.invariant refl c.args.worker c.requires.0 c.requires.1 (Working c.in-Working.seq) c.index.result.now c.index.ensures c.in-Working.is)
 
-task_is : (c : goal.After-task_at) → c.task_at.result ≡ task_at c.in-Working.seq (progress_of (slot c).0)
-task_is c = c.task_at.ensures.task (progress_of (slot c).0) (told (slot_at (kept c).slots c.in-Working.seq) (λ s. c.next.result ≡ next_of (progress_of s)) (slot c).0 (slot c).1 c.next.ensures.value)
+read : (c : goal.After-task_at) → c.slot-slot.result.now ≡ (slot c).0
+read c = same_Some c.slot-slot.result.now (slot c).0 (sym c.slot-slot.ensures ∙ (slot c).1)
+
+task_is : (c : goal.After-task_at) → c.task_at.result ≡ task_at c.in-Working.seq (slot c).0.head.pid (progress_of (slot c).0)
+task_is c =
+    c.task_at.ensures.task (progress_of (slot c).0) (c.next.ensures.value ∙ ap (λ (s : Slot). next_of (progress_of s)) (read c))
+    ∙ ap (λ (h : Head). task_at c.in-Working.seq h.pid (progress_of (slot c).0)) (c.head.ensures ∙ ap (λ (s : Slot). s.head) (read c))
 
 pub returns-in-Working-clause-task : goal.returns-in-Working-clause-task
 returns-in-Working-clause-task c =
