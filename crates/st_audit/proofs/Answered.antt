@@ -1,6 +1,7 @@
 -- What the entries of a lawful history tell of held calls is what looking back says of them.
 use Rattle.std.proofs.Common.{◌≡◌, ℕ, suc, Bool, true, false, cond, ◌==◌, ◌&&◌, ◌||◌, List, [], ◌∷◌, ◌++◌, length, Option, Some, None, option_map, reverse, refl, sym, ap, subst, ◌∙◌}
-use Rattle.std.proofs.lemmas.Bool.{and_parts, eqb-true}
+use Rattle.std.proofs.lemmas.Bool.{and_parts, eqb-true, or_parts, true≢false}
+use Rattle.std.specs.List.{fold}
 use Rattle.st_base.specs.Numbered.{item_at_number}
 use Rattle.st_base.specs.declared.errno.Errno.{Errno}
 use Rattle.st_base.specs.declared.ids.Ids.{Ids}
@@ -9,6 +10,7 @@ use Rattle.st_calls.specs.declared.call.SysCall.{SysCall}
 use Rattle.st_calls.specs.declared.judged.Snapshot.{Snapshot}
 use Rattle.st_calls.specs.declared.judged.Verdict.{Verdict}
 use Rattle.st_filter.specs.Judging.{verdict, verdict_from}
+use Rattle.st_model.specs.Tree.{is_number}
 use Rattle.st_trace.specs.declared.entry.CallResult.{CallResult}
 use Rattle.st_trace.specs.declared.entry.CallResult.TheVariants.{Failed}
 use Rattle.st_trace.specs.declared.entry.Cause.{Cause}
@@ -20,10 +22,11 @@ use Rattle.st_law.specs.declared.input.Input.{Input}
 use Rattle.st_law.specs.History.{looking_back, session_at}
 use Rattle.st_law.specs.Inputs.{IsStartable}
 use Rattle.st_law.specs.Lawful.{IsDeniedHeld, IsJudged, IsLawfulBack, IsLearned, IsReplied, IsUsedHeld, Lawful}
-use Rattle.st_law.specs.Messages.{is_answered_at}
+use Rattle.st_law.specs.Messages.{Head, is_answered_at, is_closed_at, is_renewed_by}
 use Rattle.st_law.specs.Sessions.{SessionFilter, learnt_by, replied_by, session_filters, verdict_or}
-use Rattle.st_law.specs.State.{is_live, is_open_question, is_question, read_for, snapshot_in}
+use Rattle.st_law.specs.State.{State, is_live, is_live_by, is_open_question, is_question, read_for, snapshot_in}
 use Rattle.st_law.specs.Threads.{History, owner_at}
+use Rattle.st_law.proofs.MessageHistory.{closed_stays}
 use Rattle.st_law.proofs.Standing.{Stands, answer_stands}
 use Rattle.st_audit.specs.AuditText.{audit, audit_back, call_line, denied_line, ending_text, line_of}
 use Rattle.st_audit.specs.How.{Decided, args_used, decided_by, decided_in, decided_on, how_denied, how_used, is_logged, number_of, parts_of, seq_told}
@@ -32,7 +35,7 @@ use Rattle.st_audit.specs.Told.{answer_of, answer_with, audit_told, copies_of, d
 
 -- ---- answers
 
--- where a number was answered, some entry is its newest applied answer
+-- where a number was answered and its call is open, some entry is its newest applied answer
 record Found (h : History) (q : ℕ) : Type 0 where
   later : History
   worker : ℕ
@@ -71,27 +74,46 @@ answered_here w s v applied h q older true e answered =
 answered_here w s v applied h q older false e answered =
     behind (Answered w s v applied) h q (older answered) (ap (λ c. cond c (Some (answer_with s v)) (answer_of h q)) e)
 
-found : (h : History) (q : ℕ) → is_answered_at h q ≡ true → Found h q
-found [] q answered = absurd (cc)
-found (Answered w s v applied ∷ h) q answered =
-    answered_here w s v applied h q (found h q) ((s.seq == q) && applied) refl answered
-found (Stored u place word ∷ h) q answered = behind (Stored u place word) h q (found h q answered) refl
-found (Entered u call regs way ∷ h) q answered = behind (Entered u call regs way) h q (found h q answered) refl
-found (Claimed w p ∷ h) q answered = behind (Claimed w p) h q (found h q answered) refl
-found (Copied p part place word ∷ h) q answered = behind (Copied p part place word) h q (found h q answered) refl
-found (Looked p part name seen ∷ h) q answered = behind (Looked p part name seen) h q (found h q answered) refl
-found (Faulted p errno ∷ h) q answered = behind (Faulted p errno) h q (found h q answered) refl
-found (Used u seq call regs args ids result changes ∷ h) q answered = behind (Used u seq call regs args ids result changes) h q (found h q answered) refl
-found (Denied u seq errno cause ∷ h) q answered = behind (Denied u seq errno cause) h q (found h q answered) refl
-found (Ended u ∷ h) q answered = behind (Ended u) h q (found h q answered) refl
-found (Replied p reply n ∷ h) q answered = behind (Replied p reply n) h q (found h q answered) refl
-found (Learned p n ∷ h) q answered = behind (Learned p n) h q (found h q answered) refl
+-- an entry behind which a call is open left it open
+was_open : (q : ℕ) (e : Entry) (h : History) → is_closed_at (e ∷ h) q ≡ false → is_closed_at h q ≡ false
+was_open q e h unclosed = by (is_closed_at h q) refl where
+  by : (b : Bool) → is_closed_at h q ≡ b → is_closed_at h q ≡ false
+  by false is = is
+  by true is = absurd (true≢false (sym (closed_stays q e h is) ∙ unclosed))
+
+-- a call that is made or denied, and is another
+kept_open : (q : ℕ) (seq : Option ℕ) (closed : Bool) (h : History) → (is_number q seq || closed) ≡ false → cond (is_number q seq) None (answer_of h q) ≡ answer_of h q
+kept_open q seq closed h unclosed = ap (λ b. cond b None (answer_of h q)) (or_parts (is_number q seq) closed unclosed).0
+
+found : (h : History) (q : ℕ) → is_answered_at h q ≡ true → is_closed_at h q ≡ false → Found h q
+found [] q answered unclosed = absurd (cc)
+found (Answered w s v applied ∷ h) q answered unclosed =
+    answered_here w s v applied h q (λ older. found h q older unclosed) ((s.seq == q) && applied) refl answered
+found (Stored u place word ∷ h) q answered unclosed = behind (Stored u place word) h q (found h q answered unclosed) refl
+found (Entered u call regs way ∷ h) q answered unclosed = behind (Entered u call regs way) h q (found h q answered unclosed) refl
+found (Claimed w p ∷ h) q answered unclosed = behind (Claimed w p) h q (found h q answered unclosed) refl
+found (Copied p part place word ∷ h) q answered unclosed = behind (Copied p part place word) h q (found h q answered unclosed) refl
+found (Looked p part name seen ∷ h) q answered unclosed = behind (Looked p part name seen) h q (found h q answered unclosed) refl
+found (Faulted p errno ∷ h) q answered unclosed = behind (Faulted p errno) h q (found h q answered unclosed) refl
+found (Used u seq call regs args ids result changes ∷ h) q answered unclosed =
+    behind (Used u seq call regs args ids result changes) h q (found h q answered (was_open q (Used u seq call regs args ids result changes) h unclosed)) (kept_open q seq (fold (is_renewed_by q) (is_closed_at h q) changes) h unclosed)
+found (Denied u seq errno cause ∷ h) q answered unclosed =
+    behind (Denied u seq errno cause) h q (found h q answered (was_open q (Denied u seq errno cause) h unclosed)) (kept_open q seq (is_closed_at h q) h unclosed)
+found (Ended u ∷ h) q answered unclosed = behind (Ended u) h q (found h q answered unclosed) refl
+found (Replied p reply n ∷ h) q answered unclosed = behind (Replied p reply n) h q (found h q answered unclosed) refl
+found (Learned p n ∷ h) q answered unclosed = behind (Learned p n) h q (found h q answered unclosed) refl
+
+-- a live number's call is open
+open_by : (head : Option Head) (closed : Bool) (dying : ℕ → Bool) → is_live_by head closed dying ≡ true → closed ≡ false
+open_by None closed dying live = cc
+open_by (Some head) false dying live = refl
+open_by (Some head) true dying live = cc
 
 verdict_of_answer : (i : Input) (later earlier : History) (w : ℕ) (s : Snapshot) (v : Verdict) → IsLawfulBack i (later ++ Answered w s v true ∷ earlier) → v ≡ verdict (read_for i s.policy s.rule) s
 verdict_of_answer i [] earlier w s v lawful = lawful.0.verdict_is
 verdict_of_answer i (e ∷ later) earlier w s v lawful = verdict_of_answer i later earlier w s v lawful.1
 
--- a number that was answered has the copies of its newest answer, whose verdict is that of the filters that were read
+-- a live number that was answered has the copies of its newest answer, whose verdict is that of the filters that were read
 record IsTold (i : Input) (h : History) (q : ℕ) : Type 0 where
   copies : Snapshot
   given : Verdict
@@ -100,9 +122,12 @@ record IsTold (i : Input) (h : History) (q : ℕ) : Type 0 where
   says : given ≡ verdict (read_for i copies.policy copies.rule) copies
 
 module _ (i : Input) (startable : IsStartable i) where
-  told : (h : History) (q : ℕ) → IsLawfulBack i h → is_answered_at h q ≡ true → IsTold i h q
-  told h q lawful answered =
-      let x : Found h q = found h q answered in
+  is_open : (h : History) (q : ℕ) → is_live (looking_back i h) q ≡ true → is_closed_at h q ≡ false
+  is_open h q live = let st : State = looking_back i h in open_by (st.messages q).head (st.messages q).closed (λ t. (st.threads t).dying) live
+
+  told : (h : History) (q : ℕ) → IsLawfulBack i h → is_answered_at h q ≡ true → is_live (looking_back i h) q ≡ true → IsTold i h q
+  told h q lawful answered live =
+      let x : Found h q = found h q answered (is_open h q live) in
       let same : IsLawfulBack i (x.later ++ Answered x.worker x.copies x.verdict true ∷ x.earlier) = subst (IsLawfulBack i) x.split lawful in
       let stands : Stands i (x.later ++ Answered x.worker x.copies x.verdict true ∷ x.earlier) x.copies = answer_stands i startable x.later x.earlier x.worker x.copies x.verdict same in
       record {
@@ -113,27 +138,29 @@ module _ (i : Input) (startable : IsStartable i) where
         says = verdict_of_answer i x.later x.earlier x.worker x.copies x.verdict same;
       }
 
-  same_copies : (h : History) (q : ℕ) → IsLawfulBack i h → is_answered_at h q ≡ true → copies_of (answer_of h q) ≡ snapshot_in (looking_back i h) q
-  same_copies h q lawful answered = let x : IsTold i h q = told h q lawful answered in ap copies_of x.newest ∙ sym x.there
+  same_copies : (h : History) (q : ℕ) → IsLawfulBack i h → is_answered_at h q ≡ true → is_live (looking_back i h) q ≡ true → copies_of (answer_of h q) ≡ snapshot_in (looking_back i h) q
+  same_copies h q lawful answered live = let x : IsTold i h q = told h q lawful answered live in ap copies_of x.newest ∙ sym x.there
 
   -- ---- the session
 
-  -- a question was answered
-  asked_answered : (live answered asked : Bool) → (live && answered && asked) ≡ true → answered ≡ true
-  asked_answered live answered asked e = (and_parts live answered (and_parts (live && answered) asked e).0).1
+  -- a question is live and was answered
+  live_answered : (live answered asked : Bool) → (live && answered && asked) ≡ true → (live ≡ true) × (answered ≡ true)
+  live_answered live answered asked e = and_parts live answered (and_parts (live && answered) asked e).0
 
-  question_answered : (h : History) (q : ℕ) → is_question i (looking_back i h) q ≡ true → is_answered_at h q ≡ true
-  question_answered h q e = asked_answered (is_live (looking_back i h) q) (is_answered_at h q) (is_open_question i (looking_back i h) (snapshot_in (looking_back i h) q)) e
+  question_copies : (h : History) (q : ℕ) → IsLawfulBack i h → is_question i (looking_back i h) q ≡ true → copies_of (answer_of h q) ≡ snapshot_in (looking_back i h) q
+  question_copies h q lawful e =
+      let both = live_answered (is_live (looking_back i h) q) (is_answered_at h q) (is_open_question i (looking_back i h) (snapshot_in (looking_back i h) q)) e in
+      same_copies h q lawful both.1 both.0
 
   pub session_same : (h : History) → IsLawfulBack i h → session_told i h ≡ session_at i h
   session_same [] lawful = refl
   session_same (Learned q n ∷ h) lawful =
       let y : IsLearned i (looking_back i h) q n = lawful.0 in
-      let same = same_copies h q lawful.1 (question_answered h q y.asked.question) in
+      let same = question_copies h q lawful.1 y.asked.question in
       λ k. session_same h lawful.1 k ++ learnt_by (same k)
   session_same (Replied q reply n ∷ h) lawful =
       let y : IsReplied i (looking_back i h) q reply n = lawful.0 in
-      let same = same_copies h q lawful.1 (question_answered h q y.asked.question) in
+      let same = question_copies h q lawful.1 y.asked.question in
       λ k. session_same h lawful.1 k ++ replied_by (item_at_number i.replies reply) (same k)
   session_same (Stored u place word ∷ h) lawful = session_same h lawful.1
   session_same (Entered u call regs way ∷ h) lawful = session_same h lawful.1
@@ -153,8 +180,8 @@ module _ (i : Input) (startable : IsStartable i) where
   said_of s v session =
       decided_by i session s (number_of (verdict_or v (verdict_from (suc (length (read_for i s.policy s.rule))) (session_filters session s.policy s.rule) s)))
 
-  same_decided : (h : History) (q : ℕ) → IsLawfulBack i h → is_answered_at h q ≡ true → decided_told i (session_told i h) (answer_of h q) ≡ decided_in i (looking_back i h) q
-  same_decided h q lawful answered = let x : IsTold i h q = told h q lawful answered in
+  same_decided : (h : History) (q : ℕ) → IsLawfulBack i h → is_answered_at h q ≡ true → is_live (looking_back i h) q ≡ true → decided_told i (session_told i h) (answer_of h q) ≡ decided_in i (looking_back i h) q
+  same_decided h q lawful answered live = let x : IsTold i h q = told h q lawful answered live in
       ap (decided_told i (session_told i h)) x.newest
       ∙ (λ k. Some (said_of x.copies (x.says k) (session_same h lawful k)))
       ∙ sym (ap (λ o. option_map (λ s. said_of s (verdict (read_for i s.policy s.rule) s) (session_at i h)) o) x.there)
@@ -178,15 +205,15 @@ module _ (i : Input) (startable : IsStartable i) where
   denied_same h u seq errno cause e =
       ap (λ d. denied_line i (row_at i h) (owner_at i h u) u (entered_at i h u) (ending_text (parts_of d) (how_denied seq cause) (Failed errno) (is_logged d))) e
 
-  judged_same : (h : History) (q : ℕ) (s : Snapshot) → IsLawfulBack i h → IsJudged (looking_back i h) q s → by_entries h q ≡ by_law h q
-  judged_same h q s lawful judged = same_decided h q lawful judged.answered
+  judged_same : (h : History) (q : ℕ) (s : Snapshot) → IsLawfulBack i h → IsJudged (looking_back i h) q s → is_live (looking_back i h) q ≡ true → by_entries h q ≡ by_law h q
+  judged_same h q s lawful judged live = same_decided h q lawful judged.answered live
 
   cause_same : (h : History) (u q : ℕ) (errno : Errno) (cause : Cause) → IsLawfulBack i h → IsDeniedHeld i (looking_back i h) u q errno cause
       → decided_on (by_entries h) (seq_told (Some q) cause) ≡ decided_on (by_law h) (seq_told (Some q) cause)
-  cause_same h u q errno (Filter n) lawful y = judged_same h q y.cause_is.0 lawful y.cause_is.1
-  cause_same h u q errno NoFilter lawful y = judged_same h q y.cause_is.0 lawful y.cause_is.1
+  cause_same h u q errno (Filter n) lawful y = judged_same h q y.cause_is.0 lawful y.cause_is.1 y.held.live
+  cause_same h u q errno NoFilter lawful y = judged_same h q y.cause_is.0 lawful y.cause_is.1 y.held.live
   cause_same h u q errno Fault lawful y = refl
-  cause_same h u q errno (Link name) lawful y = judged_same h q y.cause_is.0 lawful y.cause_is.2.judged
+  cause_same h u q errno (Link name) lawful y = judged_same h q y.cause_is.0 lawful y.cause_is.2.judged y.held.live
 
   barred_same : (h : History) (cause : Cause) → decided_on (by_entries h) (seq_told None cause) ≡ decided_on (by_law h) (seq_told None cause)
   barred_same h (Filter n) = refl
@@ -198,7 +225,7 @@ module _ (i : Input) (startable : IsStartable i) where
   line_same h (Used u None call regs args ids result changes) lawful = used_same h u None call regs args ids result changes refl
   line_same h (Used u (Some q) call regs args ids result changes) lawful =
       let y : IsUsedHeld i (looking_back i h) u q call regs args ids result changes = lawful.0 in
-      used_same h u (Some q) call regs args ids result changes (judged_same h q y.copies lawful.1 y.permitted.judged)
+      used_same h u (Some q) call regs args ids result changes (judged_same h q y.copies lawful.1 y.permitted.judged y.held.live)
   line_same h (Denied u None errno cause) lawful = denied_same h u None errno cause (barred_same h cause)
   line_same h (Denied u (Some q) errno cause) lawful = denied_same h u (Some q) errno cause (cause_same h u q errno cause lawful.1 lawful.0)
   line_same h (Stored u place word) lawful = refl

@@ -1,7 +1,7 @@
 -- What is kept follows the entries.
-use Rattle.std.proofs.Common.{◌≡◌, ℕ, ◌+◌, ◌<◌, Bool, List, [], ◌∷◌, ◌++◌, Option, get_or, length, reverse, take, ap, sym, subst, ◌∙◌}
+use Rattle.std.proofs.Common.{◌≡◌, ℕ, Bool, true, false, List, [], ◌∷◌, ◌++◌, Option, reverse, refl, ap, sym, subst, ◌∙◌}
 use Rattle.std.specs.BTreeMap.{BTreeMap}
-use Rattle.std.proofs.lemmas.List.{reverse-append, take_more}
+use Rattle.std.proofs.lemmas.List.{append-nil, reverse-append}
 use Rattle.st_base.specs.declared.ids.Ids.{Ids}
 use Rattle.st_calls.specs.declared.argument.ArgText.{ArgText}
 use Rattle.st_calls.specs.declared.call.SysCall.{SysCall}
@@ -13,12 +13,12 @@ use Rattle.st_law.specs.Threads.{History, changes_of, left_at, owner_at, pending
 use Rattle.st_trace.specs.declared.entry.CallResult.{CallResult}
 use Rattle.st_trace.specs.declared.entry.Change.{Change}
 use Rattle.st_trace.specs.declared.entry.Entry.{Entry}
-use Rattle.st_trace.specs.declared.entry.Entry.TheVariants.{Used}
+use Rattle.st_trace.specs.declared.entry.Entry.TheVariants.{Stored, Entered, Claimed, Copied, Looked, Faulted, Answered, Used, Denied, Ended, Replied, Learned}
 use Rattle.st_audit.specs.AuditText.{call_line, ending_text, line_by}
 use Rattle.st_audit.specs.How.{Decided, args_used, decided_on, how_used, is_logged}
 use Rattle.st_audit.specs.Ledger.{IsLedger, answer_in, entered_after, entered_in, kept_line, owner_in, row_in}
 use Rattle.st_audit.specs.Rows.{Row, row_after}
-use Rattle.st_audit.specs.Told.{Answer, answer_after, answer_of, audit_told, copies_of, decided_told, session_told, told_back, told_line}
+use Rattle.st_audit.specs.Told.{Answer, answer_after, answer_of, audit_told, copies_of, decided_told, session_told, tells_of_call, told_back, told_line}
 use Rattle.st_audit.specs.declared.how.How.{How}
 use Rattle.st_audit.specs.declared.ledger.Ledger.{Ledger}
 use Rattle.st_audit.proofs.Rows.{entered_changed, row_of_changed}
@@ -56,31 +56,55 @@ rows_noted i owners old new e t pid changes thread all same noted p =
     noted p ∙ ap (λ n. row_after (row_in i old n) n p (row_in i old p) changes) m
     ∙ ap (row_after (row_in i old (owner_in i owners (thread_of e))) (owner_in i owners (thread_of e)) p (row_in i old p)) (sym all)
 
+-- ---- steps on the way
+
+module _ (i : Input) (ledger : Ledger) where
+  -- a step on the way to what becomes of a call leaves what is kept
+  pub kept_still : (h : History) (e : Entry) → tells_of_call e ≡ false → IsLedger i ledger h → IsLedger i ledger (e ∷ h)
+  kept_still h (Stored t place word) none is = record { owners = is.owners; rows = is.rows; entered = is.entered; answers = is.answers; session = is.session }
+  kept_still h (Claimed w q) none is = record { owners = is.owners; rows = is.rows; entered = is.entered; answers = is.answers; session = is.session }
+  kept_still h (Copied q part place word) none is = record { owners = is.owners; rows = is.rows; entered = is.entered; answers = is.answers; session = is.session }
+  kept_still h (Looked q part name seen) none is = record { owners = is.owners; rows = is.rows; entered = is.entered; answers = is.answers; session = is.session }
+  kept_still h (Faulted q errno) none is = record { owners = is.owners; rows = is.rows; entered = is.entered; answers = is.answers; session = is.session }
+  kept_still h (Ended t) none is = record { owners = is.owners; rows = is.rows; entered = is.entered; answers = is.answers; session = is.session }
+  kept_still h (Entered t call regs way) none is = cc
+  kept_still h (Answered w s verdict applied) none is = cc
+  kept_still h (Replied q reply n) none is = cc
+  kept_still h (Learned q n) none is = cc
+  kept_still h (Used t seq call regs args ids result changes) none is = cc
+  kept_still h (Denied t seq errno cause) none is = cc
+
+  -- and prints nothing
+  prints_nothing : (e : Entry) → tells_of_call e ≡ false → kept_line i ledger e ≡ []
+  prints_nothing (Stored t place word) none = refl
+  prints_nothing (Claimed w q) none = refl
+  prints_nothing (Copied q part place word) none = refl
+  prints_nothing (Looked q part name seen) none = refl
+  prints_nothing (Faulted q errno) none = refl
+  prints_nothing (Ended t) none = refl
+  prints_nothing (Entered t call regs way) none = cc
+  prints_nothing (Answered w s verdict applied) none = cc
+  prints_nothing (Replied q reply n) none = cc
+  prints_nothing (Learned q n) none = cc
+  prints_nothing (Used t seq call regs args ids result changes) none = cc
+  prints_nothing (Denied t seq errno cause) none = cc
+
+  pub printed_still : (e : Entry) (text : List ℕ) → tells_of_call e ≡ false → text ≡ text ++ kept_line i ledger e
+  printed_still e text none = sym (append-nil text) ∙ ap (λ line. text ++ line) (sym (prints_nothing e none))
+
 -- ---- one entry more
 
-one_more : (trace : List Entry) (k : ℕ) (e : Entry) → k < length trace → e ≡ get_or trace k e → reverse (take (k + 1) trace) ≡ e ∷ reverse (take k trace)
-one_more trace k e low is =
-    ap reverse (take_more trace k e low ∙ ap (λ (last : Entry). take k trace ++ last ∷ []) (sym is)) ∙ reverse-append (take k trace) (e ∷ [])
+module _ (i : Input) (trace : List Entry) (e : Entry) where
+  newest_first : reverse (trace ++ e ∷ []) ≡ e ∷ reverse trace
+  newest_first = reverse-append trace (e ∷ [])
 
--- the audit and what is kept, behind one entry more
-module _ (i : Input) (trace : List Entry) (k : ℕ) (e : Entry) (low : k < length trace) (is : e ≡ get_or trace k e) where
-  pub audit_more : (ledger : Ledger) (text new : List ℕ) → text ≡ audit_told i (take k trace) → IsLedger i ledger (reverse (take k trace)) → new ≡ text ++ kept_line i ledger e → new ≡ audit_told i (take (k + 1) trace)
+  pub kept_more : (old new : Ledger) → IsLedger i old (reverse trace) → ((h : History) → IsLedger i old h → IsLedger i new (e ∷ h)) → IsLedger i new (reverse (trace ++ e ∷ []))
+  kept_more old new kept noted = subst (IsLedger i new) (sym newest_first) (noted (reverse trace) kept)
+
+  pub audit_more : (ledger : Ledger) (text new : List ℕ) → text ≡ audit_told i trace → IsLedger i ledger (reverse trace) → new ≡ text ++ kept_line i ledger e → new ≡ audit_told i (trace ++ e ∷ [])
   audit_more ledger text new written kept more =
-      more ∙ ap (λ line. text ++ line) (line_told i ledger (reverse (take k trace)) e kept)
-      ∙ ap (λ front. front ++ told_line i (reverse (take k trace)) e) written ∙ sym (ap (told_back i) (one_more trace k e low is))
-
-  pub kept_more : (old new : Ledger) → IsLedger i old (reverse (take k trace)) → ((h : History) → IsLedger i old h → IsLedger i new (e ∷ h)) → IsLedger i new (reverse (take (k + 1) trace))
-  kept_more old new kept noted = subst (IsLedger i new) (sym (one_more trace k e low is)) (noted (reverse (take k trace)) kept)
-
-  -- the session and the answers alone, behind one entry more
-  pub session_more : (answers : BTreeMap ℕ Answer) (old new : List SessionFilter) → old ≡ session_told i (reverse (take k trace)) → ((q : ℕ) → answer_in answers q ≡ answer_of (reverse (take k trace)) q)
-      → new ≡ session_after i.replies (λ q. copies_of (answer_in answers q)) e old → new ≡ session_told i (reverse (take (k + 1) trace))
-  session_more answers old new kept are noted =
-      noted ∙ (λ j. session_after i.replies (λ q. copies_of (are q j)) e (kept j)) ∙ ap (session_told i) (sym (one_more trace k e low is))
-
-  pub answers_more : (old new : BTreeMap ℕ Answer) → ((q : ℕ) → answer_in old q ≡ answer_of (reverse (take k trace)) q) → ((q : ℕ) → answer_in new q ≡ answer_after e q (answer_in old q))
-      → (q : ℕ) → answer_in new q ≡ answer_of (reverse (take (k + 1) trace)) q
-  answers_more old new are noted q = noted q ∙ ap (answer_after e q) (are q) ∙ ap (λ h. answer_of h q) (sym (one_more trace k e low is))
+      more ∙ ap (λ line. text ++ line) (line_told i ledger (reverse trace) e kept)
+      ∙ ap (λ front. front ++ told_line i (reverse trace) e) written ∙ sym (ap (told_back i) newest_first)
 
 -- what a call that was made prints, by what is told of it
 pub used_line : (i : Input) (ledger : Ledger) (e : Entry) (t : ℕ) (seq : Option ℕ) (call : SysCall) (regs : List ℕ) (args : List ArgText) (ids : Ids) (result : CallResult) (changes : List Change)

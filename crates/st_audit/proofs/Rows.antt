@@ -1,6 +1,7 @@
 -- What an audit needs of a process, and of the calls that threads have entered, behind an entry.
 use Rattle.std.proofs.Common.{◌≡◌, ℕ, Bool, true, false, cond, ◌==◌, List, [], ◌∷◌, Option, None, option_map, refl, ap, ◌∙◌}
-use Rattle.std.specs.List.{fold}
+use Rattle.std.proofs.lemmas.Bool.{or_parts}
+use Rattle.std.specs.List.{fold, list_any}
 use Rattle.st_effects.specs.Changes.{process_after, process_after_change}
 use Rattle.st_model.specs.Process.{Process}
 use Rattle.st_trace.specs.declared.entry.Change.{Change}
@@ -10,7 +11,7 @@ use Rattle.st_trace.specs.declared.entry.Entry.TheVariants.{Stored, Entered, Cla
 use Rattle.st_trace.specs.declared.start.Instr.{Instr}
 use Rattle.st_law.specs.Threads.{PendingCall, pending_after}
 use Rattle.st_audit.specs.Ledger.{entered_after}
-use Rattle.st_audit.specs.Rows.{entered_call, row_after, row_after_change, row_of}
+use Rattle.st_audit.specs.Rows.{Row, changes_row, entered_call, row_after, row_after_change, row_of}
 
 -- ---- rows
 
@@ -48,6 +49,31 @@ module _ (processes : ℕ → Process) (m p : ℕ) where
 
 pub row_of_changed : (processes : ℕ → Process) (m p : ℕ) (changes : List Change) → row_of (process_after processes m p changes) ≡ row_after (row_of (processes m)) m p (row_of (processes p)) changes
 row_of_changed processes m p changes = rows_changed processes m p (processes p) changes
+
+-- changes that give no process another row leave each
+row_left : (parent : Row) (m p : ℕ) (before : Row) (c : Change) → changes_row c ≡ false → row_after_change parent m p before c ≡ before
+row_left parent m p before (Forked pid space tid) none = cc
+row_left parent m p before (Policy binary) none = cc
+row_left parent m p before (Execed binary space) none = refl
+row_left parent m p before (SetIds ids) none = refl
+row_left parent m p before (Cwd name) none = refl
+row_left parent m p before (Made name obj kind uid gid mode) none = refl
+row_left parent m p before (Linked name obj) none = refl
+row_left parent m p before (Removed name) none = refl
+row_left parent m p before (Renamed old new) none = refl
+row_left parent m p before (Written obj at bytes) none = refl
+row_left parent m p before (Cut obj len) none = refl
+row_left parent m p before (Moded obj mode) none = refl
+row_left parent m p before (Owned obj uid gid) none = refl
+row_left parent m p before (Put space at bytes) none = refl
+row_left parent m p before (Dying pid) none = refl
+row_left parent m p before (Renewed old new) none = refl
+
+pub rows_left : (parent : Row) (m p : ℕ) (before : Row) (changes : List Change) → list_any changes_row changes ≡ false → row_after parent m p before changes ≡ before
+rows_left parent m p before [] none = refl
+rows_left parent m p before (c ∷ changes) none =
+    let both = or_parts (changes_row c) (list_any changes_row changes) none in
+    ap (λ row. row_after parent m p row changes) (row_left parent m p before c both.0) ∙ rows_left parent m p before changes both.1
 
 -- ---- calls that were entered
 

@@ -2,5 +2,6 @@ pub mod AuditText
 pub mod How
 pub mod Ledger
 pub mod PolicyText
+pub mod Recording
 pub mod Rows
 pub mod Told

@@ -1,5 +1,5 @@
 -- What an audit needs of a process, and of a call that was entered.
-use Rattle.std.specs.Prelude.{ℕ, Bool, ◌==◌, if◌then◌else◌, List, Option, option_map}
+use Rattle.std.specs.Prelude.{ℕ, Bool, true, false, ◌==◌, if◌then◌else◌, List, Option, option_map}
 use Rattle.std.specs.List.{fold}
 use Rattle.st_law.specs.declared.input.Input.{Input}
 use Rattle.st_law.specs.Processes.{process_at}
@@ -25,6 +25,12 @@ row_of process = row_with process.traced process.policy
 -- the row of the process of a number
 abbrev pub row_at : Input → History → ℕ → Row
 row_at i h p = row_of (process_at i h p)
+
+-- whether a change gives a process another row
+abbrev pub changes_row : Change → Bool
+changes_row (Forked pid space tid) = true
+changes_row (Policy binary) = true
+changes_row _ = false
 
 -- the row of process p after a change that process m, of this row, makes: a child has its parent's
 abbrev pub row_after_change : Row → ℕ → ℕ → Row → Change → Row

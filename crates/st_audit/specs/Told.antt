@@ -1,10 +1,11 @@
 -- What the entries themselves tell of held calls: their applied answers, and the filters that were kept.
-use Rattle.std.specs.Prelude.{ℕ, suc, ◌==◌, ◌&&◌, if◌then◌else◌, List, [], ◌∷◌, ◌++◌, reverse, length, Option, Some, None, option_map}
+use Rattle.std.specs.Prelude.{ℕ, suc, Bool, true, false, ◌==◌, ◌&&◌, if◌then◌else◌, List, [], ◌∷◌, ◌++◌, reverse, length, Option, Some, None, option_map}
 use Rattle.st_calls.specs.declared.judged.Snapshot.{Snapshot}
 use Rattle.st_calls.specs.declared.judged.Verdict.{Verdict}
 use Rattle.st_filter.specs.Judging.{verdict_from}
+use Rattle.st_model.specs.Tree.{is_number}
 use Rattle.st_trace.specs.declared.entry.Entry.{Entry}
-use Rattle.st_trace.specs.declared.entry.Entry.TheVariants.{Answered}
+use Rattle.st_trace.specs.declared.entry.Entry.TheVariants.{Stored, Entered, Claimed, Copied, Looked, Faulted, Answered, Used, Denied, Ended, Replied, Learned}
 use Rattle.st_law.specs.declared.input.Input.{Input}
 use Rattle.st_law.specs.Sessions.{SessionFilter, session_after, session_filters, verdict_or}
 use Rattle.st_law.specs.State.{read_for}
@@ -12,6 +13,21 @@ use Rattle.st_law.specs.Threads.{History, owner_at}
 use Rattle.st_audit.specs.How.{Decided, decided_by, number_of}
 use Rattle.st_audit.specs.AuditText.{line_by}
 use Rattle.st_audit.specs.Rows.{entered_at, row_at}
+
+-- whether an entry tells what becomes of a call: that it is entered, answered, made or denied. The others are steps on the way there
+abbrev pub tells_of_call : Entry → Bool
+tells_of_call (Entered t call regs way) = true
+tells_of_call (Answered w s verdict applied) = true
+tells_of_call (Replied q reply n) = true
+tells_of_call (Learned q n) = true
+tells_of_call (Used t seq call regs args ids result changes) = true
+tells_of_call (Denied t seq errno cause) = true
+tells_of_call (Stored t place word) = false
+tells_of_call (Claimed w q) = false
+tells_of_call (Copied q part place word) = false
+tells_of_call (Looked q part name seen) = false
+tells_of_call (Faulted q errno) = false
+tells_of_call (Ended t) = false
 
 -- ---- answers
 
@@ -24,13 +40,15 @@ pub record Answer : Type 0 where
 abbrev pub answer_with : Snapshot → Verdict → Answer
 answer_with snapshot verdict = record { snapshot = snapshot; verdict = verdict }
 
--- what an entry does to the applied answer to a number
+-- what an entry does to the applied answer to a number: it goes when the call is made or denied
 abbrev pub answer_after : Entry → ℕ → Option Answer → Option Answer
 answer_after (Answered w snapshot verdict applied) q before =
     if (snapshot.seq == q) && applied then Some (answer_with snapshot verdict) else before
+answer_after (Used t seq call regs args ids result changes) q before = if is_number q seq then None else before
+answer_after (Denied t seq errno cause) q before = if is_number q seq then None else before
 answer_after _ q before = before
 
--- the newest applied answer to a number
+-- the newest applied answer to a number whose call is neither made nor denied
 abbrev pub answer_of : History → ℕ → Option Answer
 answer_of [] q = None
 answer_of (e ∷ h) q = answer_after e q (answer_of h q)

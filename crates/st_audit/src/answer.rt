@@ -5,31 +5,31 @@ ghost use Rattle.st_audit.specs.Told.{answer_after};
 use st_base::Seq;
 use st_calls::{Snapshot, Verdict};
 use st_trace::Entry;
-use std::alloc::AllocError;
+use std::alloc::{AllocError, Global};
 use std::collections::BTreeMap;
 use std::marker::Model;
 
 /// An applied answer to a held call, as the trace has it.
 #[derive(Drop)]
-pub struct Answer<'a> {
-    copies: &'a Snapshot,
+pub struct Answer {
+    copies: Snapshot,
     verdict: Verdict,
 }
 
-impl<'a> Model for Answer<'a> {
+impl Model for Answer {
     ghost use Rattle.st_audit.specs.Told.{Answer, answer_with};
 
     ghost Value = { Answer };
 
-    ghost view = { λ a. answer_with a.copies.now a.verdict };
+    ghost view = { λ a. answer_with a.copies a.verdict };
 }
 
-impl<'a> Answer<'a> {
+impl Answer {
     /// The copies that were judged.
-    pub fn copies(&self) -> &'a Snapshot
+    pub fn copies(&self) -> &Snapshot
         ensures { result.now ≡ self.now.snapshot }
     {
-        self.copies
+        &self.copies
     }
 
     /// What the filters that were read say of them.
@@ -40,25 +40,31 @@ impl<'a> Answer<'a> {
     }
 }
 
-/// Takes an entry into the map of applied answers.
-pub fn note_answer<'a>(
-    answers: &mut BTreeMap<Seq, Answer<'a>>,
-    entry: &'a Entry,
+/// Takes an entry into the map of applied answers. The answer to a call goes when that is made or denied, so that they are few however long the run.
+pub fn note_answer(
+    alloc: Global,
+    answers: &mut BTreeMap<Seq, Answer>,
+    entry: &Entry,
 ) -> Result<(), AllocError>
     ensures { OnOk result ((q : ℕ) → answer_in answers.new q ≡ answer_after entry.now q (answer_in answers.old q)) }
 {
-    if let Entry::Answered {
-        snapshot,
-        verdict,
-        applied: true,
-        ..
-    } = entry
-    {
-        let answer = Answer {
-            copies: snapshot,
-            verdict: *verdict,
-        };
-        answers.insert(snapshot.seq, answer)?;
+    match entry {
+        Entry::Answered {
+            snapshot,
+            verdict,
+            applied: true,
+            ..
+        } => {
+            let answer = Answer {
+                copies: snapshot.copy(alloc)?,
+                verdict: *verdict,
+            };
+            answers.insert(snapshot.seq, answer)?;
+        }
+        Entry::Used { seq: Some(seq), .. } | Entry::Denied { seq: Some(seq), .. } => {
+            answers.remove(seq);
+        }
+        _ => {}
     }
     Ok(())
 }

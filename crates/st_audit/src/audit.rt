@@ -1,13 +1,13 @@
-ghost use Rattle.std.specs.Prelude.{◌≡◌, ◌++◌, List, IfOk, OnOk};
+ghost use Rattle.std.specs.Prelude.{◌≡◌, ◌++◌, [], List, OnOk};
 ghost use Rattle.st_calls.specs.Call.{rule_of};
 ghost use Rattle.st_law.specs.Inputs.{IsStartable};
 ghost use Rattle.st_law.specs.Lawful.{Lawful};
-ghost use Rattle.st_report.specs.Detail.{noted};
-ghost use Rattle.st_report.specs.declared.detail.Detail.TheVariants.{Calls};
+ghost use Rattle.st_law.specs.declared.input.Input.{Input};
 ghost use Rattle.st_trace.specs.declared.entry.Entry.{Entry};
 ghost use Rattle.st_audit.specs.AuditText.{GrowsWithTheRun, audit, call_line, ending_text};
 ghost use Rattle.st_audit.specs.How.{args_used, is_logged, parts_of, seq_told};
 ghost use Rattle.st_audit.specs.Ledger.{kept_line, owner_in, row_in};
+ghost use Rattle.st_audit.specs.Recording.{IsAuditOf};
 ghost use Rattle.st_audit.specs.Told.{audit_told};
 
 use crate::entered::EnteredCall;
@@ -15,9 +15,11 @@ use crate::how::How;
 use crate::ledger::{Decided, Ledger};
 use crate::line::{Caller, Ending, append_call_line};
 use crate::process::{owner_of, row_of};
+use crate::telling::tells_of_call;
 use st_base::{Seq, Text, Tid};
 use st_calls::{ArgText, Rule};
 use st_law::Input;
+use st_report::Recorder;
 use st_trace::{CallResult, Cause, Entry};
 use std::alloc::{AllocError, Global};
 
@@ -62,10 +64,10 @@ fn seq_told(seq: Option<Seq>, cause: &Cause) -> Option<Seq>
 }
 
 // Appends the line of a thread's call, where its process is traced.
-fn append_traced<'a>(
+fn append_traced(
     text: &mut Text,
-    input: &'a Input,
-    ledger: &Ledger<'a>,
+    input: &Input,
+    ledger: &Ledger,
     tid: Tid,
     entered: EnteredCall,
     ending: &Ending<'_>,
@@ -87,12 +89,12 @@ fn append_traced<'a>(
 }
 
 // Appends what an entry prints.
-fn append_line<'a>(
+fn append_line(
     alloc: Global,
     text: &mut Text,
-    input: &'a Input,
-    ledger: &Ledger<'a>,
-    entry: &'a Entry,
+    input: &Input,
+    ledger: &Ledger,
+    entry: &Entry,
 ) -> Result<(), AllocError>
     ensures { OnOk result (text.new ≡ text.old ++ kept_line input.now ledger.now entry.now) }
 {
@@ -142,25 +144,44 @@ fn append_line<'a>(
     }
 }
 
-/// The audit of any trace, by what its entries tell of answers and of filters that were kept.
-pub fn told_audit(alloc: Global, trace: &[Entry], input: &Input) -> Result<Text, AllocError>
-    ensures { IfOk result (λ text. text ≡ audit_told input.now trace.now) }
-{
-    let mut text = Text::new(alloc);
-    let mut ledger = Ledger::new(alloc);
-    for entry in trace {
-        append_line(alloc, &mut text, input, &ledger, entry)?;
-        ledger.note(alloc, input, entry)?;
-    }
-    Ok(text)
+/// The audit of a run: a line for each call that a traced process made or was denied. It has one line more with each of them.
+#[derive(Drop)]
+pub struct AuditRecorder {
+    // What is kept of the entries that were taken down.
+    ledger: Ledger,
+    text: Text,
 }
 
-/// The audit of a run: a line for each call that a traced process made or was denied. It takes what was noted of calls.
-pub fn audit_text(alloc: Global, calls: &[Entry], input: &Input) -> Result<Text, AllocError>
-    requires startable { IsStartable input.now }
-    ensures { IfOk result (λ text. (trace : List Entry) → Lawful input.now trace → calls.now ≡ noted Calls trace → text ≡ audit input.now trace) }
-{
-    told_audit(alloc, calls, input)
+impl AuditRecorder {
+    /// The audit of no entries, which takes no memory.
+    pub fn new(alloc: Global) -> Self
+        ensures { (i : Input) → IsAuditOf result i [] }
+    {
+        AuditRecorder {
+            ledger: Ledger::new(alloc),
+            text: Text::new(alloc),
+        }
+    }
+
+    /// The audit of the run whose entries were taken down.
+    pub fn into_text(self) -> Text
+        ensures told { (i : Input) (trace : List Entry) → IsAuditOf self i trace → result ≡ audit_told i trace }
+        ensures audit { (i : Input) (trace : List Entry) → IsAuditOf self i trace → IsStartable i → Lawful i trace → result ≡ audit i trace }
+    {
+        self.text
+    }
+}
+
+impl Recorder for AuditRecorder {
+    ghost has_noted = { IsAuditOf };
+
+    fn note(&mut self, alloc: Global, input: &Input, entry: &Entry) -> Result<(), AllocError> {
+        if !tells_of_call(entry) {
+            return Ok(());
+        }
+        append_line(alloc, &mut self.text, input, &self.ledger, entry)?;
+        self.ledger.note(alloc, input, entry)
+    }
 }
 
 /// The audit of a longer run begins with that of the shorter one.

@@ -11,7 +11,7 @@ ghost use Rattle.st_audit.specs.Told.{answer_with, decided_told, decision_told};
 use crate::answer::{Answer, note_answer};
 use crate::entered::{EnteredCall, note_entered};
 use crate::marks::Marks;
-use crate::process::{Row, note_owners, note_rows, owner_of};
+use crate::process::{KeptRow, note_owners, note_rows, owner_of};
 use crate::read::{read_count, read_filter};
 use crate::session::{note_session, session_filter};
 use st_base::{Pid, Seq, Tid};
@@ -76,38 +76,39 @@ impl<'a> Decided<'a> {
 
 /// What is kept of a run while its audit is printed.
 #[derive(Drop)]
-pub struct Ledger<'a> {
+pub struct Ledger {
     /// The processes of the threads that forks have started.
     pub owners: BTreeMap<Tid, Pid>,
     /// The processes that were changed.
-    pub rows: BTreeMap<Pid, Row<'a>>,
+    pub rows: BTreeMap<Pid, KeptRow>,
     /// The calls that threads have entered.
     pub entered: BTreeMap<Tid, EnteredCall>,
-    /// The applied answers to held calls.
-    pub answers: BTreeMap<Seq, Answer<'a>>,
+    /// The applied answers to held calls that are neither made nor denied yet.
+    pub answers: BTreeMap<Seq, Answer>,
     /// The filters that the run has added.
     pub session: Session,
 }
 
 // Takes an entry into the maps of threads and processes.
-fn note_processes<'a>(
-    input: &'a Input,
+fn note_processes(
+    alloc: Global,
+    input: &Input,
     owners: &mut BTreeMap<Tid, Pid>,
-    rows: &mut BTreeMap<Pid, Row<'a>>,
-    entry: &'a Entry,
+    rows: &mut BTreeMap<Pid, KeptRow>,
+    entry: &Entry,
 ) -> Result<(), AllocError>
     ensures owners { OnOk result ((t : ℕ) → owner_in input.now owners.new t ≡ owner_after t (owner_in input.now owners.old t) (changes_of entry.now)) }
     ensures rows { OnOk result ((p : ℕ) → row_in input.now rows.new p ≡ row_after (row_in input.now rows.old (owner_in input.now owners.old (thread_of entry.now))) (owner_in input.now owners.old (thread_of entry.now)) p (row_in input.now rows.old p) (changes_of entry.now)) }
 {
     if let Entry::Used { tid, changes, .. } = entry {
         let pid = owner_of(input, owners, *tid);
-        note_rows(input, rows, pid, changes.as_slice())?;
+        note_rows(alloc, input, rows, pid, changes.as_slice())?;
         note_owners(input, owners, changes.as_slice())?;
     }
     Ok(())
 }
 
-impl<'a> Ledger<'a> {
+impl Ledger {
     /// Before the first entry.
     pub fn new(alloc: Global) -> Self
         ensures { (i : Input) → IsLedger i result [] }
@@ -140,7 +141,7 @@ impl<'a> Ledger<'a> {
     }
 
     // What an audit says of a held call with these copies, on which none of the filters that were read decides.
-    fn decided_by_session(&self, input: &Input, copies: &'a Snapshot) -> Decided<'a>
+    fn decided_by_session<'s>(&self, input: &Input, copies: &'s Snapshot) -> Decided<'s>
         ensures { result ≡ decided_by input.now self.now.session.filters copies.now (number_of (decision_told input.now self.now.session.filters (answer_with copies.now Unmatched))) }
     {
         let Some((number, filter)) = self.session.deciding(copies) else {
@@ -156,7 +157,7 @@ impl<'a> Ledger<'a> {
     }
 
     /// What an audit says of a held call, where it has this number and was answered.
-    pub fn decided(&self, input: &Input, seq: Option<Seq>) -> Option<Decided<'a>>
+    pub fn decided(&self, input: &Input, seq: Option<Seq>) -> Option<Decided<'_>>
         ensures { result ≡ decided_on (λ q. decided_told input.now self.now.session.filters (answer_in self.now.answers q)) seq }
     {
         let answer = self.answers.get(&seq?)?;
@@ -171,17 +172,12 @@ impl<'a> Ledger<'a> {
     }
 
     /// Takes an entry in.
-    pub fn note(
-        &mut self,
-        alloc: Global,
-        input: &'a Input,
-        entry: &'a Entry,
-    ) -> Result<(), AllocError>
+    pub fn note(&mut self, alloc: Global, input: &Input, entry: &Entry) -> Result<(), AllocError>
         ensures { OnOk result ((h : History) → IsLedger input.now self.old h → IsLedger input.now self.new (entry.now ∷ h)) }
     {
         note_session(alloc, input, &self.answers, &mut self.session, entry)?;
-        note_processes(input, &mut self.owners, &mut self.rows, entry)?;
+        note_processes(alloc, input, &mut self.owners, &mut self.rows, entry)?;
         note_entered(&mut self.entered, entry)?;
-        note_answer(&mut self.answers, entry)
+        note_answer(alloc, &mut self.answers, entry)
     }
 }

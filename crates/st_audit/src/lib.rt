@@ -12,6 +12,7 @@ mod policies;
 mod process;
 mod read;
 mod session;
+mod telling;
 
-pub use audit::{audit_text, longer_runs_extend_the_audit, told_audit};
-pub use policies::{policy_text, told_session};
+pub use audit::{AuditRecorder, longer_runs_extend_the_audit};
+pub use policies::PolicyRecorder;

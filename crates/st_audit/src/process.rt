@@ -1,15 +1,16 @@
-ghost use Rattle.std.specs.Prelude.{◌≡◌, ℕ, option_copied, OnOk};
+ghost use Rattle.std.specs.Prelude.{◌≡◌, ℕ, option_copied, IfOk, OnOk};
+ghost use Rattle.std.specs.List.{list_any};
 ghost use Rattle.st_base.specs.Numbered.{item_at_number};
 ghost use Rattle.st_effects.specs.Changes.{owner_after, owner_after_change};
 ghost use Rattle.st_law.specs.Processes.{first_process};
 ghost use Rattle.st_law.specs.Threads.{first_owner};
 ghost use Rattle.st_audit.specs.Ledger.{owner_in, row_in};
-ghost use Rattle.st_audit.specs.Rows.{row_after, row_after_change, row_of};
+ghost use Rattle.st_audit.specs.Rows.{changes_row, row_after, row_after_change, row_of};
 
-use st_base::{Pid, Tid};
+use st_base::{Pid, Text, Tid};
 use st_law::Input;
 use st_trace::Change;
-use std::alloc::AllocError;
+use std::alloc::{AllocError, Global};
 use std::collections::BTreeMap;
 use std::marker::Model;
 
@@ -29,16 +30,6 @@ impl<'a> Model for Row<'a> {
 }
 
 impl<'a> Row<'a> {
-    /// An equal one.
-    fn copy(&self) -> Row<'a>
-        ensures { result ≡ self.now }
-    {
-        Row {
-            traced: self.traced,
-            policy: self.policy,
-        }
-    }
-
     /// Whether policies apply to it.
     pub fn is_traced(&self) -> bool
         ensures { result ≡ self.now.traced }
@@ -51,6 +42,43 @@ impl<'a> Row<'a> {
         ensures { result.now ≡ self.now.policy }
     {
         self.policy
+    }
+
+    // The same, to be kept.
+    fn kept(&self, alloc: Global) -> Result<KeptRow, AllocError>
+        ensures { IfOk result (λ row. row ≡ self.now) }
+    {
+        Ok(KeptRow {
+            traced: self.traced,
+            policy: Text::of(alloc, self.policy)?,
+        })
+    }
+}
+
+/// What is kept of a process that was changed.
+#[derive(Drop)]
+pub struct KeptRow {
+    traced: bool,
+    policy: Text,
+}
+
+impl Model for KeptRow {
+    ghost use Rattle.st_audit.specs.Rows.{Row, row_with};
+
+    ghost Value = { Row };
+
+    ghost view = { λ r. row_with r.traced r.policy };
+}
+
+impl KeptRow {
+    // What an audit needs of it.
+    fn row(&self) -> Row<'_>
+        ensures { result ≡ self.now }
+    {
+        Row {
+            traced: self.traced,
+            policy: self.policy.bytes(),
+        }
     }
 }
 
@@ -99,11 +127,11 @@ pub fn owner_of(input: &Input, owners: &BTreeMap<Tid, Pid>, tid: Tid) -> Pid
 }
 
 /// What an audit needs of a process; the map has the processes that were changed.
-pub fn row_of<'a>(input: &'a Input, rows: &BTreeMap<Pid, Row<'a>>, pid: Pid) -> Row<'a>
+pub fn row_of<'a>(input: &'a Input, rows: &'a BTreeMap<Pid, KeptRow>, pid: Pid) -> Row<'a>
     ensures { result ≡ row_in input.now rows.now pid }
 {
     match rows.get(&pid) {
-        Some(row) => row.copy(),
+        Some(kept) => kept.row(),
         None => first_row(input, pid),
     }
 }
@@ -138,27 +166,42 @@ pub fn note_owners(
     Ok(())
 }
 
+// Whether a change gives a process another row.
+fn changes_row(change: &Change) -> bool
+    ensures { result ≡ changes_row change.now }
+{
+    matches!(change, Change::Forked { .. } | Change::Policy(_))
+}
+
+// Whether one of these changes does.
+fn changes_some(changes: &[Change]) -> bool
+    ensures { result ≡ list_any changes_row changes.now }
+{
+    changes.iter().any(|change| changes_row(change))
+}
+
 // Takes a change that process `pid`, of this row, makes into the map of rows.
-fn note_row<'a>(
-    input: &'a Input,
-    rows: &mut BTreeMap<Pid, Row<'a>>,
+fn note_row(
+    alloc: Global,
+    input: &Input,
+    rows: &mut BTreeMap<Pid, KeptRow>,
     pid: Pid,
-    parent: &Row<'a>,
-    change: &'a Change,
+    parent: &KeptRow,
+    change: &Change,
 ) -> Result<(), AllocError>
     ensures { OnOk result ((p : ℕ) → row_in input.now rows.new p ≡ row_after_change parent.now pid p (row_in input.now rows.old p) change.now) }
 {
     match change {
         Change::Forked { pid: child, .. } => {
-            rows.insert(*child, parent.copy())?;
+            let row = parent.row().kept(alloc)?;
+            rows.insert(*child, row)?;
         }
         Change::Policy(binary) => {
-            let row = row_of(input, rows, pid);
-            let changed = Row {
-                traced: row.traced,
-                policy: binary.bytes(),
+            let row = KeptRow {
+                traced: row_of(input, rows, pid).is_traced(),
+                policy: binary.copy(alloc)?,
             };
-            rows.insert(pid, changed)?;
+            rows.insert(pid, row)?;
         }
         _ => {}
     }
@@ -166,17 +209,21 @@ fn note_row<'a>(
 }
 
 /// Takes changes that a process makes into the map of rows: a child has the row that its parent had before them.
-pub fn note_rows<'a>(
-    input: &'a Input,
-    rows: &mut BTreeMap<Pid, Row<'a>>,
+pub fn note_rows(
+    alloc: Global,
+    input: &Input,
+    rows: &mut BTreeMap<Pid, KeptRow>,
     pid: Pid,
-    changes: &'a [Change],
+    changes: &[Change],
 ) -> Result<(), AllocError>
     ensures { OnOk result ((p : ℕ) → row_in input.now rows.new p ≡ row_after (row_in input.now rows.old pid) pid p (row_in input.now rows.old p) changes.now) }
 {
-    let parent = row_of(input, rows, pid);
+    if !changes_some(changes) {
+        return Ok(());
+    }
+    let parent = row_of(input, rows, pid).kept(alloc)?;
     for change in changes {
-        note_row(input, rows, pid, &parent, change)?;
+        note_row(alloc, input, rows, pid, &parent, change)?;
     }
     Ok(())
 }

@@ -54,7 +54,7 @@ fn add_filter(
 pub fn note_session(
     alloc: Global,
     input: &Input,
-    answers: &BTreeMap<Seq, Answer<'_>>,
+    answers: &BTreeMap<Seq, Answer>,
     session: &mut Session,
     entry: &Entry,
 ) -> Result<(), AllocError>

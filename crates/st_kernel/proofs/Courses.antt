@@ -13,9 +13,9 @@ use Rattle.st_law.specs.declared.input.Input.{Input}
 use Rattle.st_reached.specs.Waiting.{wakes}
 use Rattle.st_reached.proofs.Reached.{Reached, reached_run}
 use Rattle.st_reached.proofs.StillKept.{none_more}
-use Rattle.st_report.specs.Detail.{noted}
-use Rattle.st_report.specs.declared.detail.Detail.{Detail}
-use Rattle.st_report.proofs.Noted.{noted_in_order}
+use Rattle.st_report.specs.ScheduleText.{repeats_of, repeats_with, spelled_choices}
+use Rattle.st_report.specs.declared.schedule.Repeat.{Repeat}
+use Rattle.st_report.proofs.Repeats.{one_more_choice, spelled_again}
 use Rattle.st_machine.specs.Machine.{IsMachine, IsStep, Running}
 use Rattle.st_kernel.specs.Kernel.{IsCourse}
 use Rattle.st_kernel.specs.Waking.{is_asleep, is_woken}
@@ -53,13 +53,13 @@ pub record HasWoken (woken : Woken) (first : ℕ) (asleep : List Bool) (first_th
 abbrev pub WakesNoOther : Running → Entry → Woken → Type 0
 WakesNoOther m e woken = (st : State) → IsMachine m st → (t : ℕ) → wakes st e t ≡ true → is_woken woken t ≡ true
 
-module _ (m new : Running) (detail : Detail) (trace : List Entry) (choices : List Choice) (first : ℕ) (asleep : List Bool) (course : IsCourse m detail trace choices first asleep) (c : Choice) (e : Entry)
-    (adds : entry_of m.input (state_of_run m.input choices) c ≡ Some e) (is : IsMachine new (state_after m.input (state_of_run m.input choices) e)) (woken : Woken) (only : WakesNoOther new e woken) where
+module _ (m new : Running) (kept : List Repeat) (first : ℕ) (asleep : List Bool) (course : IsCourse m kept first asleep) (c : Choice) (e : Entry)
+    (adds : entry_of m.input (state_of_run m.input (spelled_choices kept)) c ≡ Some e) (is : IsMachine new (state_after m.input (state_of_run m.input (spelled_choices kept)) e)) (woken : Woken) (only : WakesNoOther new e woken) where
   abbrev st : State
-  st = state_of_run m.input choices
+  st = state_of_run m.input (spelled_choices kept)
 
   reached : Reached m.input st
-  reached = reached_run m.input course.machine.reached.startable choices
+  reached = reached_run m.input course.machine.reached.startable (spelled_choices kept)
 
   -- a thread that couldn't move and isn't woken can't
   still_then : (t : ℕ) → 1 ≤ t → thread_entry m.input st t ≡ None → is_woken woken t ≡ false → thread_entry m.input (state_after m.input st e) t ≡ None
@@ -67,26 +67,40 @@ module _ (m new : Running) (detail : Detail) (trace : List Entry) (choices : Lis
       none_more m.input st reached t some none c e adds
       (sym (wakes_behind m.input st e t) ∙ not_woken (wakes (state_after m.input st e) e t) (is_woken woken t) (only (state_after m.input st e) is t) unwoken)
 
+-- ---- the choices that are kept
+
+-- one more is the last of them
+pub spelled_more : (kept : List Repeat) (c : Choice) → kept ≡ repeats_of (spelled_choices kept) → spelled_choices (repeats_with kept c) ≡ spelled_choices kept ++ c ∷ []
+spelled_more kept c joined =
+    let choices = spelled_choices kept in
+    ap (λ (rs : List Repeat). spelled_choices (repeats_with rs c)) joined ∙ ap spelled_choices (one_more_choice choices c) ∙ spelled_again (choices ++ c ∷ [])
+
+joined_more : (kept : List Repeat) (c : Choice) → kept ≡ repeats_of (spelled_choices kept) → repeats_with kept c ≡ repeats_of (spelled_choices (repeats_with kept c))
+joined_more kept c joined =
+    ap (λ (rs : List Repeat). repeats_with rs c) joined ∙ one_more_choice (spelled_choices kept) c ∙ ap repeats_of (sym (spelled_more kept c joined))
+
 -- ---- from choice to choice
 
 -- what runs has gone on by a choice
-pub course_on : (m new : Running) (detail : Detail) (trace : List Entry) (choices : List Choice) (first : ℕ) (asleep : List Bool) (c : Choice) (e : Entry) (woken : Woken) (first_then : ℕ) (asleep_then : List Bool) →
-    IsCourse m detail trace choices first asleep → new.input ≡ m.input → IsStep m c (Some e) new → WakesNoOther new e woken → HasWoken woken first asleep first_then asleep_then →
-    IsCourse new detail (trace ++ noted detail (e ∷ [])) (choices ++ c ∷ []) first_then asleep_then
-course_on m new detail trace choices first asleep c e woken first_then asleep_then course same step only has =
+pub course_on : (m new : Running) (kept : List Repeat) (first : ℕ) (asleep : List Bool) (c : Choice) (e : Entry) (woken : Woken) (first_then : ℕ) (asleep_then : List Bool) →
+    IsCourse m kept first asleep → new.input ≡ m.input → IsStep m c (Some e) new → WakesNoOther new e woken → HasWoken woken first asleep first_then asleep_then →
+    IsCourse new (repeats_with kept c) first_then asleep_then
+course_on m new kept first asleep c e woken first_then asleep_then course same step only has =
+    let choices = spelled_choices kept in
     let st = state_of_run m.input choices in
     let made = step st course.machine in
-    let still = still_then m new detail trace choices first asleep course c e made.0 made.1 woken only in
+    let still = still_then m new kept first asleep course c e made.0 made.1 woken only in
     let from = has.from in
     let to = has.to in
     let top = course.to in
-    let entry_is : (t : ℕ) → thread_entry m.input (state_after m.input st e) t ≡ None → thread_entry new.input (state_of_run new.input (choices ++ c ∷ [])) t ≡ None =
-    λ t none. ap (λ (i : Input). thread_entry i (state_of_run i (choices ++ c ∷ [])) t) same ∙ ap (λ (s : State). thread_entry m.input s t) (state_more m.input choices c e made.0) ∙ none in
+    let all : spelled_choices (repeats_with kept c) ≡ choices ++ c ∷ [] = spelled_more kept c course.joined in
+    let state_is : state_of_run new.input (spelled_choices (repeats_with kept c)) ≡ state_after m.input st e = (λ k. state_of_run (same k) (all k)) ∙ state_more m.input choices c e made.0 in
+    let entry_is : (t : ℕ) → thread_entry m.input (state_after m.input st e) t ≡ None → thread_entry new.input (state_of_run new.input (spelled_choices (repeats_with kept c))) t ≡ None =
+    λ t none. (λ k. thread_entry (same k) (state_is k) t) ∙ none in
     record {
-      machine = subst (λ (i : Input). IsMachine new (state_of_run i (choices ++ c ∷ []))) (sym same) (subst (IsMachine new) (sym (state_more m.input choices c e made.0)) made.1);
-      trace_is = ap (λ (l : List Entry). l ++ noted detail (e ∷ [])) course.trace_is ∙ sym (noted_in_order detail (run m.input choices) (e ∷ [])) ∙ ap (noted detail) (sym (run_more m.input choices c e made.0))
-          ∙ ap (λ (i : Input). noted detail (run i (choices ++ c ∷ []))) (sym same);
-      enabled = ap (λ (i : Input). length (run i (choices ++ c ∷ []))) same ∙ ap length (run_more m.input choices c e made.0) ∙ length-append (run m.input choices) (e ∷ []) ∙ ap (λ (k : ℕ). k + 1) course.enabled ∙ sym (length-append choices (c ∷ []));
+      machine = subst (IsMachine new) (sym state_is) made.1;
+      joined = joined_more kept c course.joined;
+      enabled = (λ k. length (run (same k) (all k))) ∙ ap length (run_more m.input choices c e made.0) ∙ length-append (run m.input choices) (e ∷ []) ∙ ap (λ (k : ℕ). k + 1) course.enabled ∙ sym (length-append choices (c ∷ [])) ∙ sym (ap length all);
       still = λ t some before. entry_is t (still t some (course.still t some (omega (arith, before, to))) (has.before t some before));
       from = from;
       to = subst (λ (i : Input). first_then ≤ suc (thread_count i)) (sym same) (omega (arith, to, top));
@@ -95,27 +109,29 @@ course_on m new detail trace choices first asleep c e woken first_then asleep_th
     }
 
 -- what runs is as good as before
-pub course_same : (m new : Running) (detail : Detail) (trace : List Entry) (choices : List Choice) (first : ℕ) (asleep : List Bool) → IsCourse m detail trace choices first asleep → new.input ≡ m.input → IsMachine new (state_of_run m.input choices) →
-    IsCourse new detail trace choices first asleep
-course_same m new detail trace choices first asleep course same is = record {
-  machine = subst (λ (i : Input). IsMachine new (state_of_run i choices)) (sym same) is;
-  trace_is = course.trace_is ∙ ap (λ (i : Input). noted detail (run i choices)) (sym same);
-  enabled = ap (λ (i : Input). length (run i choices)) same ∙ course.enabled;
-  still = λ t some before. ap (λ (i : Input). thread_entry i (state_of_run i choices) t) same ∙ course.still t some before;
-  from = course.from;
-  to = subst (λ (i : Input). first ≤ suc (thread_count i)) (sym same) course.to;
-  marked = λ place is. ap (λ (i : Input). thread_entry i (state_of_run i choices) (suc place)) same ∙ course.marked place is;
-  count = course.count ∙ ap thread_count (sym same);
-}
+pub course_same : (m new : Running) (kept : List Repeat) (first : ℕ) (asleep : List Bool) → IsCourse m kept first asleep → new.input ≡ m.input → IsMachine new (state_of_run m.input (spelled_choices kept)) →
+    IsCourse new kept first asleep
+course_same m new kept first asleep course same is =
+    let choices = spelled_choices kept in
+    record {
+      machine = subst (λ (i : Input). IsMachine new (state_of_run i choices)) (sym same) is;
+      joined = course.joined;
+      enabled = ap (λ (i : Input). length (run i choices)) same ∙ course.enabled;
+      still = λ t some before. ap (λ (i : Input). thread_entry i (state_of_run i choices) t) same ∙ course.still t some before;
+      from = course.from;
+      to = subst (λ (i : Input). first ≤ suc (thread_count i)) (sym same) course.to;
+      marked = λ place is. ap (λ (i : Input). thread_entry i (state_of_run i choices) (suc place)) same ∙ course.marked place is;
+      count = course.count ∙ ap thread_count (sym same);
+    }
 
 -- ---- the threads before one
 
 -- the cursor goes on
-pub course_from : (m : Running) (detail : Detail) (trace : List Entry) (choices : List Choice) (first then : ℕ) (asleep : List Bool) → IsCourse m detail trace choices first asleep → 1 ≤ then → then ≤ thread_count m.input
-    → ((t : ℕ) → 1 ≤ t → t < then → thread_entry m.input (state_of_run m.input choices) t ≡ None) → IsCourse m detail trace choices then asleep
-course_from m detail trace choices first then asleep course from to still = record {
+pub course_from : (m : Running) (kept : List Repeat) (first then : ℕ) (asleep : List Bool) → IsCourse m kept first asleep → 1 ≤ then → then ≤ thread_count m.input
+    → ((t : ℕ) → 1 ≤ t → t < then → thread_entry m.input (state_of_run m.input (spelled_choices kept)) t ≡ None) → IsCourse m kept then asleep
+course_from m kept first then asleep course from to still = record {
   machine = course.machine;
-  trace_is = course.trace_is;
+  joined = course.joined;
   enabled = course.enabled;
   still = still;
   from = from;
@@ -125,17 +141,17 @@ course_from m detail trace choices first then asleep course from to still = reco
 }
 
 -- one that can't move is marked
-pub course_marked : (m : Running) (detail : Detail) (trace : List Entry) (choices : List Choice) (first place : ℕ) (asleep marks : List Bool) → IsCourse m detail trace choices first asleep → marks ≡ set asleep place true
-    → thread_entry m.input (state_of_run m.input choices) (suc place) ≡ None → IsCourse m detail trace choices first marks
-course_marked m detail trace choices first place asleep marks course is none = record {
+pub course_marked : (m : Running) (kept : List Repeat) (first place : ℕ) (asleep marks : List Bool) → IsCourse m kept first asleep → marks ≡ set asleep place true
+    → thread_entry m.input (state_of_run m.input (spelled_choices kept)) (suc place) ≡ None → IsCourse m kept first marks
+course_marked m kept first place asleep marks course is none = record {
   machine = course.machine;
-  trace_is = course.trace_is;
+  joined = course.joined;
   enabled = course.enabled;
   still = course.still;
   from = course.from;
   to = course.to;
   marked = λ other marked. elim (cases_eq other place) [
-    | inl same ↦ ap (λ (k : ℕ). thread_entry m.input (state_of_run m.input choices) (suc k)) same ∙ none
+    | inl same ↦ ap (λ (k : ℕ). thread_entry m.input (state_of_run m.input (spelled_choices kept)) (suc k)) same ∙ none
     | inr ne ↦ course.marked other (sym (get_or-set_other asleep place other true false ne) ∙ ap (λ (l : List Bool). get_or l other false) (sym is) ∙ marked)
   ];
   count = ap length is ∙ length-set asleep place true ∙ course.count;

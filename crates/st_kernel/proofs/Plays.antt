@@ -8,23 +8,22 @@ use Rattle.st_trace.specs.declared.entry.Choice.{Choice}
 use Rattle.st_trace.specs.declared.entry.Entry.{Entry}
 use Rattle.st_law.proofs.Resting.{rest_settles}
 use Rattle.st_law.specs.Inputs.{IsStartable}
-use Rattle.st_law.specs.Machine.{entry_of, state_after, state_of_run, IsEnabled}
+use Rattle.st_law.specs.Machine.{entry_of, state_after, state_of_run}
 use Rattle.st_law.specs.Schedules.{Played, further_on, line_played, most_steps, repeated, rest_from}
 use Rattle.st_law.specs.State.{State}
 use Rattle.st_law.specs.declared.input.Input.{Input}
 use Rattle.st_law.specs.declared.input.What.TheVariants.{Rest}
 use Rattle.st_kernel.specs.declared.kernel.StepFault.{StepFault}
-use Rattle.st_report.specs.declared.detail.Detail.{Detail}
-use Rattle.st_kernel.specs.Kernel.{Course, rested, standing, with_choice, Continues}
-use Rattle.st_kernel.proofs.Courses.{state_more}
+use Rattle.st_kernel.specs.Kernel.{Course, rested, standing, state_in, trace_of, with_choice, Continues}
+use Rattle.st_kernel.proofs.Courses.{run_more, state_more}
 
-module _ (i : Input) (made : List Choice) (detail : Detail) where
+module _ (i : Input) (made : List Choice) where
   abbrev here : Course
-  here = record { input = i; choices = made; detail = detail }
+  here = record { input = i; choices = made }
 
   -- ---- a choice many times
 
-  pub repeated_further : (count : ℕ) (c : Choice) (e : Entry) → entry_of i (state_of_run i made) c ≡ Some e → repeated (suc count) c i (standing here) ≡ repeated count c i (standing (record { input = i; choices = made ++ c ∷ []; detail = detail }))
+  pub repeated_further : (count : ℕ) (c : Choice) (e : Entry) → entry_of i (state_of_run i made) c ≡ Some e → repeated (suc count) c i (standing here) ≡ repeated count c i (standing (record { input = i; choices = made ++ c ∷ [] }))
   repeated_further count c e adds =
       ap (further_on (λ (entry : Entry). repeated count c i (record { choices = made ++ c ∷ []; state = state_after i (state_of_run i made) entry }))) adds
       ∙ ap (λ (st : State). repeated count c i (record { choices = made ++ c ∷ []; state = st })) (sym (state_more i made c e adds))
@@ -48,21 +47,31 @@ module _ (old : Course) (c : Choice) (count k : ℕ) (within : k < count) where
   one_less : count - k ≡ suc (count - (k + 1))
   one_less = omega (arith, within)
 
-  further : (new : Course) → new ≡ with_choice old c → IsEnabled i (state_of_run i old.choices) c → repeated (count - (k + 1)) c i (standing new) ≡ repeated (count - k) c i (standing old)
-  further new on enabled =
+  further : (new : Course) (e : Entry) → new ≡ with_choice old c → entry_of i (state_in old) c ≡ Some e → repeated (count - (k + 1)) c i (standing new) ≡ repeated (count - k) c i (standing old)
+  further new e on adds =
       ap (λ (course : Course). repeated (count - (k + 1)) c i (standing course)) on
-      ∙ sym (repeated_further i old.choices old.detail (count - (k + 1)) c enabled.0 enabled.1)
+      ∙ sym (repeated_further i old.choices (count - (k + 1)) c e adds)
       ∙ ap (λ (n : ℕ). repeated n c i (standing old)) (sym one_less)
 
-  stuck : entry_of i (state_of_run i old.choices) c ≡ None → repeated (count - k) c i (standing old) ≡ None
-  stuck none = ap (λ (n : ℕ). repeated n c i (standing old)) one_less ∙ repeated_stuck i old.choices old.detail (count - (k + 1)) c none
+  stuck : entry_of i (state_in old) c ≡ None → repeated (count - k) c i (standing old) ≡ None
+  stuck none = ap (λ (n : ℕ). repeated n c i (standing old)) one_less ∙ repeated_stuck i old.choices (count - (k + 1)) c none
 
   -- one round more leaves one time less to make the choice
-  pub round_further : (input : Input) → i ≡ input → (new : Course) → new ≡ with_choice old c → IsEnabled i (state_of_run i old.choices) c → repeated (count - (k + 1)) c input (standing new) ≡ repeated (count - k) c input (standing old)
-  round_further input same new on enabled = subst (λ (j : Input). repeated (count - (k + 1)) c j (standing new) ≡ repeated (count - k) c j (standing old)) same (further new on enabled)
+  pub round_further : (input : Input) → i ≡ input → (new : Course) (e : Entry) → new ≡ with_choice old c → entry_of i (state_in old) c ≡ Some e → repeated (count - (k + 1)) c input (standing new) ≡ repeated (count - k) c input (standing old)
+  round_further input same new e on adds = subst (λ (j : Input). repeated (count - (k + 1)) c j (standing new) ≡ repeated (count - k) c j (standing old)) same (further new e on adds)
 
-  pub round_stuck : (input : Input) → i ≡ input → entry_of i (state_of_run i old.choices) c ≡ None → repeated (count - k) c input (standing old) ≡ None
+  pub round_stuck : (input : Input) → i ≡ input → entry_of i (state_in old) c ≡ None → repeated (count - k) c input (standing old) ≡ None
   round_stuck input same none = subst (λ (j : Input). repeated (count - k) c j (standing old) ≡ None) same (stuck none)
+
+-- ---- entries that are taken down
+
+-- what holds of the run so far, and then of each longer one by an entry, holds behind a choice
+pub noted_on : (P Q : Input → List Entry → Type 0) (old : Course) (c : Choice) (e : Entry) (new : Course) (i : Input) → new ≡ with_choice old c → i ≡ new.input → entry_of old.input (state_in old) c ≡ Some e
+    → ((trace : List Entry) → P i trace → Q i (trace ++ e ∷ [])) → P old.input (trace_of old) → Q new.input (trace_of new)
+noted_on P Q old c e new i on same adds noted x =
+    let was : i ≡ old.input = same ∙ ap (λ (course : Course). course.input) on in
+    subst (λ (j : Input). Q j (trace_of new)) same
+    (subst (Q i) (sym (ap trace_of on ∙ run_more old.input old.choices c e adds)) (noted (trace_of old) (subst (λ (j : Input). P j (trace_of old)) (sym was) x)))
 
 -- ---- choices that were made stand
 

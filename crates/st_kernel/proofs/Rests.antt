@@ -2,8 +2,6 @@
 use native.Mathlib.Omega.{arith}
 use Rattle.std.proofs.Common.{◌≡◌, ◌≤◌, ◌<◌, ◌∙◌, ℕ, zero, suc, ◌+◌, ◌-◌, ◌∷◌, ◌++◌, true, List, [], length, Option, Some, None, refl, ap, sym, subst}
 use Rattle.std.proofs.lemmas.List.{append_assoc, length-append}
-use Rattle.std.proofs.lemmas.Option.{none-some, same_Some}
-use Rattle.std.specs.Option.{option_map}
 use Rattle.st_trace.specs.declared.entry.Choice.{Choice}
 use Rattle.st_trace.specs.declared.entry.Entry.{Entry}
 use Rattle.st_law.specs.Inputs.{IsStartable}
@@ -13,8 +11,7 @@ use Rattle.st_law.specs.State.{State}
 use Rattle.st_law.specs.declared.input.Input.{Input}
 use Rattle.st_law.proofs.EndOfRuns.{run_bound}
 use Rattle.st_law.proofs.Resting.{first_found, rest_settles}
-use Rattle.st_report.specs.declared.detail.Detail.{Detail}
-use Rattle.st_kernel.specs.Kernel.{Course, IsNext, IsPlayed, next_of, rested}
+use Rattle.st_kernel.specs.Kernel.{Course, IsNext, IsPlayed, next_of, rested, state_in}
 use Rattle.st_kernel.proofs.Courses.{run_more, state_more}
 
 module _ (i : Input) (startable : IsStartable i) where
@@ -62,10 +59,6 @@ module _ (i : Input) (startable : IsStartable i) where
   enough (suc count) made are few = step count made (first_enabled i (state_of_run i made)) refl
       (λ found e. enough count (made ++ found.choice ∷ []) (enabled_more made found.choice found.entry are (first_found i (state_of_run i made) found e)) (let long = longer made found.choice in omega (arith, few, long)))
 
-  some_next : (o : Option EnabledChoice) (c : Choice) → option_map (λ (found : EnabledChoice). found.choice) o ≡ Some c → (found : EnabledChoice) × (o ≡ Some found) × (found.choice ≡ c)
-  some_next None c e = absurd (none-some c e)
-  some_next (Some found) c e = (found, refl, same_Some found.choice c e)
-
   further : (made : List Choice) (found : EnabledChoice) → AreEnabled made → first_enabled i (state_of_run i made) ≡ Some found → (most : ℕ) → most_steps i ≡ most
       → rest_from most i (state_of_run i (made ++ found.choice ∷ [])) (made ++ found.choice ∷ []) ≡ rest_from most i (state_of_run i made) made
   further made found are e zero same = let more = room made found.choice found.entry are (first_found i (state_of_run i made) found e) in absurd (omega (arith, more, same))
@@ -76,30 +69,21 @@ module _ (i : Input) (startable : IsStartable i) where
       ∙ sym (ap (rest_on (record { choices = made; state = state_of_run i made }) (λ other. behind count made other)) e)
 
   -- `rest` comes to the same behind the choice that it makes first
-  pub rest_further : (detail : Detail) (made : List Choice) (c : Choice) → AreEnabled made → next_of (record { input = i; choices = made; detail = detail }) ≡ Some c → rested (record { input = i; choices = made ++ c ∷ []; detail = detail }) ≡ rested (record { input = i; choices = made; detail = detail })
-  rest_further detail made c are e =
-      let x = some_next (first_enabled i (state_of_run i made)) c e in
-      subst (λ (first : Choice). rested (record { input = i; choices = made ++ first ∷ []; detail = detail }) ≡ rested (record { input = i; choices = made; detail = detail })) x.2
-      (ap (λ (played : Played). record { input = i; choices = played.choices; detail = detail }) (further made x.0 are x.1 (most_steps i) refl))
-
-  pub next_adds : (detail : Detail) (made : List Choice) (c : Choice) → next_of (record { input = i; choices = made; detail = detail }) ≡ Some c → (e : Entry) × (entry_of i (state_of_run i made) c ≡ Some e)
-  next_adds detail made c e =
-      let x = some_next (first_enabled i (state_of_run i made)) c e in
-      (x.0.entry, subst (λ (first : Choice). entry_of i (state_of_run i made) first ≡ Some x.0.entry) x.2 (first_found i (state_of_run i made) x.0 x.1))
+  pub rest_further : (made : List Choice) (found : EnabledChoice) → AreEnabled made → first_enabled i (state_of_run i made) ≡ Some found → rested (record { input = i; choices = made ++ found.choice ∷ [] }) ≡ rested (record { input = i; choices = made })
+  rest_further made found are e = ap (λ (played : Played). record { input = i; choices = played.choices }) (further made found are e (most_steps i) refl)
 
 -- where none is enabled `rest` makes none
 rests_at : (course : Course) → next_of course ≡ None → rest_from (most_steps course.input) course.input (state_of_run course.input course.choices) course.choices ≡ record { choices = course.choices; state = state_of_run course.input course.choices }
-rests_at course none = by (most_steps course.input) (first_enabled course.input st) refl none where
+rests_at course none = by (most_steps course.input) where
   st : State
-  st = state_of_run course.input course.choices
+  st = state_in course
 
-  by : (most : ℕ) (o : Option EnabledChoice) → first_enabled course.input st ≡ o → option_map (λ (found : EnabledChoice). found.choice) o ≡ None → rest_from most course.input st course.choices ≡ record { choices = course.choices; state = st }
-  by zero o is none = refl
-  by (suc count) None is none = ap (rest_on (record { choices = course.choices; state = st }) (λ found. rest_from count course.input (state_after course.input st found.entry) (course.choices ++ found.choice ∷ []))) is
-  by (suc count) (Some found) is none = absurd (none-some found.choice (sym none))
+  by : (most : ℕ) → rest_from most course.input st course.choices ≡ record { choices = course.choices; state = st }
+  by zero = refl
+  by (suc count) = ap (rest_on (record { choices = course.choices; state = st }) (λ found. rest_from count course.input (state_after course.input st found.entry) (course.choices ++ found.choice ∷ []))) none
 
 pub rest_over : (course : Course) → next_of course ≡ None → rested course ≡ course
-rest_over course none = ap (λ (played : Played). record { input = course.input; choices = played.choices; detail = course.detail }) (rests_at course none)
+rest_over course none = ap (λ (played : Played). record { input = course.input; choices = played.choices }) (rests_at course none)
 
 -- and no choice at all is
 pub settled_at : (course : Course) → IsPlayed course → next_of course ≡ None → IsSettled course.input (state_of_run course.input course.choices)
@@ -108,6 +92,10 @@ settled_at course played none =
 
 -- ---- a step of `rest`
 
+-- the choice that comes first adds its entry
+pub next_adds : (course : Course) (e : Entry) (c : Choice) → next_of course ≡ Some (record { choice = c; entry = e }) → entry_of course.input (state_in course) c ≡ Some e
+next_adds course e c first = first_found course.input (state_in course) (record { choice = c; entry = e }) first
+
 -- a course has gone on by a choice, `rest` comes to the same behind it, and fewer steps are left
 pub record GoesOn (before after : Course) : Type 0 where
   pub on_the_way : rested after ≡ rested before
@@ -115,14 +103,12 @@ pub record GoesOn (before after : Course) : Type 0 where
   pub less : most_steps after.input - length after.choices < most_steps before.input - length before.choices
 
 -- the first choice that is enabled is made, and leads on
-pub goes_on : (before after : Course) → IsPlayed before → IsNext before true after → GoesOn before after
-goes_on before after played made =
-    let c = made.0 in
-    let adds = next_adds before.input played.startable before.detail before.choices c made.1 in
-    let more = room before.input played.startable before.choices c adds.0 played.enabled adds.1 in
+pub goes_on : (before after : Course) (added : Option Entry) → IsPlayed before → IsNext before true added after → GoesOn before after
+goes_on before after added played (e, c, there, first, on) =
+    let more = room before.input played.startable before.choices c e played.enabled (next_adds before e c first) in
     let long = length-append before.choices (c ∷ []) in
-    subst (GoesOn before) (sym made.2) (record {
-      on_the_way = rest_further before.input played.startable before.detail before.choices c played.enabled made.1;
+    subst (GoesOn before) (sym on) (record {
+      on_the_way = rest_further before.input played.startable before.choices (record { choice = c; entry = e }) played.enabled first;
       made = (c, refl);
       less = omega (arith, more, long);
     })

@@ -1,20 +1,20 @@
-ghost use Rattle.std.specs.Prelude.{◌≡◌, ◌≤◌, [], None, is_some, IfOk, OnOk, OnErr};
+ghost use Rattle.std.specs.Prelude.{◌≡◌, ◌≤◌, [], None, Some, is_some, IfOk, OnOk, OnErr};
 ghost use Rattle.st_law.specs.Inputs.{IsStartable};
 ghost use Rattle.st_law.specs.Lawful.{Lawful};
-ghost use Rattle.st_law.specs.Machine.{entry_of, run, state_of_run, IsEnabled, IsSettled};
+ghost use Rattle.st_law.specs.Machine.{entry_of, IsEnabled, IsSettled};
+ghost use Rattle.st_law.specs.State.{thread_count};
 ghost use Rattle.st_reached.specs.Grants.{RepliesUngranted, SetIdsUngranted};
 ghost use Rattle.st_reached.specs.Scripts.{IsBounded};
-ghost use Rattle.st_report.specs.Detail.{noted};
-ghost use Rattle.st_law.specs.State.{thread_count};
+ghost use Rattle.st_report.specs.ScheduleText.{repeats_of};
 ghost use Rattle.st_system.specs.Start.{CanStart};
 ghost use Rattle.st_trace.specs.declared.entry.Choice.TheVariants.{Thread, Worker};
-ghost use Rattle.st_kernel.specs.Kernel.{rested, with_choice, Continues, HasMade, IsChosen, IsNext, IsPlayed, NoneMoves};
+ghost use Rattle.st_kernel.specs.Kernel.{rested, state_in, trace_of, with_choice, Continues, HasMade, IsChosen, IsNext, IsPlayed, NoneMoves};
 
 use crate::waking::woken_by;
 use st_base::Tid;
 use st_law::Input;
 use st_machine::Machine;
-use st_report::Detail;
+use st_report::{Recorder, Repeat, note_choice};
 use st_trace::{Choice, Entry};
 use std::alloc::{AllocError, Global};
 use std::marker::Model;
@@ -44,10 +44,8 @@ impl From<AllocError> for StepFault {
 #[derive(Debug, Drop)]
 pub struct Kernel<'a> {
     machine: Machine<'a>,
-    // What is noted of the run, in this detail.
-    detail: Detail,
-    trace: Vec<Entry>,
-    schedule: Vec<Choice>,
+    // The choices that were made, with equal neighbours joined.
+    made: Vec<Repeat>,
     // No thread before this one can move,
     first: Tid,
     // nor one that is marked here. Thread t stands at t - 1.
@@ -57,20 +55,21 @@ pub struct Kernel<'a> {
 impl<'a> Model for Kernel<'a> {
     ghost use Rattle.std.specs.Coded.{codes};
     ghost use Rattle.st_filter.specs.FormulaCode.{formula_code};
+    ghost use Rattle.st_report.specs.ScheduleText.{spelled_choices};
     ghost use Rattle.st_kernel.specs.Kernel.{Course, IsCourse};
 
     ghost Value = { Course };
 
     ghost coded = { Prim.hlevel (codes, formula_code) };
 
-    ghost view = { λ k. record { input = k.machine.input; choices = k.schedule.items; detail = k.detail } };
+    ghost view = { λ k. record { input = k.machine.input; choices = spelled_choices k.made.items } };
 
-    ghost invariant = { λ k. IsCourse k.machine k.detail k.trace.items k.schedule.items k.first k.asleep.items };
+    ghost invariant = { λ k. IsCourse k.machine k.made.items k.first k.asleep.items };
 }
 
 impl<'a> Kernel<'a> {
-    /// A run before its first choice, of which is noted what this detail asks for.
-    pub fn start(alloc: Global, input: &'a Input, detail: Detail) -> Result<Self, AllocError>
+    /// A run before its first choice.
+    pub fn start(alloc: Global, input: &'a Input) -> Result<Self, AllocError>
         requires startable { IsStartable input.now }
         requires system { CanStart input.now }
         requires bounded { IsBounded input.now.start }
@@ -78,15 +77,12 @@ impl<'a> Kernel<'a> {
         requires replies { RepliesUngranted input.now.replies }
         ensures input { IfOk result (λ kernel. kernel.input ≡ input.now) }
         ensures choices { IfOk result (λ kernel. kernel.choices ≡ []) }
-        ensures detail { IfOk result (λ kernel. kernel.detail ≡ detail) }
     {
         let machine = Machine::start(alloc, input)?;
         let asleep = vec![in alloc; false; machine.thread_count() as usize]?;
         Ok(Kernel {
             machine,
-            detail,
-            trace: Vec::new(alloc),
-            schedule: Vec::new(alloc),
+            made: Vec::new(alloc),
             first: 1,
             asleep,
         })
@@ -99,25 +95,19 @@ impl<'a> Kernel<'a> {
         self.machine.input()
     }
 
-    /// What was done: what is noted of the run that the choices make, each of whose entries is lawful by those before it.
-    pub fn trace(&self) -> &[Entry]
-        ensures noted { result.now ≡ noted self.now.detail (run self.now.input self.now.choices) }
-        ensures lawful { Lawful self.now.input (run self.now.input self.now.choices) }
-    {
-        self.trace.as_slice()
-    }
-
-    /// The choices that were made, in order. Each was enabled at its turn.
-    pub fn schedule(&self) -> &[Choice]
-        ensures choices { result.now ≡ self.now.choices }
+    /// The choices that were made, in order, with equal neighbours joined. Each was enabled at its turn, and each entry of the run that they
+    /// make is lawful by those before it.
+    pub fn schedule(&self) -> &[Repeat]
+        ensures choices { result.now ≡ repeats_of self.now.choices }
         ensures enabled { IsPlayed self.now }
+        ensures lawful { Lawful self.now.input (trace_of self.now) }
     {
-        self.schedule.as_slice()
+        self.made.as_slice()
     }
 
     /// Whether a choice is enabled: it would add an entry now.
     pub fn is_enabled(&self, alloc: Global, choice: Choice) -> Result<bool, AllocError>
-        ensures { IfOk result (λ enabled. enabled ≡ is_some (entry_of self.now.input (state_of_run self.now.input self.now.choices) choice)) }
+        ensures { IfOk result (λ enabled. enabled ≡ is_some (entry_of self.now.input (state_in self.now) choice)) }
     {
         match choice {
             Choice::Thread(tid) => self.machine.can_move(alloc, tid),
@@ -129,47 +119,62 @@ impl<'a> Kernel<'a> {
         }
     }
 
-    // Makes a choice if it is enabled, and says whether it is. Without memory the run is as before.
-    fn choose(&mut self, alloc: Global, choice: Choice) -> Result<bool, AllocError>
-        ensures chosen { IfOk result (λ enabled. IsChosen self.old choice enabled self.new) }
+    // Makes a choice, leaves the entry that it adds, or none, and says whether there is one. Without memory the run is as before.
+    fn choose(
+        &mut self,
+        alloc: Global,
+        choice: Choice,
+        added: &mut Option<Entry>,
+    ) -> Result<bool, AllocError>
+        ensures chosen { IfOk result (λ made. IsChosen self.old choice made added.new self.new) }
         ensures err { OnErr result (self.new ≡ self.old) }
     {
-        self.trace.reserve(1)?;
-        self.schedule.reserve(1)?;
-        match self.machine.choose(alloc, choice)? {
+        self.made.reserve(1)?;
+        *added = self.machine.choose(alloc, choice)?;
+        match added {
             Some(entry) => {
-                let woken = woken_by(&self.machine, &entry);
+                let woken = woken_by(&self.machine, entry);
                 self.first = woken.cursor(self.first);
                 woken.wake(&mut self.asleep);
-                self.detail.note(&mut self.trace, entry);
-                self.schedule.push_reserved(choice);
+                note_choice(&mut self.made, choice);
                 Ok(true)
             }
             None => Ok(false),
         }
     }
 
-    /// Makes a choice, which adds one entry to the trace. One that isn't enabled is refused. After a refusal the run is as before.
-    pub fn advance(&mut self, alloc: Global, choice: Choice) -> Result<(), StepFault>
+    /// Makes a choice, and leaves the entry that it adds. One that isn't enabled is refused. After a refusal the run is as before.
+    pub fn advance(
+        &mut self,
+        alloc: Global,
+        choice: Choice,
+        added: &mut Option<Entry>,
+    ) -> Result<(), StepFault>
         ensures ok { OnOk result (self.new ≡ with_choice self.old choice) }
-        ensures enabled { OnOk result (IsEnabled self.old.input (state_of_run self.old.input self.old.choices) choice) }
-        ensures not_enabled { result ≡ Err StepFault.NotEnabled → entry_of self.old.input (state_of_run self.old.input self.old.choices) choice ≡ None }
+        ensures enabled { OnOk result (IsEnabled self.old.input (state_in self.old) choice) }
+        ensures entry { OnOk result (added.new ≡ entry_of self.old.input (state_in self.old) choice) }
+        ensures not_enabled { result ≡ Err StepFault.NotEnabled → entry_of self.old.input (state_in self.old) choice ≡ None }
         ensures err { OnErr result (self.new ≡ self.old) }
     {
-        if self.choose(alloc, choice)? {
+        if self.choose(alloc, choice, added)? {
             Ok(())
         } else {
             Err(StepFault::NotEnabled)
         }
     }
 
-    // Has a thread move where none before it can, and says whether it does. One that can't is marked as asleep. Without memory the run is as
-    // before.
-    fn move_here(&mut self, alloc: Global, tid: Tid) -> Result<bool, AllocError>
+    // Has a thread move where none before it can, and leaves the entry that this adds; none where it can't, and then it is marked as asleep.
+    // Without memory the run is as before.
+    fn move_here(
+        &mut self,
+        alloc: Global,
+        tid: Tid,
+        added: &mut Option<Entry>,
+    ) -> Result<bool, AllocError>
         requires from { 1 ≤ tid }
         requires to { tid ≤ thread_count self.old.input }
         requires before { NoneMoves self.old tid }
-        ensures chosen { IfOk result (λ moved. IsChosen self.old (Thread tid) moved self.new) }
+        ensures chosen { IfOk result (λ moved. IsChosen self.old (Thread tid) moved added.new self.new) }
         ensures err { OnErr result (self.new ≡ self.old) }
     {
         self.first = tid;
@@ -177,65 +182,71 @@ impl<'a> Kernel<'a> {
         if self.asleep[place] {
             return Ok(false);
         }
-        let moved = self.choose(alloc, Choice::Thread(tid))?;
+        let moved = self.choose(alloc, Choice::Thread(tid), added)?;
         if !moved {
             self.asleep[place] = true;
         }
         Ok(moved)
     }
 
-    // Has the first thread move that can, and says whether there is one. Without memory the run is as before.
-    fn move_first(&mut self, alloc: Global) -> Result<bool, AllocError>
-        ensures made { IfOk result (λ made. HasMade Thread (thread_count self.old.input) self.old made self.new) }
+    // Has the first thread move that can, leaves the entry that this adds, and says whether there is one. Without memory the run is as before.
+    fn move_first(&mut self, alloc: Global, added: &mut Option<Entry>) -> Result<bool, AllocError>
+        ensures made { IfOk result (λ made. HasMade Thread (thread_count self.old.input) self.old made added.new self.new) }
         ensures played { IsPlayed self.old }
         ensures err { OnErr result (self.new ≡ self.old) }
     {
         for tid in self.first..self.machine.thread_count() + 1 {
-            if self.move_here(alloc, tid)? {
+            if self.move_here(alloc, tid, added)? {
                 return Ok(true);
             }
         }
         Ok(false)
     }
 
-    // Has the first worker move that can, and says whether there is one. Without memory the run is as before.
-    fn serve_first(&mut self, alloc: Global) -> Result<bool, AllocError>
-        ensures made { IfOk result (λ made. HasMade Worker self.old.input.options.workers self.old made self.new) }
+    // Has the first worker move that can, leaves the entry that this adds, and says whether there is one. Without memory the run is as before.
+    fn serve_first(&mut self, alloc: Global, added: &mut Option<Entry>) -> Result<bool, AllocError>
+        ensures made { IfOk result (λ made. HasMade Worker self.old.input.options.workers self.old made added.new self.new) }
         ensures err { OnErr result (self.new ≡ self.old) }
     {
         for worker in 1..self.machine.worker_count() + 1 {
-            if self.choose(alloc, Choice::Worker(worker))? {
+            if self.choose(alloc, Choice::Worker(worker), added)? {
                 return Ok(true);
             }
         }
         Ok(false)
     }
 
-    // Makes the first choice that is enabled, and says whether there is one: threads come by number, then workers by number, then the operator. Each
-    // is tried, since to ask it first would cost as much. Without memory the run is as before.
-    fn make_next(&mut self, alloc: Global) -> Result<bool, AllocError>
-        ensures made { IfOk result (λ made. IsNext self.old made self.new) }
+    // Makes the first choice that is enabled, leaves the entry that it adds, and says whether there is one. Threads come by number, then
+    // workers by number, then the operator. Each is tried, since to ask it first would cost as much. Without memory the run is as before.
+    fn make_next(&mut self, alloc: Global, added: &mut Option<Entry>) -> Result<bool, AllocError>
+        ensures made { IfOk result (λ made. IsNext self.old made added.new self.new) }
         ensures played { IsPlayed self.old }
         ensures err { OnErr result (self.new ≡ self.old) }
     {
-        if self.move_first(alloc)? {
+        if self.move_first(alloc, added)? {
             return Ok(true);
         }
-        if self.serve_first(alloc)? {
+        if self.serve_first(alloc, added)? {
             return Ok(true);
         }
-        self.choose(alloc, Choice::Operator)
+        self.choose(alloc, Choice::Operator, added)
     }
 
-    /// Makes the first enabled choice again and again, until none is enabled. Without memory the steps that were made stand.
-    pub fn rest(&mut self, alloc: Global) -> Result<(), AllocError>
+    /// Makes the first enabled choice again and again, until none is enabled, and has each entry taken down. Without memory the steps that were
+    /// made stand.
+    pub fn rest<R: Recorder>(&mut self, alloc: Global, recorder: &mut R) -> Result<(), AllocError>
         ensures ok { OnOk result (self.new ≡ rested self.old) }
-        ensures settled { OnOk result (IsSettled self.new.input (state_of_run self.new.input self.new.choices)) }
+        ensures settled { OnOk result (IsSettled self.new.input (state_in self.new)) }
         ensures on_the_way { rested self.new ≡ rested self.old }
         ensures made { Continues self.old self.new }
         ensures played { OnOk result (IsPlayed self.new) }
+        ensures noted { OnOk result (R.has_noted recorder.old self.old.input (trace_of self.old) → R.has_noted recorder.new self.new.input (trace_of self.new)) }
     {
-        while self.make_next(alloc)? {}
+        let mut added = None;
+        while self.make_next(alloc, &mut added)? {
+            let Some(entry) = &added else { unreachable!() };
+            recorder.note(alloc, self.input(), entry)?;
+        }
         Ok(())
     }
 }

@@ -1,10 +1,11 @@
 // A schedule's lines, one after the other.
 ghost use Rattle.std.specs.Prelude.{◌≡◌, ℕ, None, Some, OnOk};
 ghost use Rattle.st_law.specs.Schedules.{BadLine, Choices, line_played, lines_played, repeated};
-ghost use Rattle.st_kernel.specs.Kernel.{standing, Continues};
+ghost use Rattle.st_kernel.specs.Kernel.{standing, trace_of, Continues};
 
 use crate::kernel::{Kernel, StepFault};
 use st_law::{ReadSchedule, ScheduleLine, What};
+use st_report::Recorder;
 use st_trace::Choice;
 use std::alloc::Global;
 use thiserror::Error;
@@ -33,45 +34,64 @@ impl PlayFault {
 }
 
 impl Kernel<'_> {
-    // Makes a choice so many times.
-    fn repeat(&mut self, alloc: Global, choice: Choice, count: u32) -> Result<(), StepFault>
+    // Makes a choice so many times, and has each entry taken down.
+    fn repeat<R: Recorder>(
+        &mut self,
+        alloc: Global,
+        choice: Choice,
+        count: u32,
+        recorder: &mut R,
+    ) -> Result<(), StepFault>
         ensures ok { OnOk result (repeated count choice self.old.input (standing self.old) ≡ Some (standing self.new)) }
         ensures not_enabled { result ≡ Err StepFault.NotEnabled → repeated count choice self.old.input (standing self.old) ≡ None }
         ensures made { Continues self.old self.new }
         ensures input { self.new.input ≡ self.old.input }
-        ensures detail { self.new.detail ≡ self.old.detail }
+        ensures noted { OnOk result (R.has_noted recorder.old self.old.input (trace_of self.old) → R.has_noted recorder.new self.new.input (trace_of self.new)) }
     {
+        let mut added = None;
         for _ in 0..count {
-            self.advance(alloc, choice)?;
+            self.advance(alloc, choice, &mut added)?;
+            let Some(entry) = &added else { unreachable!() };
+            recorder.note(alloc, self.input(), entry)?;
         }
         Ok(())
     }
 
     // Plays what one line asks for.
-    fn play_line(&mut self, alloc: Global, line: ScheduleLine) -> Result<(), StepFault>
+    fn play_line<R: Recorder>(
+        &mut self,
+        alloc: Global,
+        line: ScheduleLine,
+        recorder: &mut R,
+    ) -> Result<(), StepFault>
         ensures ok { OnOk result (line_played line.what line.count self.old.input (standing self.old) ≡ Some (standing self.new)) }
         ensures not_enabled { result ≡ Err StepFault.NotEnabled → line_played line.what line.count self.old.input (standing self.old) ≡ None }
         ensures made { Continues self.old self.new }
         ensures input { self.new.input ≡ self.old.input }
-        ensures detail { self.new.detail ≡ self.old.detail }
+        ensures noted { OnOk result (R.has_noted recorder.old self.old.input (trace_of self.old) → R.has_noted recorder.new self.new.input (trace_of self.new)) }
     {
         match line.what {
-            What::Choose(choice) => self.repeat(alloc, choice, line.count),
-            What::Rest => Ok(self.rest(alloc)?),
+            What::Choose(choice) => self.repeat(alloc, choice, line.count, recorder),
+            What::Rest => Ok(self.rest(alloc, recorder)?),
         }
     }
 
-    /// Plays a schedule from here on. It ends at the first line that isn't in the grammar or asks for a choice that isn't enabled at its
-    /// turn, or without memory; the choices made until then stand.
-    pub fn play(&mut self, alloc: Global, schedule: &ReadSchedule) -> Result<(), PlayFault>
+    /// Plays a schedule from here on, and has each entry taken down. It ends at the first line that isn't in the grammar or asks for a choice
+    /// that isn't enabled at its turn, or without memory; the choices made until then stand.
+    pub fn play<R: Recorder>(
+        &mut self,
+        alloc: Global,
+        schedule: &ReadSchedule,
+        recorder: &mut R,
+    ) -> Result<(), PlayFault>
         ensures ok { OnOk result (lines_played schedule.now.lines schedule.now.bad self.old.input (standing self.old) ≡ Choices self.new.choices) }
         ensures bad_line { (line : ℕ) → result ≡ Err (PlayFault.BadLine line) → lines_played schedule.now.lines schedule.now.bad self.old.input (standing self.old) ≡ BadLine line }
         ensures made { Continues self.old self.new }
         ensures input { self.new.input ≡ self.old.input }
-        ensures detail { self.new.detail ≡ self.old.detail }
+        ensures noted { OnOk result (R.has_noted recorder.old self.old.input (trace_of self.old) → R.has_noted recorder.new self.new.input (trace_of self.new)) }
     {
         for line in schedule.lines.as_slice() {
-            self.play_line(alloc, *line)
+            self.play_line(alloc, *line, recorder)
                 .map_err(|fault| PlayFault::at_line(line.line, fault))?;
         }
         match schedule.bad {

@@ -7,7 +7,8 @@ use Rattle.st_trace.specs.declared.entry.Entry.{Entry}
 use Rattle.st_law.specs.declared.input.Input.{Input}
 use Rattle.st_law.specs.Machine.{entry_of, history, history_with, run, state_after, state_at, state_of_run}
 use Rattle.st_law.specs.Schedules.{Choices, Played, further_on, line_on, lines_played, played, repeated}
-use Rattle.st_report.specs.ScheduleText.{Repeat, lines_from, printed_schedule, repeats_of, spelled_choices}
+use Rattle.st_report.specs.ScheduleText.{lines_from, printed_schedule, repeats_of, spelled_choices}
+use Rattle.st_report.specs.declared.schedule.Repeat.{Repeat}
 use Rattle.st_report.proofs.Repeats.{spelled_again}
 
 module _ (i : Input) where

@@ -1,11 +1,12 @@
 -- What joined neighbours stand for, and that no other lines stand for the same.
 use native.Mathlib.Omega.{arith}
 use Rattle.std.proofs.Common.{◌≡◌, ℕ, zero, suc, ◌+◌, ◌<◌, ◌≤◌, Bool, true, false, cond, ◌&&◌, List, [], ◌∷◌, ◌++◌, replicate, refl, sym, ap, subst, ◌∙◌}
-use Rattle.std.specs.Prelude.{nat_lt}
+use Rattle.std.specs.Prelude.{length, nat_lt, slice_index_or, slice_set}
 use Rattle.std.proofs.lemmas.Bool.{and_from, and_parts, eq-eqb, eqb-true, lt-ltb, ltb-true}
 use Rattle.st_trace.specs.declared.entry.Choice.{Choice}
 use Rattle.st_trace.specs.declared.entry.Choice.TheVariants.{Thread, Worker, Operator}
-use Rattle.st_report.specs.ScheduleText.{AreJoined, Repeat, is_same_choice, repeat_of, repeats_behind, repeats_of, spelled_choices}
+use Rattle.st_report.specs.ScheduleText.{AreJoined, is_same_choice, joins, repeat_of, repeats_behind, repeats_of, repeats_with, spelled_choices}
+use Rattle.st_report.specs.declared.schedule.Repeat.{Repeat}
 use Rattle.st_report.specs.declared.schedule.TheConstants.{MOST_TIMES}
 
 -- ---- choices
@@ -28,7 +29,14 @@ one_choice Operator = refl
 
 -- whether the choice that comes next is told in the same line
 abbrev is_told_with : Choice → ℕ → Choice → Bool
-is_told_with c n d = is_same_choice c d && nat_lt n MOST_TIMES
+is_told_with c n d = joins (repeat_of c n) d
+
+-- it is where the line isn't full and the choice is the same
+told_parts : (c d : Choice) (n : ℕ) → is_told_with c n d ≡ true → (is_same_choice c d ≡ true) × (nat_lt n MOST_TIMES ≡ true)
+told_parts c d n e = let both = and_parts (nat_lt n MOST_TIMES) (is_same_choice c d) e in (both.1, both.0)
+
+told_from : (c d : Choice) (n : ℕ) → is_same_choice c d ≡ true → nat_lt n MOST_TIMES ≡ true → is_told_with c n d ≡ true
+told_from c d n same room = and_from (nat_lt n MOST_TIMES) (is_same_choice c d) room same
 
 one_more_time : (n : ℕ) (c : Choice) (cs : List Choice) → replicate (suc n) c ++ cs ≡ replicate n c ++ c ∷ cs
 one_more_time zero c cs = refl
@@ -39,7 +47,7 @@ one_more_time (suc n) c cs = ap (λ rest. c ∷ rest) (one_more_time n c cs)
 spelled_by : (c d : Choice) (n : ℕ) (cs : List Choice) → spelled_choices (repeats_behind c (suc n) cs) ≡ replicate (suc n) c ++ cs → spelled_choices (repeats_behind d 1 cs) ≡ d ∷ cs
     → (b : Bool) → is_told_with c n d ≡ b → spelled_choices (cond b (repeats_behind c (suc n) cs) (repeat_of c n ∷ repeats_behind d 1 cs)) ≡ replicate n c ++ d ∷ cs
 spelled_by c d n cs more other true e =
-    let same : c ≡ d = same_choice c d (and_parts (is_same_choice c d) (nat_lt n MOST_TIMES) e).0 in
+    let same : c ≡ d = same_choice c d (told_parts c d n e).0 in
     more ∙ one_more_time n c cs ∙ ap (λ (x : Choice). replicate n c ++ x ∷ cs) same
 spelled_by c d n cs more other false e = ap (λ rest. replicate n c ++ rest) other
 
@@ -74,14 +82,14 @@ joined_before c d n repeats low high full x joined =
 full_line : (c d : Choice) (n : ℕ) → n ≤ MOST_TIMES → is_told_with c n d ≡ false → c ≡ d → n ≡ MOST_TIMES
 full_line c d n high e same = by (nat_lt n MOST_TIMES) refl where
   by : (b : Bool) → nat_lt n MOST_TIMES ≡ b → n ≡ MOST_TIMES
-  by true f = absurd (let g : is_told_with c n d ≡ true = and_from (is_same_choice c d) (nat_lt n MOST_TIMES) (ap (is_same_choice c) (sym same) ∙ one_choice c) f in cc)
+  by true f = absurd (let g : is_told_with c n d ≡ true = told_from c d n (ap (is_same_choice c) (sym same) ∙ one_choice c) f in cc)
   by false f = let ltb = lt-ltb n MOST_TIMES in by_order n MOST_TIMES high (λ low. let g = ltb low in cc) where
     by_order : (m k : ℕ) → m ≤ k → (m < k → ⊥) → m ≡ k
     by_order m k high none = omega (arith, high, none)
 
 joined_by : (c d : Choice) (n : ℕ) (cs : List Choice) → 1 ≤ n → n ≤ MOST_TIMES → (suc n ≤ MOST_TIMES → AreJoined (repeats_behind c (suc n) cs)) → AreJoined (repeats_behind d 1 cs)
     → (b : Bool) → is_told_with c n d ≡ b → AreJoined (cond b (repeats_behind c (suc n) cs) (repeat_of c n ∷ repeats_behind d 1 cs))
-joined_by c d n cs low high more other true e = let room = ltb-true n MOST_TIMES (and_parts (is_same_choice c d) (nat_lt n MOST_TIMES) e).1 in more (omega (arith, room))
+joined_by c d n cs low high more other true e = let room = ltb-true n MOST_TIMES (told_parts c d n e).1 in more (omega (arith, room))
 joined_by c d n cs low high more other false e = joined_before c d n (repeats_behind d 1 cs) low high (full_line c d n high e) (begins d 1 cs) other
 
 joined_behind : (c : Choice) (n : ℕ) (cs : List Choice) → 1 ≤ n → n ≤ MOST_TIMES → AreJoined (repeats_behind c n cs)
@@ -101,7 +109,7 @@ again_behind : (c : Choice) (k m : ℕ) (repeats : List Repeat) → AreJoined (r
 again_behind c k zero repeats x last = subst (λ n. repeats_behind c n (spelled_choices repeats) ≡ repeat_of c (k + 0) ∷ repeats) (let e : k + 0 ≡ k = omega arith in e) last
 again_behind c k (suc m) repeats x last =
     let high = most repeats x in
-    let room : is_told_with c k c ≡ true = and_from (is_same_choice c c) (nat_lt k MOST_TIMES) (one_choice c) (lt-ltb k MOST_TIMES (omega (arith, high))) in
+    let room : is_told_with c k c ≡ true = told_from c c k (one_choice c) (lt-ltb k MOST_TIMES (omega (arith, high))) in
     let more : k + suc m ≡ suc k + m = omega arith in
     ap (λ b. cond b (repeats_behind c (suc k) (replicate m c ++ spelled_choices repeats)) (repeat_of c k ∷ repeats_behind c 1 (replicate m c ++ spelled_choices repeats))) room
     ∙ again_behind c (suc k) m repeats (subst (λ n. AreJoined (repeat_of c n ∷ repeats)) more x) (subst (λ n. repeats_behind c n (spelled_choices repeats) ≡ repeat_of c n ∷ repeats) more last)
@@ -127,7 +135,7 @@ ends_there c n (each ∷ repeats) x later = by each.times refl where
     tell : (b : Bool) → is_told_with c n each.choice ≡ b → is_told_with c n each.choice ≡ false
     tell false e = e
     tell true e =
-        let both = and_parts (is_same_choice c each.choice) (nat_lt n MOST_TIMES) e in
+        let both = told_parts c each.choice n e in
         let room = ltb-true n MOST_TIMES both.1 in
         let full : n ≡ MOST_TIMES = x.2 (same_choice c each.choice both.0) in absurd (omega (arith, room, full))
 
@@ -156,3 +164,53 @@ told_again (each ∷ repeats) x =
 
 pub no_others : (choices : List Choice) (repeats : List Repeat) → AreJoined repeats → spelled_choices repeats ≡ choices → repeats ≡ repeats_of choices
 no_others choices repeats x e = sym (told_again repeats x) ∙ ap repeats_of e
+
+-- ---- one choice more
+
+-- behind the first lines the last ones grow
+grows_behind : (each : Repeat) (d c : Choice) (repeats : List Repeat) → BeginsWith d repeats → repeats_with (each ∷ repeats) c ≡ each ∷ repeats_with repeats c
+grows_behind each d c repeats x = subst (λ rs. repeats_with (each ∷ rs) c ≡ each ∷ repeats_with rs c) (sym x.split) refl
+
+more_by : (c d e : Choice) (n : ℕ) (cs : List Choice) → repeats_behind c (suc n) (cs ++ e ∷ []) ≡ repeats_with (repeats_behind c (suc n) cs) e → repeats_behind d 1 (cs ++ e ∷ []) ≡ repeats_with (repeats_behind d 1 cs) e
+    → (b : Bool) → cond b (repeats_behind c (suc n) (cs ++ e ∷ [])) (repeat_of c n ∷ repeats_behind d 1 (cs ++ e ∷ [])) ≡ repeats_with (cond b (repeats_behind c (suc n) cs) (repeat_of c n ∷ repeats_behind d 1 cs)) e
+more_by c d e n cs more other true = more
+more_by c d e n cs more other false = ap (λ rs. repeat_of c n ∷ rs) other ∙ sym (grows_behind (repeat_of c n) d e (repeats_behind d 1 cs) (begins d 1 cs))
+
+more_behind : (c e : Choice) (n : ℕ) (cs : List Choice) → repeats_behind c n (cs ++ e ∷ []) ≡ repeats_with (repeats_behind c n cs) e
+more_behind c e n [] = refl
+more_behind c e n (d ∷ cs) = more_by c d e n cs (more_behind c e (suc n) cs) (more_behind d e 1 cs) (is_told_with c n d)
+
+pub one_more_choice : (choices : List Choice) (c : Choice) → repeats_with (repeats_of choices) c ≡ repeats_of (choices ++ c ∷ [])
+one_more_choice [] c = refl
+one_more_choice (d ∷ cs) c = sym (more_behind d c 1 cs)
+
+-- ---- the last of them
+
+-- one that joins the last, which is read to see that and then to be changed, makes it longer
+pub last_grown : (repeats : List Repeat) (n : ℕ) (seen last : Repeat) (c : Choice) → length repeats ≡ suc n → seen ≡ slice_index_or repeats n seen → last ≡ slice_index_or repeats n last → joins seen c ≡ true
+    → slice_set repeats n (repeat_of last.choice (last.times + 1)) ≡ repeats_with repeats c
+last_grown [] n seen last c long was is joined = cc
+last_grown (x ∷ []) zero seen last c long was is joined =
+    let more : last.times + 1 ≡ suc last.times = omega arith in
+    ap (λ times. repeat_of last.choice times ∷ []) more
+    ∙ ap (λ (each : Repeat). repeat_of each.choice (suc each.times) ∷ []) is
+    ∙ ap (λ b. cond b (repeat_of x.choice (suc x.times) ∷ []) (x ∷ repeat_of c 1 ∷ [])) (sym (ap (λ (each : Repeat). joins each c) (sym was) ∙ joined))
+last_grown (x ∷ []) (suc n) seen last c long was is joined = absurd (omega (arith, long))
+last_grown (x ∷ y ∷ repeats) zero seen last c long was is joined = absurd (omega (arith, long))
+last_grown (x ∷ y ∷ repeats) (suc n) seen last c long was is joined = ap (λ rs. x ∷ rs) (last_grown (y ∷ repeats) n seen last c (omega (arith, long)) was is joined)
+
+-- one that doesn't stands behind it
+pub last_kept : (repeats : List Repeat) (n : ℕ) (last : Repeat) (c : Choice) → length repeats ≡ suc n → last ≡ slice_index_or repeats n last → joins last c ≡ false → repeats ++ repeat_of c 1 ∷ [] ≡ repeats_with repeats c
+last_kept [] n last c long is apart = cc
+last_kept (x ∷ []) zero last c long is apart =
+    ap (λ (each : Repeat). each ∷ repeat_of c 1 ∷ []) (sym is)
+    ∙ ap (λ b. cond b (repeat_of last.choice (suc last.times) ∷ []) (last ∷ repeat_of c 1 ∷ [])) (sym apart)
+    ∙ ap (λ (each : Repeat). repeats_with (each ∷ []) c) is
+last_kept (x ∷ []) (suc n) last c long is apart = absurd (omega (arith, long))
+last_kept (x ∷ y ∷ repeats) zero last c long is apart = absurd (omega (arith, long))
+last_kept (x ∷ y ∷ repeats) (suc n) last c long is apart = ap (λ rs. x ∷ rs) (last_kept (y ∷ repeats) n last c (omega (arith, long)) is apart)
+
+-- where there is none, one stands alone
+pub none_kept : (repeats : List Repeat) (c : Choice) → length repeats ≡ 0 → repeats ++ repeat_of c 1 ∷ [] ≡ repeats_with repeats c
+none_kept [] c none = refl
+none_kept (x ∷ repeats) c none = absurd (omega (arith, none))

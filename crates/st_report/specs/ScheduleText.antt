@@ -6,13 +6,9 @@ use Rattle.st_trace.specs.declared.entry.Choice.TheVariants.{Thread, Worker, Ope
 use Rattle.st_law.specs.declared.input.ReadSchedule.{ReadSchedule}
 use Rattle.st_law.specs.declared.input.ScheduleLine.{ScheduleLine}
 use Rattle.st_law.specs.declared.input.What.TheVariants.{Choose}
+use Rattle.st_report.specs.declared.schedule.Repeat.{Repeat}
 use Rattle.st_report.specs.declared.schedule.TheConstants.{MOST_TIMES}
 use Rattle.st_report.specs.Fields.{number_fields}
-
--- a choice that is made so many times in a row
-pub record Repeat : Type 0 where
-  pub choice : Choice
-  pub times : ℕ
 
 -- a choice so many times
 abbrev pub repeat_of : Choice → ℕ → Repeat
@@ -25,11 +21,15 @@ is_same_choice (Worker v) (Worker w) = v == w
 is_same_choice Operator Operator = true
 is_same_choice _ _ = false
 
+-- whether a choice joins the last, which isn't another and isn't full
+abbrev pub joins : Repeat → Choice → Bool
+joins last choice = nat_lt last.times MOST_TIMES && is_same_choice last.choice choice
+
 -- a choice that was made so many times already, and these behind it: equal neighbours are joined, as many as one line may have
 abbrev pub repeats_behind : Choice → ℕ → List Choice → List Repeat
 repeats_behind choice times [] = repeat_of choice times ∷ []
 repeats_behind choice times (next ∷ choices) =
-    if is_same_choice choice next && nat_lt times MOST_TIMES then repeats_behind choice (suc times) choices
+    if joins (repeat_of choice times) next then repeats_behind choice (suc times) choices
     else repeat_of choice times ∷ repeats_behind next 1 choices
 
 -- choices with equal neighbours joined
@@ -51,9 +51,25 @@ times_field times = if times == 1 then [] else number_fields (times ∷ [])
 abbrev pub repeat_line : Repeat → List ℕ
 repeat_line each = choice_text each.choice ++ times_field each.times ++ codes "\n"
 
+-- the lines of choices, each so many times
+abbrev pub repeats_text : List Repeat → List ℕ
+repeats_text repeats = flat_map repeat_line repeats
+
 -- the text of a schedule
 abbrev pub schedule_text : List Choice → List ℕ
-schedule_text choices = flat_map repeat_line (repeats_of choices)
+schedule_text choices = repeats_text (repeats_of choices)
+
+-- ---- one choice more
+
+-- a choice behind the last
+abbrev pub joined_with : Repeat → Choice → List Repeat
+joined_with last choice = if joins last choice then repeat_of last.choice (suc last.times) ∷ [] else last ∷ repeat_of choice 1 ∷ []
+
+-- a choice behind those that were made
+abbrev pub repeats_with : List Repeat → Choice → List Repeat
+repeats_with [] choice = repeat_of choice 1 ∷ []
+repeats_with (last ∷ []) choice = joined_with last choice
+repeats_with (each ∷ next ∷ repeats) choice = each ∷ repeats_with (next ∷ repeats) choice
 
 -- ---- what such lines stand for
 

@@ -1,8 +1,9 @@
-ghost use Rattle.std.specs.Prelude.{◌≡◌, ◌++◌, ℕ, List, length, IfOk, OnOk};
+ghost use Rattle.std.specs.Prelude.{◌≡◌, ◌++◌, ◌<◌, ◌∷◌, [], ℕ, List, length, vec_capacity, vec_len, IfOk, OnOk};
 ghost use Rattle.st_law.specs.Machine.{run};
 ghost use Rattle.st_law.specs.Schedules.{Choices, played};
 ghost use Rattle.st_law.specs.declared.input.Input.{Input};
-ghost use Rattle.st_report.specs.ScheduleText.{AreJoined, Repeat, choice_text, is_same_choice, printed_schedule, repeat_line, repeat_of, repeats_of, schedule_text, spelled_choices};
+ghost use Rattle.st_report.specs.ScheduleText.{AreJoined, choice_text, is_same_choice, joins, printed_schedule, repeat_line, repeats_of, repeats_text, repeats_with, spelled_choices};
+ghost use Rattle.st_report.specs.declared.schedule.Repeat.{Repeat};
 ghost use Rattle.st_trace.specs.declared.entry.Choice.{Choice};
 
 use crate::fields::{append_numbered, append_numbers};
@@ -12,6 +13,13 @@ use std::alloc::{AllocError, Global};
 
 /// How often one line of a schedule may have its choice.
 pub const MOST_TIMES: u32 = 1_000_000;
+
+/// A choice that is made so many times in a row.
+#[derive(Clone, Copy, Debug, PartialEq, Eq)]
+pub struct Repeat {
+    pub choice: Choice,
+    pub times: u32,
+}
 
 // Whether two choices are the same.
 fn is_same_choice(choice: Choice, other: Choice) -> bool
@@ -36,45 +44,55 @@ fn append_choice(text: &mut Text, choice: Choice) -> Result<(), AllocError>
     }
 }
 
-// Appends the line of a choice that is made so many times in a row.
-fn append_repeat(text: &mut Text, choice: Choice, times: u32) -> Result<(), AllocError>
-    ensures { OnOk result (text.new ≡ text.old ++ repeat_line (repeat_of choice times)) }
+// Whether a choice joins the last that was made so many times in a row.
+fn joins(last: Repeat, choice: Choice) -> bool
+    ensures { result ≡ joins last choice }
 {
-    append_choice(text, choice)?;
-    if times != 1 {
-        append_numbers(text, &[u64::from(times)])?;
+    last.times < MOST_TIMES && is_same_choice(last.choice, choice)
+}
+
+/// Takes a choice down behind those that were made, where there is room for one more. It joins the last of them, unless that is another or is
+/// full.
+pub fn note_choice(repeats: &mut Vec<Repeat>, choice: Choice)
+    requires room { vec_len repeats.old < vec_capacity repeats.old }
+    ensures { repeats.new.items ≡ repeats_with repeats.old.items choice }
+{
+    let count = repeats.len();
+    if count > 0 && joins(repeats[count - 1], choice) {
+        repeats[count - 1].times += 1;
+    } else {
+        repeats.push_reserved(Repeat { choice, times: 1 });
+    }
+}
+
+// Appends the line of a choice that is made so many times in a row.
+fn append_repeat(text: &mut Text, each: Repeat) -> Result<(), AllocError>
+    ensures { OnOk result (text.new ≡ text.old ++ repeat_line each) }
+{
+    append_choice(text, each.choice)?;
+    if each.times != 1 {
+        append_numbers(text, &[u64::from(each.times)])?;
     }
     text.push(b'\n')
 }
 
 /// The text of a schedule: who moves, in order, with equal neighbours joined in one line.
-pub fn schedule_text(alloc: Global, schedule: &[Choice]) -> Result<Text, AllocError>
-    ensures { IfOk result (λ text. text ≡ schedule_text schedule.now) }
+pub fn repeats_text(alloc: Global, repeats: &[Repeat]) -> Result<Text, AllocError>
+    ensures { IfOk result (λ text. text ≡ repeats_text repeats.now) }
 {
     let mut text = Text::new(alloc);
-    let [first, rest @ ..] = schedule else {
-        return Ok(text);
-    };
-    let mut choice = *first;
-    let mut times = 1;
-    for &next in rest {
-        if times < MOST_TIMES && is_same_choice(choice, next) {
-            times += 1;
-        } else {
-            append_repeat(&mut text, choice, times)?;
-            choice = next;
-            times = 1;
-        }
+    for each in repeats {
+        append_repeat(&mut text, *each)?;
     }
-    append_repeat(&mut text, choice, times)?;
     Ok(text)
 }
 
-/// The lines that are printed of a schedule stand for exactly its choices, in order, each as often as it can be told in one line; and
-/// where each choice is enabled at its turn, a run by these lines makes the same choices.
+/// The lines that are printed of a schedule stand for exactly its choices, in order, each as often as it can be told in one line; one choice more
+/// is taken down as the last of a longer schedule; and where each choice is enabled at its turn, a run by these lines makes the same choices.
 pub fn a_printed_schedule_is_its_choices()
     ensures spelled { (choices : List Choice) → spelled_choices (repeats_of choices) ≡ choices }
     ensures joined { (choices : List Choice) → AreJoined (repeats_of choices) }
     ensures only { (choices : List Choice) (repeats : List Repeat) → AreJoined repeats → spelled_choices repeats ≡ choices → repeats ≡ repeats_of choices }
+    ensures more { (choices : List Choice) (choice : Choice) → repeats_with (repeats_of choices) choice ≡ repeats_of (choices ++ choice ∷ []) }
     ensures played { (input : Input) (choices : List Choice) → length (run input choices) ≡ length choices → played input (printed_schedule choices) ≡ Choices choices }
 {}

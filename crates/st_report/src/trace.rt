@@ -1,22 +1,54 @@
-ghost use Rattle.std.specs.Prelude.{◌≡◌, ◌++◌, List, IfOk};
+ghost use Rattle.std.specs.Prelude.{◌≡◌, ◌++◌, [], List, IfOk};
 ghost use Rattle.st_report.specs.TraceText.{trace_text};
 ghost use Rattle.st_trace.specs.declared.entry.Entry.{Entry};
 
 use crate::entry::append_entry;
+use crate::recorder::Recorder;
 use st_base::Text;
+use st_law::Input;
 use st_trace::Entry;
 use std::alloc::{AllocError, Global};
+use std::marker::Model;
 
-/// The text of a trace: a line for each entry, in order.
-pub fn render_trace(alloc: Global, trace: &[Entry]) -> Result<Text, AllocError>
-    ensures { IfOk result (λ text. text ≡ trace_text trace.now) }
-{
-    let mut text = Text::new(alloc);
-    for entry in trace {
-        append_entry(alloc, &mut text, entry)?;
-        text.push(b'\n')?;
+/// The text of a trace, which has one line more with each entry.
+#[derive(Debug, Drop)]
+pub struct TraceRecorder {
+    text: Text,
+}
+
+impl Model for TraceRecorder {
+    ghost use Rattle.std.specs.Prelude.{ℕ, List};
+
+    ghost Value = { List ℕ };
+
+    ghost view = { λ recorder. recorder.text };
+}
+
+impl TraceRecorder {
+    /// The text of no entries, which takes no memory.
+    pub fn new(alloc: Global) -> Self
+        ensures { result ≡ [] }
+    {
+        TraceRecorder {
+            text: Text::new(alloc),
+        }
     }
-    Ok(text)
+
+    /// The text of the entries that were taken down.
+    pub fn into_text(self) -> Text
+        ensures { result ≡ self }
+    {
+        self.text
+    }
+}
+
+impl Recorder for TraceRecorder {
+    ghost has_noted = { λ text _ trace. text ≡ trace_text trace };
+
+    fn note(&mut self, alloc: Global, _input: &Input, entry: &Entry) -> Result<(), AllocError> {
+        append_entry(alloc, &mut self.text, entry)?;
+        self.text.push(b'\n')
+    }
 }
 
 /// The text of a longer trace is that of its front and, behind it, that of the rest.

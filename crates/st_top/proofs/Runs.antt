@@ -1,30 +1,54 @@
 -- What is shown of a run, by how its schedule was played.
 use Rattle.std.proofs.Common.{◌≡◌, ◌∙◌, ℕ, List, [], Result, Ok, Err, refl, ap, sym, subst}
 use Rattle.std.specs.Result.{IsErr, IsErrAnd}
-use Rattle.st_law.specs.Schedules.{BadLine, lines_played, played}
+use Rattle.st_law.specs.Inputs.{IsStartable}
+use Rattle.st_law.specs.Lawful.{Lawful}
+use Rattle.st_law.specs.Machine.{run}
+use Rattle.st_law.specs.Schedules.{BadLine, Choices, lines_played, played}
 use Rattle.st_law.specs.declared.input.Input.{Input}
 use Rattle.st_law.specs.declared.input.ReadSchedule.{ReadSchedule}
+use Rattle.st_law.proofs.Laws.{run_lawful}
 use Rattle.st_command.specs.declared.given.Print.{Print}
-use Rattle.st_kernel.specs.Kernel.{Course, standing}
+use Rattle.st_kernel.specs.Kernel.{Course, standing, trace_of}
 use Rattle.st_kernel.specs.declared.play.PlayFault.{PlayFault}
 use Rattle.st_kernel.specs.declared.play.PlayFault.TheVariants as play
+use Rattle.st_trace.specs.declared.entry.Choice.{Choice}
+use Rattle.st_trace.specs.declared.entry.Entry.{Entry}
 use Rattle.st_top.specs.Ends.{RunShown}
-use Rattle.st_top.specs.Outcome.{status_of_play}
+use Rattle.st_top.specs.Outcome.{printed, status_of_play}
 use Rattle.st_top.specs.declared.status.Status.{Status}
 use Rattle.st_top.specs.declared.status.Status.TheVariants.{NoMemory}
 
-module _ (print : Print) (i : Input) (schedule : ReadSchedule) (course : Course) (input : course.input ≡ i) (choices : course.choices ≡ []) where
-  -- what the lines come to from the first state on is what the schedule does
-  from_first : lines_played schedule.lines schedule.bad course.input (standing course) ≡ played i schedule
-  from_first = ap (λ (other : Course). lines_played schedule.lines schedule.bad other.input (standing other)) (λ k. record { input = input k; choices = choices k; detail = course.detail })
+module _ (print : Print) (schedule : ReadSchedule) (course : Course) (choices : course.choices ≡ []) where
+  abbrev i : Input
+  i = course.input
 
-  pub refused : (fault : PlayFault) → ((line : ℕ) → fault ≡ play.BadLine line → lines_played schedule.lines schedule.bad course.input (standing course) ≡ BadLine line) →
+  -- what the lines come to from the first state on is what the schedule does
+  from_first : lines_played schedule.lines schedule.bad i (standing course) ≡ played i schedule
+  from_first = ap (λ (made : List Choice). lines_played schedule.lines schedule.bad i (standing (record { input = i; choices = made }))) choices
+
+  pub refused : (fault : PlayFault) → ((line : ℕ) → fault ≡ play.BadLine line → lines_played schedule.lines schedule.bad i (standing course) ≡ BadLine line) →
       (result : Result (List ℕ) Status) → IsErr result → IsErrAnd result (λ s. s ≡ status_of_play fault) → RunShown print i schedule result
   refused fault bad (Ok text) failed same = cc
   refused (play.BadLine line) bad (Err s) failed same = subst (λ (end : Status). RunShown print i schedule (Err end)) (sym same) (sym from_first ∙ bad line refl)
   refused play.NoMemory bad (Err s) failed same = subst (λ (end : Status). RunShown print i schedule (Err end)) (sym same) tt
 
+  -- what holds of no entries holds of those before the first choice
+  pub none_yet : (P : Input → List Entry → Type 0) → P i [] → P i (trace_of course)
+  none_yet P x = subst (λ (made : List Choice). P i (run i made)) (sym choices) x
+
+  -- the text that is asked for is shown
+  pub shown : (new : Course) (text : List ℕ) → new.input ≡ i → lines_played schedule.lines schedule.bad i (standing course) ≡ Choices new.choices → text ≡ printed print new.input new.choices → RunShown print i schedule (Ok text)
+  shown new text same played_to is = (new.choices, sym from_first ∙ played_to, is ∙ ap (λ (j : Input). printed print j new.choices) same)
+
 -- where memory runs out, there is nothing more to say
 pub out_of_memory : (print : Print) (i : Input) (schedule : ReadSchedule) (result : Result (List ℕ) Status) → IsErr result → IsErrAnd result (λ s. s ≡ NoMemory) → RunShown print i schedule result
 out_of_memory print i schedule (Ok text) failed same = cc
 out_of_memory print i schedule (Err s) failed same = subst (λ (end : Status). RunShown print i schedule (Err end)) (sym same) tt
+
+-- a run goes on under the input that it started with, and is lawful
+pub starts_so : (i : Input) (new : Course) → new.input ≡ i → IsStartable i → IsStartable new.input
+starts_so i new same startable = subst IsStartable (sym same) startable
+
+pub lawful_so : (i : Input) (new : Course) → new.input ≡ i → IsStartable i → Lawful new.input (trace_of new)
+lawful_so i new same startable = run_lawful new.input (starts_so i new same startable) new.choices

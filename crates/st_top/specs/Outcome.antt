@@ -4,8 +4,6 @@ use Rattle.st_trace.specs.declared.entry.Choice.{Choice}
 use Rattle.st_law.specs.declared.input.Input.{Input}
 use Rattle.st_law.specs.Machine.{run}
 use Rattle.st_law.specs.Schedules.{ScheduleOutcome, Choices, BadLine, played}
-use Rattle.st_report.specs.declared.detail.Detail.{Detail}
-use Rattle.st_report.specs.declared.detail.Detail.TheVariants.{Steps, Calls}
 use Rattle.st_report.specs.TraceText.{trace_text}
 use Rattle.st_report.specs.ScheduleText.{schedule_text}
 use Rattle.st_audit.specs.AuditText.{audit}
@@ -50,13 +48,6 @@ printed print.Audit i choices = audit i (run i choices)
 printed print.Trace i choices = trace_text (run i choices)
 printed print.Schedule i choices = schedule_text choices
 printed print.Policy i choices = policy_text i (run i choices)
-
--- what has to be noted of a run for its text
-abbrev pub detail_of : Print → Detail
-detail_of print.Audit = Calls
-detail_of print.Trace = Steps
-detail_of print.Schedule = Calls
-detail_of print.Policy = Calls
 
 -- what a command asks to be printed of its run
 abbrev pub print_of : Command → Print

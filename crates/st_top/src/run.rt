@@ -1,43 +1,68 @@
 // A run, and what is shown of it.
-ghost use Rattle.std.specs.Prelude.{◌≡◌, IfOk};
+ghost use Rattle.std.specs.Prelude.{◌≡◌, []};
+ghost use Rattle.st_command.specs.declared.given.Print.TheVariants as print;
 ghost use Rattle.st_law.specs.Inputs.{IsStartable};
 ghost use Rattle.st_reached.specs.Grants.{RepliesUngranted, SetIdsUngranted};
 ghost use Rattle.st_reached.specs.Scripts.{IsBounded};
 ghost use Rattle.st_system.specs.Start.{CanStart};
 ghost use Rattle.st_top.specs.Ends.{RunShown};
-ghost use Rattle.st_top.specs.Outcome.{detail_of, printed};
 
 use crate::status::Status;
-use st_audit::{audit_text, policy_text};
+use st_audit::{AuditRecorder, PolicyRecorder};
 use st_base::Text;
 use st_command::Print;
 use st_kernel::Kernel;
 use st_law::{Input, ReadSchedule};
-use st_report::{Detail, render_trace, schedule_text};
-use std::alloc::{AllocError, Global};
+use st_report::{NoRecorder, TraceRecorder, repeats_text};
+use std::alloc::Global;
 
-// What has to be noted of a run for the text that is asked for.
-fn detail_of(print: Print) -> Detail
-    ensures { result ≡ detail_of print }
+// The audit of the run by a schedule.
+fn audit_of(alloc: Global, kernel: &mut Kernel<'_>, schedule: &ReadSchedule) -> Result<Text, Status>
+    requires startable { IsStartable kernel.old.input }
+    requires none { kernel.old.choices ≡ [] }
+    ensures { RunShown print.Audit kernel.old.input schedule.now result }
 {
-    match print {
-        Print::Trace => Detail::Steps,
-        Print::Audit | Print::Schedule | Print::Policy => Detail::Calls,
-    }
+    let mut recorder = AuditRecorder::new(alloc);
+    kernel.play(alloc, schedule, &mut recorder)?;
+    Ok(recorder.into_text())
 }
 
-// The text that is asked for of a run.
-fn shown(alloc: Global, print: Print, kernel: &Kernel<'_>) -> Result<Text, AllocError>
-    requires startable { IsStartable kernel.now.input }
-    requires detail { kernel.now.detail ≡ detail_of print }
-    ensures { IfOk result (λ text. text ≡ printed print kernel.now.input kernel.now.choices) }
+// The trace of the run by a schedule.
+fn trace_of(alloc: Global, kernel: &mut Kernel<'_>, schedule: &ReadSchedule) -> Result<Text, Status>
+    requires none { kernel.old.choices ≡ [] }
+    ensures { RunShown print.Trace kernel.old.input schedule.now result }
 {
-    match print {
-        Print::Audit => audit_text(alloc, kernel.trace(), kernel.input()),
-        Print::Trace => render_trace(alloc, kernel.trace()),
-        Print::Schedule => schedule_text(alloc, kernel.schedule()),
-        Print::Policy => policy_text(alloc, kernel.trace(), kernel.input()),
-    }
+    let mut recorder = TraceRecorder::new(alloc);
+    kernel.play(alloc, schedule, &mut recorder)?;
+    Ok(recorder.into_text())
+}
+
+// The schedule of the run by a schedule.
+fn schedule_of(
+    alloc: Global,
+    kernel: &mut Kernel<'_>,
+    schedule: &ReadSchedule,
+) -> Result<Text, Status>
+    requires none { kernel.old.choices ≡ [] }
+    ensures { RunShown print.Schedule kernel.old.input schedule.now result }
+{
+    kernel.play(alloc, schedule, &mut NoRecorder)?;
+    Ok(repeats_text(alloc, kernel.schedule())?)
+}
+
+// The policies behind the run by a schedule.
+fn policies_of(
+    alloc: Global,
+    kernel: &mut Kernel<'_>,
+    schedule: &ReadSchedule,
+) -> Result<Text, Status>
+    requires startable { IsStartable kernel.old.input }
+    requires none { kernel.old.choices ≡ [] }
+    ensures { RunShown print.Policy kernel.old.input schedule.now result }
+{
+    let mut recorder = PolicyRecorder::new(alloc);
+    kernel.play(alloc, schedule, &mut recorder)?;
+    Ok(recorder.text(alloc, kernel.input())?)
 }
 
 /// Plays a schedule, and gives the text that is asked for of its run.
@@ -54,7 +79,11 @@ pub fn text_of_run(
     requires replies { RepliesUngranted input.now.replies }
     ensures { RunShown print input.now schedule.now result }
 {
-    let mut kernel = Kernel::start(alloc, input, detail_of(print))?;
-    kernel.play(alloc, schedule)?;
-    Ok(shown(alloc, print, &kernel)?)
+    let mut kernel = Kernel::start(alloc, input)?;
+    match print {
+        Print::Audit => audit_of(alloc, &mut kernel, schedule),
+        Print::Trace => trace_of(alloc, &mut kernel, schedule),
+        Print::Schedule => schedule_of(alloc, &mut kernel, schedule),
+        Print::Policy => policies_of(alloc, &mut kernel, schedule),
+    }
 }

@@ -7,9 +7,9 @@ use Rattle.st_kernel.proofs.Plays.{rest_stands}
 use Rattle.st_kernel.proofs.kernel.Kernel.play_line.Goals as goal
 
 pub returns-in_ok-rest-in-Rest-clause-ok : goal.returns-in_ok-rest-in-Rest-clause-ok
-returns-in_ok-rest-in-Rest-clause-ok c =
+returns-in_ok-rest-in-Rest-clause-ok g c =
     let old = c.args.self.now in
     let over = c.in_ok-rest-in-Rest.ensures.ok in
     ap (λ (what : What). line_played what c.args.line.count old.input (standing old)) c.in-Rest.is
-    ∙ rest_stands old.input old.choices old.detail c.args.line.count (subst (λ (course : Course). IsStartable course.input) over c.in_ok-rest-in-Rest.ensures.played.startable)
+    ∙ rest_stands old.input old.choices c.args.line.count (subst (λ (course : Course). IsStartable course.input) over c.in_ok-rest-in-Rest.ensures.played.startable)
     ∙ ap (λ (course : Course). Some (standing course)) (sym over)

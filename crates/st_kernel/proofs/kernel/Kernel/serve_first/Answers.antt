@@ -1,17 +1,17 @@
 use Rattle.std.proofs.Common.{◌≡◌, ◌∙◌, false, None, subst, arith}
-use Rattle.st_law.specs.Machine.{entry_of, state_of_run}
+use Rattle.st_law.specs.Machine.{entry_of}
 use Rattle.st_trace.specs.declared.entry.Choice.TheVariants.{Worker}
-use Rattle.st_kernel.specs.Kernel.{Course, IsChosen}
+use Rattle.st_kernel.specs.Kernel.{Course, IsChosen, state_in}
 use Rattle.st_kernel.proofs.Cursors.{one_more}
 use Rattle.st_kernel.proofs.kernel.Kernel.serve_first.Goals as goal
 
 pub loop-worker-preserved : goal.loop-worker-preserved
 loop-worker-preserved c =
-    let chosen : IsChosen c.loop-worker.self (Worker c.loop-worker.worker) false c.choose.new.self = subst (λ moved. IsChosen c.loop-worker.self (Worker c.loop-worker.worker) moved c.choose.new.self) c.if-branch.false c.in_ok-choose.ensures.chosen in
+    let chosen : IsChosen c.loop-worker.self (Worker c.loop-worker.worker) false c.choose.new.added c.choose.new.self = subst (λ moved. IsChosen c.loop-worker.self (Worker c.loop-worker.worker) moved c.choose.new.added c.choose.new.self) c.if-branch.false c.in_ok-choose.ensures.chosen in
     record {
-      same = chosen.0 ∙ c.loop-worker.invariant.same;
+      same = chosen.1 ∙ c.loop-worker.invariant.same;
       from = omega arith;
       end = c.loop-worker.invariant.end;
-      before = one_more (λ n. entry_of c.args.self.now.input (state_of_run c.args.self.now.input c.args.self.now.choices) (Worker n) ≡ None) c.loop-worker.worker c.loop-worker.invariant.before
-          (subst (λ (course : Course). entry_of course.input (state_of_run course.input course.choices) (Worker c.loop-worker.worker) ≡ None) c.loop-worker.invariant.same chosen.1);
+      before = one_more (λ n. entry_of c.args.self.now.input (state_in c.args.self.now) (Worker n) ≡ None) c.loop-worker.worker c.loop-worker.invariant.before
+          (subst (λ (course : Course). entry_of course.input (state_in course) (Worker c.loop-worker.worker) ≡ None) c.loop-worker.invariant.same chosen.0);
     }

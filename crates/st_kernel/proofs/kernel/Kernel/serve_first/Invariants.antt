@@ -1,6 +1,7 @@
 use Rattle.std.proofs.Common.{◌≡◌, ◌≤◌, ◌<◌, ℕ, suc, None}
-use Rattle.st_law.specs.Machine.{entry_of, state_of_run}
+use Rattle.st_law.specs.Machine.{entry_of}
 use Rattle.st_trace.specs.declared.entry.Choice.TheVariants.{Worker}
+use Rattle.st_kernel.specs.Kernel.{state_in}
 use Rattle.st_kernel.proofs.kernel.Kernel.serve_first.Given as goal
 
 -- no worker that was tried can move
@@ -9,5 +10,5 @@ invariant-loop-worker l = record {
   same : l.self ≡ l.fn.self;
   from : 1 ≤ l.worker;
   end : l.worker-end ≡ suc l.fn.self.input.options.workers;
-  before : (n : ℕ) → 1 ≤ n → n < l.worker → entry_of l.fn.self.input (state_of_run l.fn.self.input l.fn.self.choices) (Worker n) ≡ None;
+  before : (n : ℕ) → 1 ≤ n → n < l.worker → entry_of l.fn.self.input (state_in l.fn.self) (Worker n) ≡ None;
 }

@@ -1,7 +1,4 @@
-use Rattle.std.proofs.Common.{◌≡◌, ◌∙◌, Bool, false, List, ap, replicate, rules, sym, true≢false}
-use Rattle.st_law.specs.Machine.{run}
-use Rattle.st_report.specs.Detail.{noted}
-use Rattle.st_trace.specs.declared.entry.Choice.{Choice}
+use Rattle.std.proofs.Common.{◌≡◌, ◌∙◌, Bool, false, List, [], ap, replicate, rules, sym, true≢false}
 use Rattle.st_kernel.specs.Waking.{is_asleep}
 use Rattle.st_kernel.proofs.Cursors.{nobody_asleep}
 use Rattle.st_kernel.proofs.kernel.Kernel.start.Goals as goal
@@ -9,9 +6,10 @@ use Rattle.st_kernel.proofs.kernel.Kernel.start.Goals as goal
 pub invariant_of-result : goal.invariant_of-result
 invariant_of-result c =
     let marks : c.in_ok-asleep.asleep.items ≡ replicate c.thread_count.result false = c.in_ok-asleep.ensures.items_if_clones_equal (λ y same. search rules) in
+    let none : c.new.result.items ≡ [] = c.new.ensures.items in
     record {
       machine = search rules;
-      trace_is = c.new.ensures.items ∙ sym (ap (λ (choices : List Choice). noted c.args.detail (run c.in_ok-machine.machine.input choices)) c.new-2.ensures.items);
+      joined = search rules;
       enabled = search rules;
       still = search rules;
       from = search rules;

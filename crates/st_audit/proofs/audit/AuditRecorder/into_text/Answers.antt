@@ -1,0 +1,6 @@
+use Rattle.std.proofs.Common.{◌∙◌}
+use Rattle.st_audit.proofs.Answered.{audit_same}
+use Rattle.st_audit.proofs.audit.AuditRecorder.into_text.Goals as goal
+
+pub returns-clause-audit : goal.returns-clause-audit
+returns-clause-audit c = λ i trace is startable lawful. is.text ∙ audit_same i startable trace lawful

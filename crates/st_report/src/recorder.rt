@@ -1,0 +1,29 @@
+ghost use Rattle.std.specs.Prelude.{◌++◌, ◌∷◌, [], ⊤, List, OnOk};
+ghost use Rattle.st_law.specs.declared.input.Input.{Input};
+ghost use Rattle.st_trace.specs.declared.entry.Entry.{Entry};
+
+use st_law::Input;
+use st_trace::Entry;
+use std::alloc::{AllocError, Global};
+
+/// What takes a run down, entry by entry, for what is shown of it. So no more is kept of a run than that needs.
+pub trait Recorder {
+    /// Whether just these entries of a run of this input were taken down, in order.
+    ghost has_noted: { Self → Input → List Entry → Type 0 };
+
+    /// Takes the next entry of a run of this input down.
+    fn note(&mut self, alloc: Global, input: &Input, entry: &Entry) -> Result<(), AllocError>
+        ensures { OnOk result ((trace : List Entry) → has_noted self.old input.now trace → has_noted self.new input.now (trace ++ entry.now ∷ [])) };
+}
+
+/// Takes nothing down.
+#[derive(Debug, Drop)]
+pub struct NoRecorder;
+
+impl Recorder for NoRecorder {
+    ghost has_noted = { λ _ _ _. ⊤ };
+
+    fn note(&mut self, _alloc: Global, _input: &Input, _entry: &Entry) -> Result<(), AllocError> {
+        Ok(())
+    }
+}
