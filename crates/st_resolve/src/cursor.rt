@@ -1,32 +1,33 @@
 // The components of one text, taken from its front.
-ghost use Rattle.std.specs.Prelude.{◌≡◌, ◌↔◌, ◌+◌, ◌<◌, ◌≤◌, false, [], ◌∷◌, drop, length, IsTrue, IfOk};
+ghost use Rattle.std.specs.Prelude.{◌≡◌, ◌↔◌, ◌+◌, ◌<◌, ◌≤◌, ℕ, false, [], ◌∷◌, drop, length, IsTrue, IfOk};
 ghost use Rattle.st_names.specs.Name.{components_of, has_slash};
 ghost use Rattle.st_model.specs.Walk.{is_last};
-ghost use Rattle.st_resolve.specs.Cursor.{first_part_len, IsAtComponent};
+ghost use Rattle.st_resolve.specs.Cursor.{first_part_len, IsComponentAt};
 
 use st_base::Text;
 use st_names::is_component;
 use std::alloc::{AllocError, Global};
 use std::marker::Model;
 
-/// The components of a text that are left to go through.
+/// The components of a text that are left to go through. Where the next one ends is kept, so that it isn't searched for each time.
 #[derive(Debug, Drop)]
 pub struct Cursor {
     text: Text,
-    // Where the next component begins, or the text's length.
+    // Where the next component begins and ends, or the text's length for both.
     at: usize,
+    end: usize,
 }
 
 impl Model for Cursor {
     ghost use Rattle.std.specs.Prelude.{List, ℕ, drop};
     ghost use Rattle.st_names.specs.Name.{components_of};
-    ghost use Rattle.st_resolve.specs.Cursor.{IsAtComponent};
+    ghost use Rattle.st_resolve.specs.Cursor.{IsComponentAt};
 
     ghost Value = { List (List ℕ) };
 
     ghost view = { λ c. components_of (drop c.at c.text) };
 
-    ghost invariant = { λ c. IsAtComponent c.text c.at };
+    ghost invariant = { λ c. IsComponentAt c.text c.at c.end };
 }
 
 // How long the part is that a text begins with.
@@ -48,32 +49,30 @@ fn part_end(text: &[u8], at: usize) -> usize
     at + first_part_len(&text[at..])
 }
 
-// Where the first component begins from this place on, or the text's length where none does.
-fn component_from(text: &[u8], from: usize) -> usize
+// Where the first component from this place on begins and ends, or the text's length for both where there is none.
+fn component_from(text: &[u8], from: usize) -> (usize, usize)
     requires { from ≤ length text.now }
-    ensures at { IsAtComponent text.now result }
-    ensures same { components_of (drop result text.now) ≡ components_of (drop from text.now) }
+    ensures at { IsComponentAt text.now result.0 result.1 }
+    ensures same { components_of (drop result.0 text.now) ≡ components_of (drop from text.now) }
 {
     let mut at = from;
     while at < text.len() {
         let end = part_end(text, at);
         if is_component(&text[at..end]) {
-            return at;
+            return (at, end);
         }
         at = (end + 1).min(text.len());
     }
-    at
+    (at, at)
 }
 
-// Where the next component begins behind the one at this place, or the text's length where none does.
+// Where the next component begins and ends behind one that ends at this place, or the text's length for both where there is none.
 #[inline]
-fn component_behind(text: &[u8], at: usize) -> usize
-    requires at { IsAtComponent text.now at }
-    requires within { at < length text.now }
-    ensures at { IsAtComponent text.now result }
-    ensures rest { components_of (drop result text.now) ≡ drop 1 (components_of (drop at text.now)) }
+fn component_behind(text: &[u8], end: usize) -> (usize, usize)
+    requires { end ≤ length text.now }
+    ensures at { IsComponentAt text.now result.0 result.1 }
+    ensures rest { (at : ℕ) → IsComponentAt text.now at end → at < length text.now → components_of (drop result.0 text.now) ≡ drop 1 (components_of (drop at text.now)) }
 {
-    let end = part_end(text, at);
     component_from(text, (end + 1).min(text.len()))
 }
 
@@ -82,10 +81,11 @@ impl Cursor {
     pub fn of(alloc: Global, text: &[u8]) -> Result<Self, AllocError>
         ensures { IfOk result (λ cursor. cursor ≡ components_of text.now) }
     {
-        let at = component_from(text, 0);
+        let (at, end) = component_from(text, 0);
         Ok(Cursor {
             text: Text::of(alloc, text)?,
             at,
+            end,
         })
     }
 
@@ -102,8 +102,7 @@ impl Cursor {
         ensures first { self.now ≡ result.now ∷ drop 1 self.now }
         ensures plain { has_slash result.now ≡ false }
     {
-        let text = self.text.bytes();
-        &text[self.at..part_end(text, self.at)]
+        &self.text.bytes()[self.at..self.end]
     }
 
     /// Whether the next component is the only one.
@@ -112,7 +111,8 @@ impl Cursor {
         ensures { result ≡ is_last (drop 1 self.now) }
     {
         let text = self.text.bytes();
-        component_behind(text, self.at) == text.len()
+        let (behind, _) = component_behind(text, self.end);
+        behind == text.len()
     }
 
     /// Goes on behind the next component.
@@ -120,6 +120,6 @@ impl Cursor {
         requires { 0 < length self.old }
         ensures { self.new ≡ drop 1 self.old }
     {
-        self.at = component_behind(self.text.bytes(), self.at);
+        (self.at, self.end) = component_behind(self.text.bytes(), self.end);
     }
 }

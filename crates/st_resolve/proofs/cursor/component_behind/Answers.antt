@@ -5,7 +5,7 @@ use Rattle.st_resolve.proofs.Texts.{part_taken}
 use Rattle.st_resolve.proofs.cursor.component_behind.Goals as goal
 
 pub returns-clause-rest : goal.returns-clause-rest
-returns-clause-rest c =
+returns-clause-rest c = λ at is within.
     c.component_from.ensures.same
     ∙ ap (λ (n : ℕ). components_of (drop n c.args.text.now)) c.min.ensures
-    ∙ sym (ap (drop 1) (part_taken c.args.text.now (first_part (drop c.args.at c.args.text.now)) c.args.at c.part_end-end.result c.part_end-end.ensures.place refl (c.requires.at.begins c.requires.within)))
+    ∙ sym (ap (drop 1) (part_taken c.args.text.now (first_part (drop at c.args.text.now)) at c.args.end is.ends refl (is.place.begins within)))

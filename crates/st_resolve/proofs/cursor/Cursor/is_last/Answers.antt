@@ -1,11 +1,16 @@
-use Rattle.std.proofs.Common.{◌∙◌, ap, List, ℕ, drop, length, nat_eq}
+use Rattle.std.proofs.Common.{◌≡◌, ◌<◌, ◌∙◌, ap, subst, sym, List, ℕ, drop, length, nat_eq}
 use Rattle.st_names.specs.Name.{Components, components_of}
-use Rattle.st_resolve.proofs.Texts.{ends_there}
+use Rattle.st_resolve.specs.Cursor.{IsComponentAt}
+use Rattle.st_resolve.proofs.Texts.{ends_there, some_left}
 use Rattle.st_resolve.proofs.cursor.Cursor.is_last.Goals as goal
 
 pub returns : goal.returns
 returns c =
-    ends_there c.bytes-text.result.now c.component_behind.result c.component_behind.ensures.at
-    ∙ ap (λ (all : Components). nat_eq (length all) 0) (c.component_behind.ensures.rest
-    ∙ ap (λ (text : List ℕ). drop 1 (components_of (drop c.self.inside.at text))) c.bytes-text.ensures
-    ∙ ap (drop 1) c.self.view_is)
+    let at = c.self.inside.at in
+    let text = c.bytes-text.result.now in
+    let same : text ≡ c.self.inside.text = c.bytes-text.ensures in
+    let view = ap (λ (t : List ℕ). components_of (drop at t)) same ∙ c.self.view_is in
+    let is : IsComponentAt text at c.self.inside.end = subst (λ (t : List ℕ). IsComponentAt t at c.self.inside.end) (sym same) c.self.invariant in
+    let short : at < length text = some_left text at (subst (λ (parts : Components). 0 < length parts) (sym view) c.requires) in
+    ends_there text c.component_behind-behind.result.0 c.component_behind-behind.ensures.at.place
+    ∙ ap (λ (all : Components). nat_eq (length all) 0) (c.component_behind-behind.ensures.rest at is short ∙ ap (drop 1) view)
