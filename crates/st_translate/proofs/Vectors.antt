@@ -67,6 +67,7 @@ module _ {kind : PartKind} {at : ℕ} {words text : List ℕ} {vector : Vector} 
 
   pub part_begins : (word : ℕ) → 0 < word → vector.parts < ARGV_PARTS → ReadsPart kind at (words ++ word ∷ []) (text ++ text_added (stage.Pointer vector) word) word (record vector { pointer = vector.pointer + 8 })
   part_begins word some few = record {
+    is_vector = r.is_vector;
     parts = r.parts;
     pointer = word;
     count_of_words = 0;
@@ -128,6 +129,7 @@ module _ {kind : PartKind} {at : ℕ} {words text : List ℕ} {next : ℕ} {vect
 
   pub part_ends : (word : ℕ) → ends_at next word ≡ true → vector.bytes + letter_count next word ≤ ARGV_BYTES → ReadsPointer kind at (words ++ word ∷ []) (text ++ letters_at next word) (record { pointer = vector.pointer; parts = vector.parts + 1; bytes = vector.bytes + letter_count next word })
   part_ends word ends few = record {
+    is_vector = r.is_vector;
     parts = r.parts ++ (r.part ++ letters_at next word) ∷ [];
     onward = λ rest.
         within word rest few
@@ -140,6 +142,7 @@ module _ {kind : PartKind} {at : ℕ} {words text : List ℕ} {next : ℕ} {vect
 
   pub part_further : (word : ℕ) → ends_at next word ≡ false → vector.bytes + letter_count next word ≤ ARGV_BYTES → ReadsPart kind at (words ++ word ∷ []) (text ++ letters_at next word) (next_word_byte next) (record vector { bytes = vector.bytes + letter_count next word })
   part_further word ends few = record {
+    is_vector = r.is_vector;
     parts = r.parts;
     pointer = r.pointer;
     count_of_words = r.count_of_words + 1;

@@ -10,7 +10,7 @@ use Rattle.st_model.specs.declared.limits.TheConstants.{SPACE_WORDS, ARGV_PARTS,
 use Rattle.st_names.specs.declared.limits.TheConstants.{LONGEST_NAME}
 use Rattle.st_translate.specs.Bytes.{is_letter, letters_at}
 use Rattle.st_translate.specs.Copied.{asked_word, lies_in_memory}
-use Rattle.st_translate.specs.declared.stage.TheConstants.{MOST_TEXT, MOST_WORDS}
+use Rattle.st_translate.specs.declared.stage.TheConstants.{NAME_ROOM, NAME_WORDS, VECTOR_ROOM, VECTOR_WORDS}
 use Rattle.st_translate.specs.declared.stage.Vector.{Vector}
 use Rattle.st_translate.specs.declared.stage.Stage.{Stage}
 use Rattle.st_translate.specs.declared.stage.Stage.TheVariants.{Text, Address, Pointer, Part, Fault, Done}
@@ -32,6 +32,25 @@ text_added (Pointer vector) word = if word == 0 || vector.parts == 0 then [] els
 text_added (Part next vector) word = letters_at next word
 text_added (Fault errno) word = []
 text_added Done word = []
+
+-- how many bytes that is at most
+abbrev pub most_added : Stage → ℕ
+most_added (Text next read longest) = 8
+most_added (Address next) = 28
+most_added (Pointer vector) = 1
+most_added (Part next vector) = 8
+most_added (Fault errno) = 0
+most_added Done = 0
+
+-- how many words a part of a kind takes at most
+abbrev pub most_words : PartKind → ℕ
+most_words part_kind.Argv = VECTOR_WORDS
+most_words kind = NAME_WORDS
+
+-- the room that its text fits in, with what one more word may add to it
+abbrev pub most_text : PartKind → ℕ
+most_text part_kind.Argv = VECTOR_ROOM
+most_text kind = NAME_ROOM
 
 -- what was read is within the limits
 abbrev pub IsWithin : Stage → Type 0
@@ -69,6 +88,7 @@ pub record ReadsAddress (kind : PartKind) (at : ℕ) (words text : List ℕ) (ne
 
 -- words have spelled parts of an argument vector, and its next pointer follows
 pub record ReadsPointer (kind : PartKind) (at : ℕ) (words text : List ℕ) (vector : Vector) : Type 0 where
+  pub is_vector : kind ≡ part_kind.Argv
   pub parts : List (List ℕ)
   pub onward : (rest : List ℕ) → spell kind at (words ++ rest) ≡ spell_parts (at / 8) parts spelling.Pointer rest
   pub place : vector.pointer / 8 ≡ at / 8 + length parts
@@ -78,6 +98,7 @@ pub record ReadsPointer (kind : PartKind) (at : ℕ) (words text : List ℕ) (ve
 
 -- words have spelled parts of an argument vector and the front of one more, up to this byte of memory
 pub record ReadsPart (kind : PartKind) (at : ℕ) (words text : List ℕ) (next : ℕ) (vector : Vector) : Type 0 where
+  pub is_vector : kind ≡ part_kind.Argv
   pub parts : List (List ℕ)
   pub pointer : ℕ
   pub count_of_words : ℕ
@@ -117,5 +138,5 @@ pub record IsCopied (kind : PartKind) (at : ℕ) (words text : List ℕ) (stage 
   pub lies : lies_in_memory kind ≡ true
   pub asked : AreAsked kind at words
   pub reached : Reaches kind at words text stage
-  pub has_room : MOST_WORDS ≤ room
-  pub has_text_room : MOST_TEXT ≤ text_room
+  pub has_room : most_words kind ≤ room
+  pub has_text_room : most_text kind ≤ text_room

@@ -3,11 +3,10 @@ ghost use Rattle.st_calls.specs.declared.argument.PartKind.{PartKind};
 ghost use Rattle.st_model.specs.Spelling as spelling;
 ghost use Rattle.st_model.specs.declared.limits.TheConstants.{SPACE_WORDS};
 ghost use Rattle.st_translate.specs.Copied.{Copied, IsDone, asked_word, fault_of, lies_in_memory, spelled, with_word};
-ghost use Rattle.st_translate.specs.Stage.{AreAsked, Reaches, spelled_at};
-ghost use Rattle.st_translate.specs.declared.stage.TheConstants.{MOST_TEXT};
+ghost use Rattle.st_translate.specs.Stage.{AreAsked, Reaches, most_text, spelled_at};
 ghost use Rattle.st_translate.specs.Taken.{took_of};
 
-use crate::stage::{MOST_TEXT, MOST_WORDS, Stage};
+use crate::stage::{Stage, most_text, most_words};
 use st_base::Errno;
 use st_calls::PartKind;
 use std::alloc::{AllocError, Global};
@@ -63,7 +62,7 @@ fn took_at(stage: Stage) -> Took
 fn read_again(kind: PartKind, at: u64, words: &[u64], text: &mut Vec<u8>) -> Stage
     requires kind { lies_in_memory kind ≡ true }
     requires asked { AreAsked kind at words.now }
-    requires room { MOST_TEXT ≤ vec_capacity text.old }
+    requires room { most_text kind ≤ vec_capacity text.old }
     ensures stage { Reaches kind at words.now text.new.items result }
     ensures capacity { vec_capacity text.new ≡ vec_capacity text.old }
 {
@@ -84,8 +83,8 @@ impl Copying {
         Ok(Copying {
             kind,
             at,
-            words: Vec::with_capacity(alloc, MOST_WORDS)?,
-            text: Vec::with_capacity(alloc, MOST_TEXT)?,
+            words: Vec::with_capacity(alloc, most_words(kind))?,
+            text: Vec::with_capacity(alloc, most_text(kind))?,
             stage: Stage::start(kind, at),
         })
     }

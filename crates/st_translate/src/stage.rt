@@ -3,7 +3,7 @@ ghost use Rattle.std.specs.List.{list_any, prefix_len, take_while};
 ghost use Rattle.st_model.specs.Spelling.{is_zero};
 ghost use Rattle.st_translate.specs.Bytes.{ends_at, is_letter, letter_count, letters_at, next_word_byte};
 ghost use Rattle.st_translate.specs.Copied.{asked_word, fault_of, lies_in_memory};
-ghost use Rattle.st_translate.specs.Stage.{AsksWord, IsWithin, Reaches, Reads, spelled_at, text_added};
+ghost use Rattle.st_translate.specs.Stage.{AsksWord, IsWithin, Reaches, Reads, most_added, most_text, most_words, spelled_at, text_added};
 ghost use Rattle.st_calls.specs.declared.argument.PartKind.{PartKind};
 ghost use Rattle.st_model.specs.declared.limits.TheConstants.{SPACE_WORDS};
 
@@ -13,11 +13,38 @@ use st_calls::PartKind;
 use st_model::{ARGV_BYTES, ARGV_PARTS, LONGEST_TEXT, SPACE_BYTES, SPACE_WORDS};
 use st_names::LONGEST_NAME;
 
-/// No part takes more words.
-pub const MOST_WORDS: usize = 193;
+/// No name, no plain text and no address takes more words.
+pub const NAME_WORDS: usize = 129;
 
-/// The room that every text of a part fits in, with what one more word may add to it.
-pub const MOST_TEXT: usize = 1_072;
+/// No argument vector takes more words.
+pub const VECTOR_WORDS: usize = 193;
+
+/// The room that every name, plain text and address fits in, with what one more word may add to it.
+pub const NAME_ROOM: usize = 1_032;
+
+/// The room that the text of every argument vector fits in, with what one more word may add to it.
+pub const VECTOR_ROOM: usize = 1_072;
+
+/// How many words a part of this kind takes at most.
+// An allocator has a fast path for what is small, and the words of the common kinds are small enough for it; so is their text.
+pub fn most_words(kind: PartKind) -> usize
+    ensures { result ≡ most_words kind }
+{
+    match kind {
+        PartKind::Argv => VECTOR_WORDS,
+        _ => NAME_WORDS,
+    }
+}
+
+/// The room that every text of a part of this kind fits in, with what one more word may add to it.
+pub fn most_text(kind: PartKind) -> usize
+    ensures { result ≡ most_text kind }
+{
+    match kind {
+        PartKind::Argv => VECTOR_ROOM,
+        _ => NAME_ROOM,
+    }
+}
 
 /// How far an argument vector is read.
 #[derive(Clone, Copy, Debug, PartialEq, Eq)]
@@ -262,10 +289,10 @@ impl Stage {
         }
     }
 
-    /// Goes on by one more word, and adds to a text what it adds to it, which takes 28 bytes of the room at most.
+    /// Goes on by one more word, and adds to a text what it adds to it.
     #[inline]
     pub fn take(&mut self, text: &mut Vec<u8>, word: u64)
-        requires room { vec_len text.old + 28 ≤ vec_capacity text.old }
+        requires room { vec_len text.old + most_added self.old ≤ vec_capacity text.old }
         requires asks { AsksWord self.old }
         ensures stage { (kind : PartKind) (at : ℕ) (words : List ℕ) → Reaches kind at words text.old.items self.old → Reaches kind at (words ++ word ∷ []) text.new.items self.new }
         ensures capacity { vec_capacity text.new ≡ vec_capacity text.old }

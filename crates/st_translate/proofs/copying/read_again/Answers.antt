@@ -1,5 +1,6 @@
-use Rattle.std.proofs.Common.{◌<◌, ◌≤◌, length, take, arith}
-use Rattle.st_translate.proofs.Rooms.{few_letters}
+use Rattle.std.proofs.Common.{◌<◌, ◌≤◌, ◌+◌, length, take, arith}
+use Rattle.st_translate.specs.Stage.{most_added, most_text}
+use Rattle.st_translate.proofs.Rooms.{letters_fit}
 use Rattle.st_translate.proofs.Stages.{asks, further}
 use Rattle.st_translate.proofs.copying.read_again.Goals as goal
 
@@ -8,7 +9,7 @@ take-requires-clause-room c =
     let below : c.loop-word.word-index < length c.args.words.now = omega arith in
     let some = c.requires.asked c.loop-word.word-index below in
     let reached = c.loop-word.invariant.0 in
-    let few : length c.loop-word.text.items ≤ 1040 = few_letters c.args.kind c.args.at (take c.loop-word.word-index c.args.words.now) c.loop-word.text.items c.loop-word.stage reached
+    let few : length c.loop-word.text.items + most_added c.loop-word.stage ≤ most_text c.args.kind = letters_fit c.args.kind c.args.at (take c.loop-word.word-index c.args.words.now) c.loop-word.text.items c.loop-word.stage reached
     (asks c.args.kind c.args.at (take c.loop-word.word-index c.args.words.now) c.loop-word.text.items c.loop-word.stage reached some) in
     let len = c.loop-word.text.ok.0 in
     let same = c.loop-word.invariant.1 in

@@ -2,15 +2,15 @@ use Rattle.std.proofs.Common.{◌∙◌, ◌++◌, ◌∷◌, [], ℕ, List, IsS
 use Rattle.st_model.specs.Spelling.{spell}
 use Rattle.st_translate.specs.Copied.{Copied, asked_word, spelled}
 use Rattle.st_translate.specs.Taken.{took_of}
-use Rattle.st_translate.proofs.Asked.{AreAsked-push, few_words}
-use Rattle.st_translate.proofs.Rooms.{few_letters}
+use Rattle.st_translate.proofs.Asked.{AreAsked-push}
+use Rattle.st_translate.proofs.Rooms.{letters_fit, word_fits}
 use Rattle.st_translate.proofs.Stages.{asks, spells}
 use Rattle.st_translate.proofs.copying.Copying.take.Goals as goal
 
 pub take-requires-clause-room : goal.take-requires-clause-room
 take-requires-clause-room c =
     let some : IsSome (asked_word (spell c.self.inside.kind c.self.inside.at c.self.inside.words.items)) = subst (λ (copied : Copied). IsSome (asked_word (spelled copied))) (sym c.self.view_is) c.requires in
-    let few = few_letters c.self.inside.kind c.self.inside.at c.self.inside.words.items c.self.inside.text.items c.self.inside.stage c.self.invariant.reached
+    let few = letters_fit c.self.inside.kind c.self.inside.at c.self.inside.words.items c.self.inside.text.items c.self.inside.stage c.self.invariant.reached
     (asks c.self.inside.kind c.self.inside.at c.self.inside.words.items c.self.inside.text.items c.self.inside.stage c.self.invariant.reached some) in
     let len = c.self.inside.text.ok.0 in
     let room = c.self.invariant.has_text_room in
@@ -19,7 +19,8 @@ take-requires-clause-room c =
 pub push_reserved-requires : goal.push_reserved-requires
 push_reserved-requires c =
     let some : IsSome (asked_word (spell c.self.inside.kind c.self.inside.at c.self.inside.words.items)) = subst (λ (copied : Copied). IsSome (asked_word (spelled copied))) (sym c.self.view_is) c.requires in
-    let few = few_words c.self.inside.kind c.self.inside.at c.self.inside.words.items some in
+    let few = word_fits c.self.inside.kind c.self.inside.at c.self.inside.words.items c.self.inside.text.items c.self.inside.stage c.self.invariant.reached
+    (asks c.self.inside.kind c.self.inside.at c.self.inside.words.items c.self.inside.text.items c.self.inside.stage c.self.invariant.reached some) in
     let len = c.self.inside.words.ok.0 in
     let room = c.self.invariant.has_room in
     omega (arith, few, len, room)
