@@ -1,9 +1,9 @@
 // What an argument needs next.
-ghost use Rattle.std.specs.Prelude.{◌≡◌, Bool, []};
+ghost use Rattle.std.specs.Prelude.{◌≡◌, Bool, [], None};
 ghost use Rattle.st_calls.specs.declared.argument.PartKind.TheVariants as kind;
 ghost use Rattle.st_lookaside.specs.Need.{need_of, need_of_walk, progress_alone, IsInside, IsShort};
 ghost use Rattle.st_resolve.specs.Walk.{step_of};
-ghost use Rattle.st_translate.specs.Copied.{IsDone, spelled};
+ghost use Rattle.st_translate.specs.Copied.{asked_word, IsDone, spelled};
 
 use st_base::Errno;
 use st_calls::{ArgSpec, PartKind};
@@ -37,15 +37,28 @@ impl Need {
     }
 
     /// What an argument that lies in memory needs by its words, before any look.
+    #[inline]
     pub fn before_looks(spec: ArgSpec, copying: &Copying, cwd: &AbsName) -> Self
         requires kind { copying.now.kind ≡ spec.kind }
         requires short { IsShort cwd.now }
         ensures inside { IsInside result }
         ensures need { (follow : Bool) → result ≡ need_of (progress_alone spec cwd.now follow [] (spelled copying.now)) }
     {
-        if let Some(place) = copying.next_word() {
-            return Need::Word(place);
+        match copying.next_word() {
+            Some(place) => Need::Word(place),
+            None => Need::behind_words(spec, copying, cwd),
         }
+    }
+
+    // The same of one that needs no more words. It stands apart as it is rare: words are asked for again and again.
+    #[inline(never)]
+    fn behind_words(spec: ArgSpec, copying: &Copying, cwd: &AbsName) -> Self
+        requires kind { copying.now.kind ≡ spec.kind }
+        requires short { IsShort cwd.now }
+        requires copied { asked_word (spelled copying.now) ≡ None }
+        ensures inside { IsInside result }
+        ensures need { (follow : Bool) → result ≡ need_of (progress_alone spec cwd.now follow [] (spelled copying.now)) }
+    {
         if let Some(errno) = copying.fault() {
             return Need::Fault(errno);
         }

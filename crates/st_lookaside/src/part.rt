@@ -89,6 +89,7 @@ impl Part {
     }
 
     // Notes what the argument needs by its words, where nothing is seen of it.
+    #[inline]
     fn note_need(&mut self, head: &Head)
         requires copied { IsCopyOf (request_of head.now) self.old.spec self.old.copying }
         requires unseen { self.old.lookups.items ≡ [] }
