@@ -25,8 +25,8 @@ pub const NAME_ROOM: usize = 1_032;
 /// The room that the text of every argument vector fits in, with what one more word may add to it.
 pub const VECTOR_ROOM: usize = 1_072;
 
-/// How many words a part of this kind takes at most.
 // An allocator has a fast path for what is small, and the words of the common kinds are small enough for it; so is their text.
+/// How many words a part of this kind takes at most.
 pub fn most_words(kind: PartKind) -> usize
     ensures { result ≡ most_words kind }
 {
