@@ -1,5 +1,5 @@
 -- What is kept follows the entries.
-use Rattle.std.proofs.Common.{◌≡◌, ℕ, Bool, true, false, List, [], ◌∷◌, ◌++◌, Option, reverse, refl, ap, sym, subst, ◌∙◌}
+use Rattle.std.proofs.Common.{◌≡◌, ℕ, Bool, false, List, [], ◌∷◌, ◌++◌, Option, reverse, refl, ap, sym, subst, ◌∙◌}
 use Rattle.std.specs.BTreeMap.{BTreeMap}
 use Rattle.std.proofs.lemmas.List.{append-nil, reverse-append}
 use Rattle.st_base.specs.declared.ids.Ids.{Ids}
@@ -8,7 +8,7 @@ use Rattle.st_calls.specs.declared.call.SysCall.{SysCall}
 use Rattle.st_effects.specs.Changes.{owner_after}
 use Rattle.st_law.specs.declared.input.Input.{Input}
 use Rattle.st_law.specs.Processes.{process_at}
-use Rattle.st_law.specs.Sessions.{SessionFilter, session_after}
+use Rattle.st_law.specs.Sessions.{session_after}
 use Rattle.st_law.specs.Threads.{History, changes_of, left_at, owner_at, pending_at, thread_of}
 use Rattle.st_trace.specs.declared.entry.CallResult.{CallResult}
 use Rattle.st_trace.specs.declared.entry.Change.{Change}
@@ -18,7 +18,7 @@ use Rattle.st_audit.specs.AuditText.{call_line, ending_text, line_by}
 use Rattle.st_audit.specs.How.{Decided, args_used, decided_on, how_used, is_logged}
 use Rattle.st_audit.specs.Ledger.{IsLedger, answer_in, entered_after, entered_in, kept_line, owner_in, row_in}
 use Rattle.st_audit.specs.Rows.{Row, row_after}
-use Rattle.st_audit.specs.Told.{Answer, answer_after, answer_of, audit_told, copies_of, decided_told, session_told, tells_of_call, told_back, told_line}
+use Rattle.st_audit.specs.Told.{answer_after, audit_told, copies_of, decided_told, tells_of_call, told_back, told_line}
 use Rattle.st_audit.specs.declared.how.How.{How}
 use Rattle.st_audit.specs.declared.ledger.Ledger.{Ledger}
 use Rattle.st_audit.proofs.Rows.{entered_changed, row_of_changed}

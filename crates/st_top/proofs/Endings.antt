@@ -20,7 +20,7 @@ use Rattle.st_reading.specs.Meaning.{Held, Means, Stops, Refuses, Runs, Prints}
 use Rattle.st_reading.specs.declared.refusal.Refusal.TheVariants as refusal
 use Rattle.st_reading.specs.declared.refusal.Which.{Which}
 use Rattle.st_reading.specs.declared.refusal.Which.TheVariants as which
-use Rattle.st_top.specs.Ends.{Ends, IsMeant, IsMeantBy, Meets, WantsMemory, WantsMemoryFor, names_asked}
+use Rattle.st_top.specs.Ends.{Ends, IsMeant, IsMeantBy, Meets, WantsMemoryFor, names_asked}
 use Rattle.st_top.specs.Outcome.{printed}
 use Rattle.st_top.specs.declared.status.Status.{Status}
 use Rattle.st_top.specs.declared.status.Status.TheVariants as status

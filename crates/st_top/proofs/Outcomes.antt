@@ -10,7 +10,7 @@ use Rattle.st_command.specs.declared.command.Command.{Command}
 use Rattle.st_command.specs.declared.command.Command.TheVariants.{Step, Check}
 use Rattle.st_command.specs.declared.given.Print.{Print}
 use Rattle.st_reading.specs.Meaning as meaning
-use Rattle.st_reading.specs.Meaning.{AreTold, Held, Meaning, Means, names_of}
+use Rattle.st_reading.specs.Meaning.{AreTold, Held, Meaning, Means}
 use Rattle.st_reading.specs.declared.refusal.Refusal.TheVariants as refusal
 use Rattle.st_reading.proofs.Meanings.{one_meaning, some_meaning}
 use Rattle.st_top.specs.Ends.{Ends, EndsAs, IsMeant, names_asked}

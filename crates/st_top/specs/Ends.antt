@@ -14,7 +14,7 @@ use Rattle.st_command.specs.Command.{StepWords}
 use Rattle.st_command.specs.declared.command.Command.{Command}
 use Rattle.st_command.specs.declared.command.Command.TheVariants as command
 use Rattle.st_command.specs.declared.given.Print.{Print}
-use Rattle.st_reading.specs.Ends.{AskedTo, LastFits}
+use Rattle.st_reading.specs.Ends.{AskedTo}
 use Rattle.st_reading.specs.Ends as reading
 use Rattle.st_reading.specs.Meaning.{Held, Meaning, Refuses, Runs, Prints, Means, names_of, last_file}
 use Rattle.st_reading.specs.declared.refusal.Refusal.TheVariants as refusal

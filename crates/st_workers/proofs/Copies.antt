@@ -18,7 +18,7 @@ use Rattle.st_lookaside.proofs.Progress.{front_is, in_front}
 use Rattle.st_model.specs.Spelling.{Spelled, spell}
 use Rattle.st_names.specs.declared.seen.SeenText.{SeenText}
 use Rattle.st_law.specs.Messages.{Head}
-use Rattle.st_law.specs.State.{Message, progress_of_head, progress_of_message, request_of_head, snapshot_of_message, snapshot_of_progress}
+use Rattle.st_law.specs.State.{Message, progress_of_head, progress_of_message, snapshot_of_message, snapshot_of_progress}
 use Rattle.st_law.specs.State as law
 use Rattle.st_workers.specs.Kept.{head_of, IsSlotOf}
 

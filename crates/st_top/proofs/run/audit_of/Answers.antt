@@ -1,7 +1,5 @@
-use Rattle.std.proofs.Common.{◌≡◌, List}
 use Rattle.st_command.specs.declared.given.Print.TheVariants as print
 use Rattle.st_audit.specs.Recording.{IsAuditOf}
-use Rattle.st_trace.specs.declared.entry.Entry.{Entry}
 use Rattle.st_kernel.specs.Kernel.{trace_of}
 use Rattle.st_top.proofs.Runs.{lawful_so, none_yet, shown, starts_so}
 use Rattle.st_top.proofs.run.audit_of.Goals as goal

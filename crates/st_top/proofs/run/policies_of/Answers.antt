@@ -1,4 +1,4 @@
-use Rattle.std.proofs.Common.{◌≡◌, ◌∙◌, ap, subst, sym}
+use Rattle.std.proofs.Common.{◌∙◌, ap, subst, sym}
 use Rattle.st_command.specs.declared.given.Print.TheVariants as print
 use Rattle.st_audit.specs.PolicyText.{policy_text}
 use Rattle.st_audit.specs.Recording.{IsKeptOf}
