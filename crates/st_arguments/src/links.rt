@@ -7,7 +7,7 @@ ghost use Rattle.st_tree.specs.Refusals.{IsMade};
 
 use st_base::Obj;
 use st_calls::{ArgText, PartKind, Rule, SysCall, args_of, follows};
-use st_names::{AbsName, is_component};
+use st_names::{AbsName, is_component, split_at_slashes};
 use st_tree::{Kind, Tree};
 use std::alloc::{AllocError, Global};
 
@@ -28,7 +28,7 @@ fn parts_to_link(tree: &Tree, follow: bool, text: &[u8]) -> Option<usize>
 {
     let mut obj = tree.root();
     let mut count = 0;
-    for part in text.split(|byte| *byte == b'/') {
+    for part in split_at_slashes(text) {
         if !is_component(part) {
             continue;
         }
@@ -51,7 +51,7 @@ fn front_of_name(alloc: Global, text: &[u8], count: usize) -> Result<AbsName, Al
 {
     let mut name = AbsName::root(alloc);
     let mut left = count;
-    for part in text.split(|byte| *byte == b'/') {
+    for part in split_at_slashes(text) {
         if left == 0 {
             break;
         }

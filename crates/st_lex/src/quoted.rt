@@ -1,5 +1,5 @@
-ghost use Rattle.std.specs.Prelude.{◌≡◌, ℕ, List, ◌++◌, ◌<◌, length, take, OnOk, OnErr};
-ghost use Rattle.st_lex.specs.Quote.{hex_digit, quoted, quoted_byte, AreBytes, one_token};
+ghost use Rattle.std.specs.Prelude.{◌≡◌, ℕ, false, List, [], ◌∷◌, ◌++◌, ◌<◌, length, take, OnOk, OnErr};
+ghost use Rattle.st_lex.specs.Quote.{hex_digit, quoted, quoted_byte, quoted_bytes, AreBytes, one_token};
 ghost use Rattle.st_lex.specs.Tokens.{lexed_text};
 
 use st_base::Text;
@@ -34,14 +34,45 @@ fn quote_byte(byte: u8, out: &mut Text) -> Result<(), AllocError>
     }
 }
 
+// Whether a byte stands between quotes otherwise than it is.
+fn is_escaped(byte: u8) -> bool
+    ensures { result ≡ false → quoted_byte byte ≡ byte ∷ [] }
+{
+    (byte < 0x20) | (byte > 0x7e) | (byte == b'"') | (byte == b'\\') | (byte == b'$')
+}
+
+// Whether a byte of these is escaped. It has no way out before the last, so that it is compiled to test many bytes at a time.
+fn has_escaped(bytes: &[u8]) -> bool
+    ensures { result ≡ false → quoted_bytes bytes.now ≡ bytes.now }
+{
+    let mut found = false;
+    for &byte in bytes {
+        found |= is_escaped(byte);
+    }
+    found
+}
+
+// Appends bytes as they stand between quotes; without memory it may leave a front of them behind the text.
+fn quote_bytes(bytes: &[u8], out: &mut Text) -> Result<(), AllocError>
+    ensures ok { OnOk result (out.new ≡ out.old ++ quoted_bytes bytes.now) }
+    ensures front { take (length out.old) out.new ≡ out.old }
+{
+    for &byte in bytes {
+        quote_byte(byte, out)?;
+    }
+    Ok(())
+}
+
 // Appends the quoted form; without memory it may leave a front of it behind the text.
 fn append_quoted(bytes: &[u8], out: &mut Text) -> Result<(), AllocError>
     ensures ok { OnOk result (out.new ≡ out.old ++ quoted bytes.now) }
     ensures front { take (length out.old) out.new ≡ out.old }
 {
     out.push(b'"')?;
-    for &byte in bytes {
-        quote_byte(byte, out)?;
+    if has_escaped(bytes) {
+        quote_bytes(bytes, out)?;
+    } else {
+        out.append(bytes)?;
     }
     out.push(b'"')
 }

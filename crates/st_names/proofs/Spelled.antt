@@ -2,15 +2,19 @@
 use Rattle.std.proofs.Common.{◌≡◌, ◌⊎◌, inl, inr, ◌<◌, ◌≤◌, ℕ, suc, ◌+◌, ◌-◌, ◌==◌, Bool, true, false, cond, not, ◌||◌, List, [], ◌∷◌, ◌++◌, length, take, drop, get_or, refl, ap, sym, ◌∙◌, subst, arith, length-append, length-drop, drop-cons, add-one}
 use Rattle.std.specs.Cmp.Lexicographic.{other_text, pointwise, same_text}
 use Rattle.std.specs.List.{count_by, flat_map, onto_first, position, position_or_len}
-use Rattle.std.specs.Prelude.{Some, None, nat_eq, nat_lt, unwrap_or}
-use Rattle.std.proofs.lemmas.Bool.{eqb-true, ltb-false}
+use Rattle.std.specs.Prelude.{Option, Some, None, All, nat_eq, nat_lt, unwrap_or}
+use Rattle.std.proofs.lemmas.Bool.{eqb-true, false_from_ne_true, ltb-false}
+use Rattle.std.proofs.lemmas.Bool.Decides.{nat_tests}
 use Rattle.std.proofs.lemmas.Grind.{flat_map-append}
 use Rattle.std.proofs.lemmas.List.{append-nil, append_cancel_left, take-append-drop}
 use Rattle.std.proofs.lemmas.List.Elements.{All-cons, All-filter, All-head, All-tail}
-use Rattle.std.proofs.lemmas.List.Sums.{prefix_len-le-length}
+use Rattle.std.proofs.lemmas.List.Folds.{list_any_none}
+use Rattle.std.proofs.lemmas.List.Sums.{position_or_len_is, prefix_len-le-length}
 use Rattle.std.proofs.lemmas.List.Splits.{length-slice_split}
 use Rattle.std.proofs.Math.Seq.{take-append_seam, take-length}
-use Rattle.st_names.specs.Name.{AreParts, Components, IsLastSlash, IsSpelled, components_of, has_slash, is_component, is_slash, parent, split_at_slashes, parts_behind, slash, with_slash}
+use Rattle.memchr.specs.Find.{IsFirstByte, is_byte}
+use Rattle.st_names.specs.declared.limits.TheConstants.{LONGEST_PART}
+use Rattle.st_names.specs.Name.{AreParts, Components, IsLastSlash, IsSpelled, components_of, has_long_part, has_slash, is_component, is_slash, parent, split_at_slashes, parts_behind, slash, with_slash}
 
 -- ---- cutting at slashes
 
@@ -171,6 +175,13 @@ place_by false place len is within = let end : len ≤ place = ltb-false place l
 pub first_slash_place : (text : List ℕ) → unwrap_or (position is_slash text) (length text) ≡ position_or_len is_slash text
 first_slash_place text = place_by _ _ _ refl (prefix_len-le-length (λ byte. not (is_slash byte)) text)
 
+-- so it is where a search for a slash ends
+pub slash_found : (text : List ℕ) (found : Option ℕ) → IsFirstByte (is_byte slash) text found → unwrap_or found (length text) ≡ position_or_len is_slash text
+slash_found text None nowhere = sym (position_or_len_is is_slash text (length text) 0 (omega arith) (λ k below. false_from_ne_true (is_slash (get_or text k 0)) (nowhere k (omega arith) below)) (λ below. absurd (omega arith)))
+slash_found text (Some at) first =
+    let within : at < length text = first.0.high in
+    sym (position_or_len_is is_slash text at 0 (omega arith) (λ k below. false_from_ne_true (is_slash (get_or text k 0)) (first.0.before k (omega arith) below)) (λ _. first.1))
+
 -- a byte before a text without slashes
 pub has_slash_drop : (text : List ℕ) (at : ℕ) → at < length text → (get_or text at 0 ≡ slash → ⊥) → has_slash (drop (at + 1) text) ≡ false → has_slash (drop at text) ≡ false
 has_slash_drop text at within differs none =
@@ -222,6 +233,26 @@ prefix_rest text other rest same is = sym (take-append-drop (length text) other)
 pub length-parts_behind : (text : List ℕ) → length (parts_behind text) ≡ count_by is_slash text
 length-parts_behind text = omega (arith, length-drop 1 (split_at_slashes text), length-slice_split is_slash text)
 
+-- ---- what stands between slashes is no longer than all
+
+shorter_by : (b : Bool) (x n : ℕ) (texts : Components) → All (λ part. length part ≤ n) texts → All (λ part. length part ≤ suc n) (cond b ([] ∷ texts) (onto_first x texts))
+shorter_by true x n texts short = All-cons (λ part. length part ≤ suc n) [] texts (omega arith) (λ k d below. omega (arith, short k d below))
+shorter_by false x n [] short = All-cons (λ part. length part ≤ suc n) (x ∷ []) [] (omega arith) (λ k d below. absurd (omega arith))
+shorter_by false x n (part ∷ texts) short =
+    All-cons (λ text. length text ≤ suc n) (x ∷ part) texts (omega (arith, All-head (λ text. length text ≤ n) part texts short))
+    (λ k d below. omega (arith, All-tail (λ text. length text ≤ n) part texts short k d below))
+
+shorter-parts : (text : List ℕ) → All (λ part. length part ≤ length text) (split_at_slashes text)
+shorter-parts [] = All-cons (λ part. length part ≤ 0) [] [] (omega arith) (λ k d below. absurd (omega arith))
+shorter-parts (x ∷ xs) = shorter_by (x == slash) x (length xs) (split_at_slashes xs) (shorter-parts xs)
+
+pub no_longer : (limit n : ℕ) → n ≤ limit → nat_lt limit n ≡ false
+no_longer limit n short = grind (arith, nat_tests)
+
+-- a text that is no longer than a part may be has no part that is longer
+pub no_long_part : (text : List ℕ) → length text ≤ LONGEST_PART → has_long_part text ≡ false
+no_long_part text short = list_any_none (λ part. nat_lt LONGEST_PART (length part)) (split_at_slashes text) (λ k d below. no_longer LONGEST_PART _ (omega (arith, short, shorter-parts text k d below)))
+
 -- ---- one component after another
 
 parts_slashed : (text rest : List ℕ) (first : ℕ) → text ≡ first ∷ rest → first ≡ slash → parts_behind text ≡ split_at_slashes rest
@@ -235,3 +266,17 @@ part_taken text behind part rest first n is spelled place taken left = (
       ∙ ap (λ (m : ℕ). take m behind ∷ parts_behind (drop m behind)) (sym place)
       ∙ ap (λ (p : List ℕ). p ∷ parts_behind (drop n behind)) (sym taken) ∙ ap (λ (r : List ℕ). part ∷ parts_behind r) (sym left),
 )
+
+-- what stands behind the slash that a text begins with
+pub behind_slash : (text rest : List ℕ) (first : ℕ) → text ≡ first ∷ rest → IsSpelled text → split_at_slashes rest ≡ parts_behind text
+behind_slash text rest first is spelled = sym (parts_slashed text rest first is (spelled_begins first rest (subst IsSpelled is spelled)))
+
+-- the first part is what stands before the first slash
+pub first_part_taken : (text part slashed : List ℕ) (n : ℕ) (left : Components) → n ≡ position_or_len is_slash text → part ≡ take n text → slashed ≡ drop n text → (IsSpelled slashed → left ≡ parts_behind slashed) → split_at_slashes text ≡ part ∷ left
+first_part_taken text part slashed n left place taken is behind =
+    let cut : slashed ≡ drop (position_or_len is_slash text) text = is ∙ ap (λ (m : ℕ). drop m text) place in
+    parts_first text
+    ∙ ap (λ (m : ℕ). take m text ∷ parts_behind (drop m text)) (sym place)
+    ∙ ap (λ (p : List ℕ). p ∷ parts_behind (drop n text)) (sym taken)
+    ∙ ap (λ (r : List ℕ). part ∷ parts_behind r) (sym is)
+    ∙ ap (λ (l : Components). part ∷ l) (sym (behind (subst IsSpelled (sym cut) (spelled_rest text))))

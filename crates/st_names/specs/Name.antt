@@ -1,5 +1,5 @@
 -- Names as lists of components, and the texts that spell them.
-use Rattle.std.specs.Prelude.{◌≡◌, ◌<◌, ℕ, ◌+◌, ◌-◌, Bool, true, false, ◌==◌, ◌&&◌, not, nat_lt, List, [], ◌∷◌, length, slice_index_or, take, drop, codes, All}
+use Rattle.std.specs.Prelude.{◌≡◌, ◌<◌, ℕ, ◌+◌, ◌-◌, Bool, true, false, ◌==◌, ◌&&◌, not, nat_lt, List, [], ◌∷◌, length, slice_index_or, take, drop, codes, All, Option, None, Some}
 use Rattle.std.specs.List.{filter, flat_map, list_any, slice_split}
 use Rattle.std.specs.Str.{bytes_eq}
 use Rattle.st_names.specs.declared.limits.TheConstants.{LONGEST_PART}
@@ -19,6 +19,11 @@ is_slash byte = byte == slash
 -- what stands between the slashes
 abbrev pub split_at_slashes : List ℕ → Components
 split_at_slashes text = slice_split (λ byte. byte == slash) text
+
+-- what stands between the slashes of the text that is left, if one is
+abbrev pub parts_left : Option (List ℕ) → Components
+parts_left None = []
+parts_left (Some text) = split_at_slashes text
 
 -- what stands behind the slashes
 abbrev pub parts_behind : List ℕ → Components

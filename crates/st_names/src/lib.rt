@@ -7,6 +7,6 @@ pub mod parts;
 pub mod seen;
 
 pub use limits::{LONGEST_NAME, LONGEST_PART};
-pub use name::{AbsName, NameParts};
-pub use parts::{NameFault, components, has_long_part, is_component};
+pub use name::{AbsName, NameParts, first_slash};
+pub use parts::{NameFault, SlashParts, components, has_long_part, is_component, split_at_slashes};
 pub use seen::{Seen, SeenText};

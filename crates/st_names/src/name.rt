@@ -2,10 +2,15 @@ ghost use Rattle.std.specs.Prelude.{◌≡◌, ◌↔◌, ◌-◌, ◌^◌, ◌<
 ghost use Rattle.std.specs.List.{position_or_len};
 ghost use Rattle.st_names.specs.Name.{components_of, has_slash, is_slash, last_part, parent, split_at_slashes, printed_name, IsLastSlash, IsSpelled};
 
-use crate::is_component;
+use crate::{is_component, split_at_slashes};
+use memchr::memchr;
 use st_base::Text;
 use std::alloc::{AllocError, Global};
 use std::marker::Model;
+
+// From this length on a text is searched for a slash many bytes at a time. Few names are as long, and in a shorter one a test of one
+// byte after another finds the slash sooner.
+const LONG_TEXT: usize = 128;
 
 /// An absolute name: its components from the root, which has none.
 #[derive(Debug, Drop)]
@@ -60,14 +65,37 @@ impl<'a> Iterator for NameParts<'a> {
     }
 }
 
-// Where the first slash is, or the text's length where there is none.
-fn first_slash(text: &[u8]) -> usize
+// Where the first slash is, or the text's length where there is none, by a test of one byte after another.
+#[inline]
+fn near_slash(text: &[u8]) -> usize
     ensures place { result ≡ position_or_len is_slash text.now }
     ensures within { result ≤ length text.now }
 {
     text.iter()
         .position(|byte| *byte == b'/')
         .unwrap_or(text.len())
+}
+
+// The same by tests of many bytes at a time.
+#[inline(never)]
+fn far_slash(text: &[u8]) -> usize
+    ensures place { result ≡ position_or_len is_slash text.now }
+    ensures within { result ≤ length text.now }
+{
+    memchr(b'/', text).unwrap_or(text.len())
+}
+
+/// Where the first slash is, or the text's length where there is none.
+#[inline]
+pub fn first_slash(text: &[u8]) -> usize
+    ensures place { result ≡ position_or_len is_slash text.now }
+    ensures within { result ≤ length text.now }
+{
+    if text.len() < LONG_TEXT {
+        near_slash(text)
+    } else {
+        far_slash(text)
+    }
 }
 
 // Where the last slash of a name's text is, or 0 in that of the root.
@@ -102,12 +130,21 @@ impl AbsName {
         }
     }
 
+    /// The name of the root, with room for components of so many bytes with their slashes.
+    pub fn root_with_room(alloc: Global, room: usize) -> Result<Self, AllocError>
+        ensures { IfOk result (λ name. name ≡ []) }
+    {
+        Ok(AbsName {
+            text: Vec::with_capacity(alloc, room)?,
+        })
+    }
+
     /// The name that a text's components spell from the root.
     pub fn of(alloc: Global, text: &[u8]) -> Result<Self, AllocError>
         ensures { IfOk result (λ name. name ≡ components_of text.now) }
     {
-        let mut name = AbsName::root(alloc);
-        for part in text.split(|byte| *byte == b'/') {
+        let mut name = AbsName::root_with_room(alloc, text.len() + 1)?;
+        for part in split_at_slashes(text) {
             if is_component(part) {
                 name.push(part)?;
             }

@@ -1,10 +1,13 @@
 ghost use Rattle.std.specs.Prelude.{◌≡◌, ◌↔◌, true, ◌<◌, ◌≤◌, length, IfOk};
-ghost use Rattle.st_names.specs.Name.{AreParts, is_component, components_of, has_long_part};
+ghost use Rattle.std.specs.Option.{option_map};
+ghost use Rattle.st_names.specs.Name.{AreParts, is_component, components_of, has_long_part, parts_behind, parts_left, split_at_slashes, IsSpelled};
 ghost use Rattle.st_names.specs.declared.limits.TheConstants.{LONGEST_NAME};
 
+use crate::first_slash;
 use crate::limits::{LONGEST_NAME, LONGEST_PART};
 use st_base::{Sequence, Text};
 use std::alloc::{AllocError, Global};
+use std::marker::Model;
 use thiserror::Error;
 
 /// Why a text has no components.
@@ -30,6 +33,55 @@ impl From<AllocError> for NameFault {
     }
 }
 
+// What stands behind the slash that a text begins with, if it has one.
+fn behind_slash(text: &[u8]) -> Option<&[u8]>
+    ensures { IsSpelled text.now → parts_left (option_map (λ rest. rest.now) result) ≡ parts_behind text.now }
+{
+    let (_, rest) = text.split_first()?;
+    Some(rest)
+}
+
+/// What stands between a text's slashes, from its front on.
+#[derive(Drop)]
+pub struct SlashParts<'a> {
+    // The text that is left, unless no part is.
+    rest: Option<&'a [u8]>,
+}
+
+impl<'a> Model for SlashParts<'a> {
+    ghost use Rattle.std.specs.Prelude.{List, ℕ};
+    ghost use Rattle.std.specs.Option.{option_map};
+    ghost use Rattle.st_names.specs.Name.{parts_left};
+
+    ghost Value = { List (List ℕ) };
+
+    ghost view = { λ p. parts_left (option_map (λ text. text.now) p.rest) };
+}
+
+impl<'a> Iterator for SlashParts<'a> {
+    ghost use Rattle.std.specs.Iterator.{YieldsFirstRef, item_count};
+
+    type Item = &'a [u8];
+
+    ghost next_gives = { YieldsFirstRef (λ p. p) };
+
+    ghost remaining = { item_count (λ p. p) };
+
+    fn next(&mut self) -> Option<&'a [u8]> {
+        let text = self.rest?;
+        let (part, slashed) = text.split_at(first_slash(text));
+        self.rest = behind_slash(slashed);
+        Some(part)
+    }
+}
+
+/// What stands between a text's slashes.
+pub fn split_at_slashes(text: &[u8]) -> SlashParts<'_>
+    ensures { result ≡ split_at_slashes text.now }
+{
+    SlashParts { rest: Some(text) }
+}
+
 /// Whether a part between slashes leads on: it is neither empty nor `.`.
 pub fn is_component(part: &[u8]) -> bool
     ensures { result ≡ is_component part.now }
@@ -41,8 +93,8 @@ pub fn is_component(part: &[u8]) -> bool
 pub fn has_long_part(text: &[u8]) -> bool
     ensures { result ≡ has_long_part text.now }
 {
-    text.split(|byte| *byte == b'/')
-        .any(|part| part.len() > LONGEST_PART)
+    // Few texts are longer than a part may be, and what is no longer has no longer part.
+    text.len() > LONGEST_PART && split_at_slashes(text).any(|part| part.len() > LONGEST_PART)
 }
 
 // The parts between slashes, but for those that are empty or `.`.
@@ -50,7 +102,7 @@ fn kept_parts(alloc: Global, text: &[u8]) -> Result<Sequence<Text>, AllocError>
     ensures { IfOk result (λ parts. parts ≡ components_of text.now) }
 {
     let mut parts = Sequence::new(alloc);
-    for part in text.split(|byte| *byte == b'/') {
+    for part in split_at_slashes(text) {
         if is_component(part) {
             parts.push(Text::of(alloc, part)?)?;
         }

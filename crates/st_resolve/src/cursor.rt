@@ -5,7 +5,7 @@ ghost use Rattle.st_model.specs.Walk.{is_last};
 ghost use Rattle.st_resolve.specs.Cursor.{first_part_len, IsComponentAt};
 
 use st_base::Text;
-use st_names::is_component;
+use st_names::{first_slash, is_component};
 use std::alloc::{AllocError, Global};
 use std::marker::Model;
 
@@ -30,23 +30,13 @@ impl Model for Cursor {
     ghost invariant = { λ c. IsComponentAt c.text c.at c.end };
 }
 
-// How long the part is that a text begins with.
-fn first_part_len(text: &[u8]) -> usize
-    ensures len { result ≡ first_part_len text.now }
-    ensures within { result ≤ length text.now }
-{
-    text.iter()
-        .position(|byte| *byte == b'/')
-        .unwrap_or(text.len())
-}
-
 // Where the part ends that begins at this place.
 fn part_end(text: &[u8], at: usize) -> usize
     requires { at ≤ length text.now }
     ensures place { result ≡ at + first_part_len (drop at text.now) }
     ensures within { result ≤ length text.now }
 {
-    at + first_part_len(&text[at..])
+    at + first_slash(&text[at..])
 }
 
 // Where the first component from this place on begins and ends, or the text's length for both where there is none.

@@ -13,7 +13,7 @@ ghost use Rattle.st_resolve.specs.declared.walk.WalkStep.TheVariants as step;
 use crate::remaining::Remaining;
 use st_base::Errno;
 use st_model::MOST_LINKS;
-use st_names::{AbsName, LONGEST_NAME, Seen, has_long_part, is_component};
+use st_names::{AbsName, LONGEST_NAME, Seen, has_long_part, is_component, split_at_slashes};
 use std::alloc::{AllocError, Global};
 use std::marker::Model;
 use thiserror::Error;
@@ -83,7 +83,7 @@ fn origin_of(alloc: Global, text: &[u8], from: &AbsName) -> Result<AbsName, Allo
     ensures { IfOk result (λ name. name ≡ start_of_name text.now from.now) }
 {
     if text.starts_with(b"/") {
-        Ok(AbsName::root(alloc))
+        AbsName::root_with_room(alloc, text.len())
     } else {
         from.copy(alloc)
     }
@@ -106,8 +106,7 @@ fn first_fault(text: &[u8]) -> Option<Errno>
 fn is_way_up(text: &[u8]) -> bool
     ensures { result ≡ is_last (rest_after_ups (components_of text.now)) }
 {
-    text.split(|byte| *byte == b'/')
-        .all(|part| !is_component(part) || is_up(part))
+    split_at_slashes(text).all(|part| !is_component(part) || is_up(part))
 }
 
 /// How far the walk of a text is before its first look, which takes no memory; the directory's name has at most 1,024 bytes. ENOENT
@@ -197,13 +196,12 @@ impl Walk {
         ensures walk { OnOk result ((lookups : List SeenText) → walk_from self.new lookups ≡ walk_from self.old (seen_text seen.entry ∷ lookups)) }
         ensures err { OnErr result (self.new ≡ self.old) }
     {
-        let is_last = self.left.is_last();
         match seen {
             Seen::Dir => self.enter()?,
-            Seen::File | Seen::Missing if is_last => self.enter()?,
+            Seen::File | Seen::Missing if self.left.is_last() => self.enter()?,
             Seen::File | Seen::NotDir => self.fault = Some(Errno::ENOTDIR),
             Seen::Missing => self.fault = Some(Errno::ENOENT),
-            Seen::Link(_) if is_last && !self.follow => self.enter()?,
+            Seen::Link(_) if !self.follow && self.left.is_last() => self.enter()?,
             Seen::Link(_) if self.links == MOST_LINKS => self.fault = Some(Errno::ELOOP),
             Seen::Link(target) => self.follow_link(alloc, target)?,
         }

@@ -1,13 +1,11 @@
-use Rattle.std.proofs.Common.{◌≡◌, ◌==◌, ◌+◌, ◌++◌, ◌∷◌, [], ◌∙◌, ap, refl, sym, subst, length, map, take, append-nil, rules, arith, None, Some, ◌&&◌, cond, true, false}
-use borrow.Author.Tests.{tests}
+use Rattle.std.proofs.Common.{◌≡◌, ◌+◌, ◌++◌, ◌∷◌, [], ◌∙◌, ap, refl, sym, subst, length, map, take, append-nil, rules, arith, None, Some, ◌&&◌, cond, true, false}
 use Rattle.std.specs.List.{filter}
 use Rattle.std.specs.Option.{option_map}
-use Rattle.std.proofs.lemmas.Iterator.Consumers.{YieldsList-end, YieldsList-at, YieldsList-so_far, YieldsList-turn}
-use Rattle.std.proofs.lemmas.Iterator.Splits.{YieldsList-from_slice_split}
+use Rattle.std.proofs.lemmas.Iterator.Consumers.{YieldsList-end, YieldsList-at, YieldsList-from_first, YieldsList-so_far, YieldsList-turn}
 use Rattle.std.proofs.lemmas.List.{map-append}
 use Rattle.st_law.specs.Arguments.{is_link_node, link_on_way}
 use Rattle.st_model.specs.Tree.{node_of_number}
-use Rattle.st_names.specs.Name.{Components, components_of, slash, is_component}
+use Rattle.st_names.specs.Name.{Components, components_of, is_component, split_at_slashes}
 use Rattle.st_arguments.proofs.Fronts.{front_at, front-push, front_short, front_taken}
 use Rattle.st_arguments.proofs.WayDown.{come_first, come_last, come_lost, come_on, come_to_link, HasCome}
 use Rattle.st_arguments.proofs.links.parts_to_link.Goals as goal
@@ -18,8 +16,8 @@ loop-part-init c = come_first c.args.tree.now c.args.follow c.root-obj.result c.
 
 pub returns-then-is_link : goal.returns-then-is_link
 returns-then-is_link c =
-    let turn = YieldsList-turn (YieldsList-at c.into_iter-part-iterator.ensures.into_iter_gives (YieldsList-from_slice_split _ (λ b. b == slash) c.args.text.now c.split-part-items.ensures.rest c.split-part-items.ensures.done c.split-part-items.ensures.closure (λ x r q k. search (rules, tests)))) c.loop-part.yielded _ c.loop-part.yielded_by _ _ c.in-Some.part c.in-Some.is c.next.ensures.steps in
-    let so_far = YieldsList-so_far (YieldsList-at c.into_iter-part-iterator.ensures.into_iter_gives (YieldsList-from_slice_split _ (λ b. b == slash) c.args.text.now c.split-part-items.ensures.rest c.split-part-items.ensures.done c.split-part-items.ensures.closure (λ x r q k. search (rules, tests)))) c.loop-part.yielded _ c.loop-part.yielded_by in
+    let turn = YieldsList-turn (YieldsList-at c.into_iter-part-iterator.ensures.into_iter_gives (YieldsList-from_first (λ part. part.now) (λ parts. parts) (split_at_slashes c.args.text.now) c.split_at_slashes-part-items.ensures)) c.loop-part.yielded _ c.loop-part.yielded_by _ _ c.in-Some.part c.in-Some.is c.next.ensures.steps in
+    let so_far = YieldsList-so_far (YieldsList-at c.into_iter-part-iterator.ensures.into_iter_gives (YieldsList-from_first (λ part. part.now) (λ parts. parts) (split_at_slashes c.args.text.now) c.split_at_slashes-part-items.ensures)) c.loop-part.yielded _ c.loop-part.yielded_by in
     let split = front_at c.args.text.now (map (λ x. x.now) c.loop-part.yielded) (length c.loop-part.yielded) so_far c.in-Some.part.now turn.0 turn.1 (sym c.is_component.ensures ∙ c.if-not-is_component.false) in
     ap (link_on_way c.args.tree.now c.args.follow) split
     ∙ come_to_link c.args.tree.now c.args.follow (filter is_component (map (λ x. x.now) c.loop-part.yielded)) c.loop-part.count c.loop-part.obj c.loop-part.invariant c.in-Some.part.now _ (sym c.if-is_link.true ∙ c.is_link.ensures)
@@ -27,8 +25,8 @@ returns-then-is_link c =
 
 pub returns-in_err-obj : goal.returns-in_err-obj
 returns-in_err-obj c =
-    let turn = YieldsList-turn (YieldsList-at c.into_iter-part-iterator.ensures.into_iter_gives (YieldsList-from_slice_split _ (λ b. b == slash) c.args.text.now c.split-part-items.ensures.rest c.split-part-items.ensures.done c.split-part-items.ensures.closure (λ x r q k. search (rules, tests)))) c.loop-part.yielded _ c.loop-part.yielded_by _ _ c.in-Some.part c.in-Some.is c.next.ensures.steps in
-    let so_far = YieldsList-so_far (YieldsList-at c.into_iter-part-iterator.ensures.into_iter_gives (YieldsList-from_slice_split _ (λ b. b == slash) c.args.text.now c.split-part-items.ensures.rest c.split-part-items.ensures.done c.split-part-items.ensures.closure (λ x r q k. search (rules, tests)))) c.loop-part.yielded _ c.loop-part.yielded_by in
+    let turn = YieldsList-turn (YieldsList-at c.into_iter-part-iterator.ensures.into_iter_gives (YieldsList-from_first (λ part. part.now) (λ parts. parts) (split_at_slashes c.args.text.now) c.split_at_slashes-part-items.ensures)) c.loop-part.yielded _ c.loop-part.yielded_by _ _ c.in-Some.part c.in-Some.is c.next.ensures.steps in
+    let so_far = YieldsList-so_far (YieldsList-at c.into_iter-part-iterator.ensures.into_iter_gives (YieldsList-from_first (λ part. part.now) (λ parts. parts) (split_at_slashes c.args.text.now) c.split_at_slashes-part-items.ensures)) c.loop-part.yielded _ c.loop-part.yielded_by in
     let split = front_at c.args.text.now (map (λ x. x.now) c.loop-part.yielded) (length c.loop-part.yielded) so_far c.in-Some.part.now turn.0 turn.1 (sym c.is_component.ensures ∙ c.if-not-is_component.false) in
     let none : c.from_residual.result ≡ None = search (rules, c) in
     ap (link_on_way c.args.tree.now c.args.follow) split
@@ -38,8 +36,8 @@ returns-in_err-obj c =
 
 pub overflow_add-count : goal.overflow_add-count
 overflow_add-count c =
-    let turn = YieldsList-turn (YieldsList-at c.into_iter-part-iterator.ensures.into_iter_gives (YieldsList-from_slice_split _ (λ b. b == slash) c.args.text.now c.split-part-items.ensures.rest c.split-part-items.ensures.done c.split-part-items.ensures.closure (λ x r q k. search (rules, tests)))) c.loop-part.yielded _ c.loop-part.yielded_by _ _ c.in-Some.part c.in-Some.is c.next.ensures.steps in
-    let so_far = YieldsList-so_far (YieldsList-at c.into_iter-part-iterator.ensures.into_iter_gives (YieldsList-from_slice_split _ (λ b. b == slash) c.args.text.now c.split-part-items.ensures.rest c.split-part-items.ensures.done c.split-part-items.ensures.closure (λ x r q k. search (rules, tests)))) c.loop-part.yielded _ c.loop-part.yielded_by in
+    let turn = YieldsList-turn (YieldsList-at c.into_iter-part-iterator.ensures.into_iter_gives (YieldsList-from_first (λ part. part.now) (λ parts. parts) (split_at_slashes c.args.text.now) c.split_at_slashes-part-items.ensures)) c.loop-part.yielded _ c.loop-part.yielded_by _ _ c.in-Some.part c.in-Some.is c.next.ensures.steps in
+    let so_far = YieldsList-so_far (YieldsList-at c.into_iter-part-iterator.ensures.into_iter_gives (YieldsList-from_first (λ part. part.now) (λ parts. parts) (split_at_slashes c.args.text.now) c.split_at_slashes-part-items.ensures)) c.loop-part.yielded _ c.loop-part.yielded_by in
     let split = front_at c.args.text.now (map (λ x. x.now) c.loop-part.yielded) (length c.loop-part.yielded) so_far c.in-Some.part.now turn.0 turn.1 (sym c.is_component.ensures ∙ c.if-not-is_component.false) in
     let short = front_short c.args.text.now (filter is_component (map (λ x. x.now) c.loop-part.yielded)) _ c.in-Some.part.now split in
     let count = c.loop-part.invariant.count_is in
@@ -56,7 +54,7 @@ loop-part-preserved c =
 
 pub returns-then-is_link-2 : goal.returns-then-is_link-2
 returns-then-is_link-2 c =
-    let all = YieldsList-end (YieldsList-at c.into_iter-part-iterator.ensures.into_iter_gives (YieldsList-from_slice_split _ (λ b. b == slash) c.args.text.now c.split-part-items.ensures.rest c.split-part-items.ensures.done c.split-part-items.ensures.closure (λ x r q k. search (rules, tests)))) c.loop-part.yielded _ c.loop-part.yielded_by _ _ c.in-None.is c.next.ensures.steps in
+    let all = YieldsList-end (YieldsList-at c.into_iter-part-iterator.ensures.into_iter_gives (YieldsList-from_first (λ part. part.now) (λ parts. parts) (split_at_slashes c.args.text.now) c.split_at_slashes-part-items.ensures)) c.loop-part.yielded _ c.loop-part.yielded_by _ _ c.in-None.is c.next.ensures.steps in
     let split : components_of c.args.text.now ≡ filter is_component (map (λ x. x.now) c.loop-part.yielded) = ap (filter is_component) (sym all.0) in
     let follow : c.args.follow ≡ true = c.if-follow.true in
     ap (link_on_way c.args.tree.now c.args.follow) split
@@ -66,7 +64,7 @@ returns-then-is_link-2 c =
 
 pub returns-else-follow : goal.returns-else-follow
 returns-else-follow c =
-    let all = YieldsList-end (YieldsList-at c.into_iter-part-iterator.ensures.into_iter_gives (YieldsList-from_slice_split _ (λ b. b == slash) c.args.text.now c.split-part-items.ensures.rest c.split-part-items.ensures.done c.split-part-items.ensures.closure (λ x r q k. search (rules, tests)))) c.loop-part.yielded _ c.loop-part.yielded_by _ _ c.in-None.is c.next.ensures.steps in
+    let all = YieldsList-end (YieldsList-at c.into_iter-part-iterator.ensures.into_iter_gives (YieldsList-from_first (λ part. part.now) (λ parts. parts) (split_at_slashes c.args.text.now) c.split_at_slashes-part-items.ensures)) c.loop-part.yielded _ c.loop-part.yielded_by _ _ c.in-None.is c.next.ensures.steps in
     let split : components_of c.args.text.now ≡ filter is_component (map (λ x. x.now) c.loop-part.yielded) = ap (filter is_component) (sym all.0) in
     ap (link_on_way c.args.tree.now c.args.follow) split
     ∙ elim c.else-follow.branch [

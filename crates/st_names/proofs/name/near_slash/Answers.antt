@@ -5,7 +5,7 @@ use Rattle.std.proofs.lemmas.Iterator.{YieldsList-from_slice}
 use Rattle.std.proofs.lemmas.Iterator.Search.{position_from_yields_List}
 use Rattle.st_names.specs.Name.{is_slash}
 use Rattle.st_names.proofs.Spelled.{first_slash_place}
-use Rattle.st_names.proofs.name.first_slash.Goals as goal
+use Rattle.st_names.proofs.name.near_slash.Goals as goal
 
 pub returns-clause-place : goal.returns-clause-place
 returns-clause-place c =
