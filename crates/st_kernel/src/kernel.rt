@@ -130,7 +130,7 @@ impl<'a> Kernel<'a> {
         ensures err { OnErr result (self.new ≡ self.old) }
     {
         self.made.reserve(1)?;
-        *added = self.machine.choose(alloc, choice)?;
+        self.machine.choose(alloc, choice, added)?;
         match added {
             Some(entry) => {
                 let woken = woken_by(&self.machine, entry);

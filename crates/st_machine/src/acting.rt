@@ -1,5 +1,6 @@
-// The steps of threads: each makes of the machine what its entry says, and gives the entry.
-ghost use Rattle.std.specs.Prelude.{◌≡◌, ◌≢◌, IfOk, OnErr, Some};
+// The steps of threads: each makes of the machine what its entry says, and leaves the entry in the caller's place for it. An entry has many
+// words, so that it is written once and not handed on.
+ghost use Rattle.std.specs.Prelude.{◌≡◌, ◌≢◌, OnOk, OnErr, Some};
 ghost use Rattle.st_machine.specs.Machine.{IsNext, IsStep, Stands};
 ghost use Rattle.st_machine.specs.NextSteps.{CanBeDone};
 ghost use Rattle.st_model.specs.Processes.{pid_of, IsPid};
@@ -15,25 +16,25 @@ use std::alloc::{AllocError, Global};
 
 impl<'a> Machine<'a> {
     // A thread ends, and its process with the last of them.
-    fn end(&mut self, tid: Tid) -> Entry
+    fn end(&mut self, tid: Tid, added: &mut Option<Entry>)
         requires { IsNext self.old tid steps.End }
-        ensures step { IsStep self.old (Thread tid) (Some result) self.new }
+        ensures step { IsStep self.old (Thread tid) added.new self.new }
         ensures input { self.new.input ≡ self.old.input }
     {
         self.system.end_thread(tid);
         self.threads[tid as usize - 1].end();
-        Entry::Ended { tid }
+        *added = Some(Entry::Ended { tid });
     }
 
     // A thread stores a word.
-    fn store(&mut self, tid: Tid, place: u32, word: u64) -> Entry
+    fn store(&mut self, tid: Tid, place: u32, word: u64, added: &mut Option<Entry>)
         requires { IsNext self.old tid (steps.Store place word) }
-        ensures step { IsStep self.old (Thread tid) (Some result) self.new }
+        ensures step { IsStep self.old (Thread tid) added.new self.new }
         ensures input { self.new.input ≡ self.old.input }
     {
         self.system.store(tid, place, word);
         self.threads[tid as usize - 1].go_on();
-        Entry::Stored { tid, place, word }
+        *added = Some(Entry::Stored { tid, place, word });
     }
 
     // A thread's call, which isn't held, fails before it is made.
@@ -45,9 +46,10 @@ impl<'a> Machine<'a> {
         regs: [u64; 6],
         ids: Ids,
         errno: Errno,
-    ) -> Entry
+        added: &mut Option<Entry>,
+    )
         requires { IsNext self.old tid (steps.Fail call regs ids errno) }
-        ensures step { IsStep self.old (Thread tid) (Some result) self.new }
+        ensures step { IsStep self.old (Thread tid) added.new self.new }
         ensures input { self.new.input ≡ self.old.input }
     {
         self.threads[tid as usize - 1].close();
@@ -58,92 +60,121 @@ impl<'a> Machine<'a> {
             args: Sequence::new(alloc),
             ids,
         };
-        failed.entry(tid, CallResult::Failed(errno), Sequence::new(alloc))
+        *added = Some(failed.entry(tid, CallResult::Failed(errno), Sequence::new(alloc)));
     }
 
     // A thread's barred call is denied.
-    fn deny_barred(&mut self, tid: Tid, errno: Errno, cause: Cause) -> Entry
+    fn deny_barred(&mut self, tid: Tid, errno: Errno, cause: Cause, added: &mut Option<Entry>)
         requires { IsNext self.old tid (steps.Deny None errno cause) }
-        ensures step { IsStep self.old (Thread tid) (Some result) self.new }
+        ensures step { IsStep self.old (Thread tid) added.new self.new }
         ensures input { self.new.input ≡ self.old.input }
     {
         self.threads[tid as usize - 1].close();
-        Entry::Denied {
+        *added = Some(Entry::Denied {
             tid,
             seq: None,
             errno,
             cause,
-        }
+        });
     }
 
     // A thread's held call is denied, and its number ends.
-    fn deny_held(&mut self, tid: Tid, seq: Seq, errno: Errno, cause: Cause) -> Entry
+    fn deny_held(
+        &mut self,
+        tid: Tid,
+        seq: Seq,
+        errno: Errno,
+        cause: Cause,
+        added: &mut Option<Entry>,
+    )
         requires { IsNext self.old tid (steps.Deny (Some seq) errno cause) }
-        ensures step { IsStep self.old (Thread tid) (Some result) self.new }
+        ensures step { IsStep self.old (Thread tid) added.new self.new }
         ensures input { self.new.input ≡ self.old.input }
     {
         self.threads[tid as usize - 1].close();
         self.workers.cancel(seq);
-        Entry::Denied {
+        *added = Some(Entry::Denied {
             tid,
             seq: Some(seq),
             errno,
             cause,
-        }
+        });
     }
 
     // A thread's call is denied.
-    fn deny(&mut self, tid: Tid, seq: Option<Seq>, errno: Errno, cause: Cause) -> Entry
+    fn deny(
+        &mut self,
+        tid: Tid,
+        seq: Option<Seq>,
+        errno: Errno,
+        cause: Cause,
+        added: &mut Option<Entry>,
+    )
         requires { IsNext self.old tid (steps.Deny seq errno cause) }
-        ensures step { IsStep self.old (Thread tid) (Some result) self.new }
+        ensures step { IsStep self.old (Thread tid) added.new self.new }
         ensures input { self.new.input ≡ self.old.input }
     {
         match seq {
-            Some(seq) => self.deny_held(tid, seq, errno, cause),
-            None => self.deny_barred(tid, errno, cause),
+            Some(seq) => self.deny_held(tid, seq, errno, cause, added),
+            None => self.deny_barred(tid, errno, cause, added),
         }
     }
 
     // A thread does what comes next, which is more than to wait. Without memory all is as good as before.
-    fn act(&mut self, alloc: Global, tid: Tid, pid: Pid, step: Step) -> Result<Entry, AllocError>
+    fn act(
+        &mut self,
+        alloc: Global,
+        tid: Tid,
+        pid: Pid,
+        step: Step,
+        added: &mut Option<Entry>,
+    ) -> Result<(), AllocError>
         requires next { IsNext self.old tid step }
         requires can { CanBeDone self.old.system step }
         requires goes_on { step ≢ steps.Wait }
         requires process { pid_of self.old.system.processes tid ≡ Some pid }
         requires there { IsPid self.old.system.processes pid }
-        ensures step { IfOk result (λ entry. IsStep self.old (Thread tid) (Some entry) self.new) }
+        ensures step { OnOk result (IsStep self.old (Thread tid) added.new self.new) }
         ensures err { OnErr result (Stands self.old self.new) }
         ensures input { self.new.input ≡ self.old.input }
     {
         match step {
             Step::Wait => unreachable!(),
-            Step::End => Ok(self.end(tid)),
-            Step::Store { place, word } => Ok(self.store(tid, place, word)),
-            Step::Enter { call, regs } => self.enter(alloc, tid, pid, call, regs),
-            Step::Make(made) => self.use_call(alloc, tid, pid, made),
+            Step::End => self.end(tid, added),
+            Step::Store { place, word } => self.store(tid, place, word, added),
+            Step::Enter { call, regs } => self.enter(alloc, tid, pid, call, regs, added)?,
+            Step::Make(made) => self.use_call(alloc, tid, pid, made, added)?,
             Step::Fail {
                 call,
                 regs,
                 ids,
                 errno,
-            } => Ok(self.fail(alloc, tid, call, regs, ids, errno)),
-            Step::Deny { seq, errno, cause } => Ok(self.deny(tid, seq, errno, cause)),
+            } => self.fail(alloc, tid, call, regs, ids, errno, added),
+            Step::Deny { seq, errno, cause } => self.deny(tid, seq, errno, cause, added),
         }
+        Ok(())
     }
 
-    /// A thread moves, and gives the entry that this adds; none where it has nothing to do. Without memory all is as good as before.
-    pub fn move_thread(&mut self, alloc: Global, tid: Tid) -> Result<Option<Entry>, AllocError>
-        ensures step { IfOk result (λ entry. IsStep self.old (Thread tid) entry self.new) }
+    /// A thread moves, and leaves the entry that this adds; none where it has nothing to do. Without memory all is as good as before.
+    pub fn move_thread(
+        &mut self,
+        alloc: Global,
+        tid: Tid,
+        added: &mut Option<Entry>,
+    ) -> Result<(), AllocError>
+        ensures step { OnOk result (IsStep self.old (Thread tid) added.new self.new) }
         ensures err { OnErr result (Stands self.old self.new) }
         ensures input { self.new.input ≡ self.old.input }
     {
         let step = self.next_step(alloc, tid)?;
         if let Step::Wait = step {
-            return Ok(None);
+            *added = None;
+            return Ok(());
         }
         let Some(pid) = self.system.pid_of(tid) else {
-            return Ok(None);
+            *added = None;
+            return Ok(());
         };
-        Ok(Some(self.act(alloc, tid, pid, step)?))
+        self.act(alloc, tid, pid, step, added)
     }
 }

@@ -1,5 +1,5 @@
 // Questions, and what the operator answers.
-ghost use Rattle.std.specs.Prelude.{◌≡◌, ◌&&◌, is_some, IfOk, OnErr};
+ghost use Rattle.std.specs.Prelude.{◌≡◌, ◌&&◌, is_some, IfOk, OnOk, OnErr};
 ghost use Rattle.st_law.specs.Machine.{entry_of};
 ghost use Rattle.st_law.specs.State.{State, is_undecided};
 ghost use Rattle.st_machine.specs.Machine.{IsMachine, IsStep, Stands};
@@ -97,15 +97,18 @@ impl<'a> Machine<'a> {
         Ok(self.least_question(alloc)?.is_some())
     }
 
-    /// The operator answers the least question, if there is one, and gives the entry that this adds. Without memory nothing changes.
-    pub fn ask(&mut self, alloc: Global) -> Result<Option<Entry>, AllocError>
-        ensures step { IfOk result (λ entry. IsStep self.old Operator entry self.new) }
+    /// The operator answers the least question, and leaves the entry that this adds; none where there is no question. Without memory nothing
+    /// changes.
+    pub fn ask(&mut self, alloc: Global, added: &mut Option<Entry>) -> Result<(), AllocError>
+        ensures step { OnOk result (IsStep self.old Operator added.new self.new) }
         ensures err { OnErr result (Stands self.old self.new) }
         ensures input { self.new.input ≡ self.old.input }
     {
         let Some(copies) = self.least_question(alloc)? else {
-            return Ok(None);
+            *added = None;
+            return Ok(());
         };
-        Ok(Some(self.operator.answer(alloc, self.input, &copies)?))
+        *added = Some(self.operator.answer(alloc, self.input, &copies)?);
+        Ok(())
     }
 }

@@ -1,5 +1,5 @@
 // Choices: each is made by its thread, its worker or the operator.
-ghost use Rattle.std.specs.Prelude.{◌≡◌, IfOk, OnErr};
+ghost use Rattle.std.specs.Prelude.{◌≡◌, OnOk, OnErr};
 ghost use Rattle.st_machine.specs.Machine.{IsStep, Stands};
 ghost use Rattle.st_trace.specs.declared.entry.Choice.TheVariants as choices;
 
@@ -10,27 +10,38 @@ use std::alloc::{AllocError, Global};
 
 impl<'a> Machine<'a> {
     // A worker moves, if there is one of this number.
-    fn serve_if(&mut self, alloc: Global, worker: Worker) -> Result<Option<Entry>, AllocError>
-        ensures step { IfOk result (λ entry. IsStep self.old (choices.Worker worker) entry self.new) }
+    fn serve_if(
+        &mut self,
+        alloc: Global,
+        worker: Worker,
+        added: &mut Option<Entry>,
+    ) -> Result<(), AllocError>
+        ensures step { OnOk result (IsStep self.old (choices.Worker worker) added.new self.new) }
         ensures err { OnErr result (Stands self.old self.new) }
         ensures input { self.new.input ≡ self.old.input }
     {
         if worker < 1 || worker > self.workers.workers() {
-            return Ok(None);
+            *added = None;
+            return Ok(());
         }
-        self.serve(alloc, worker)
+        self.serve(alloc, worker, added)
     }
 
-    /// Makes a choice, and gives the entry that this adds; none where it isn't enabled. Without memory all is as good as before.
-    pub fn choose(&mut self, alloc: Global, choice: Choice) -> Result<Option<Entry>, AllocError>
-        ensures step { IfOk result (λ entry. IsStep self.old choice entry self.new) }
+    /// Makes a choice, and leaves the entry that this adds; none where it isn't enabled. Without memory all is as good as before.
+    pub fn choose(
+        &mut self,
+        alloc: Global,
+        choice: Choice,
+        added: &mut Option<Entry>,
+    ) -> Result<(), AllocError>
+        ensures step { OnOk result (IsStep self.old choice added.new self.new) }
         ensures err { OnErr result (Stands self.old self.new) }
         ensures input { self.new.input ≡ self.old.input }
     {
         match choice {
-            Choice::Thread(tid) => self.move_thread(alloc, tid),
-            Choice::Worker(worker) => self.serve_if(alloc, worker),
-            Choice::Operator => self.ask(alloc),
+            Choice::Thread(tid) => self.move_thread(alloc, tid, added),
+            Choice::Worker(worker) => self.serve_if(alloc, worker, added),
+            Choice::Operator => self.ask(alloc, added),
         }
     }
 }

@@ -1,5 +1,5 @@
 // Calls are entered: fast, barred, untraced, or held under the next number.
-ghost use Rattle.std.specs.Prelude.{◌≡◌, ◌<◌, ◌-◌, ◌^◌, Some, IfOk, OnErr};
+ghost use Rattle.std.specs.Prelude.{◌≡◌, ◌<◌, ◌-◌, ◌^◌, Some, IfOk, OnOk, OnErr};
 ghost use Rattle.st_machine.specs.Entering.{IsHeadOf, IsUnposted, IsWayOf};
 ghost use Rattle.st_machine.specs.Machine.{IsNext, IsStep, Stands};
 ghost use Rattle.st_machine.specs.declared.step.Step.TheVariants as steps;
@@ -56,20 +56,27 @@ impl<'a> Machine<'a> {
     }
 
     // A thread enters a call that isn't held.
-    fn enter_unheld(&mut self, tid: Tid, call: SysCall, regs: [u64; 6], way: Way) -> Entry
+    fn enter_unheld(
+        &mut self,
+        tid: Tid,
+        call: SysCall,
+        regs: [u64; 6],
+        way: Way,
+        added: &mut Option<Entry>,
+    )
         requires next { IsNext self.old tid (steps.Enter call regs) }
         requires way { IsWayOf self.old tid call regs way }
         requires unposted { IsUnposted way }
-        ensures step { IsStep self.old (Thread tid) (Some result) self.new }
+        ensures step { IsStep self.old (Thread tid) added.new self.new }
         ensures input { self.new.input ≡ self.old.input }
     {
         self.threads[tid as usize - 1].enter(call, regs, way);
-        Entry::Entered {
+        *added = Some(Entry::Entered {
             tid,
             call,
             regs,
             way,
-        }
+        });
     }
 
     // A thread enters a call that is held under the next number, and its message is posted. Without memory all is as good as before.
@@ -81,12 +88,13 @@ impl<'a> Machine<'a> {
         call: SysCall,
         regs: [u64; 6],
         seq: Seq,
-    ) -> Result<Entry, AllocError>
+        added: &mut Option<Entry>,
+    ) -> Result<(), AllocError>
         requires next { IsNext self.old tid (steps.Enter call regs) }
         requires way { IsWayOf self.old tid call regs (Held seq) }
         requires process { pid_of self.old.system.processes tid ≡ Some pid }
         requires there { IsPid self.old.system.processes pid }
-        ensures step { IfOk result (λ entry. IsStep self.old (Thread tid) (Some entry) self.new) }
+        ensures step { OnOk result (IsStep self.old (Thread tid) added.new self.new) }
         ensures err { OnErr result (Stands self.old self.new) }
         ensures input { self.new.input ≡ self.old.input }
     {
@@ -94,12 +102,13 @@ impl<'a> Machine<'a> {
         self.workers.post(alloc, tid, head)?;
         let way = Way::Held(seq);
         self.threads[tid as usize - 1].enter(call, regs, way);
-        Ok(Entry::Entered {
+        *added = Some(Entry::Entered {
             tid,
             call,
             regs,
             way,
-        })
+        });
+        Ok(())
     }
 
     // A thread enters its next instruction's call. Without memory all is as good as before.
@@ -110,19 +119,21 @@ impl<'a> Machine<'a> {
         pid: Pid,
         call: SysCall,
         regs: [u64; 6],
-    ) -> Result<Entry, AllocError>
+        added: &mut Option<Entry>,
+    ) -> Result<(), AllocError>
         requires next { IsNext self.old tid (steps.Enter call regs) }
         requires process { pid_of self.old.system.processes tid ≡ Some pid }
         requires there { IsPid self.old.system.processes pid }
-        ensures step { IfOk result (λ entry. IsStep self.old (Thread tid) (Some entry) self.new) }
+        ensures step { OnOk result (IsStep self.old (Thread tid) added.new self.new) }
         ensures err { OnErr result (Stands self.old self.new) }
         ensures input { self.new.input ≡ self.old.input }
     {
         let way = self.way_of(tid, pid, call, &regs);
         match way {
-            Way::Held(seq) => self.enter_held(alloc, tid, pid, call, regs, seq),
+            Way::Held(seq) => self.enter_held(alloc, tid, pid, call, regs, seq, added),
             Way::Fast | Way::Barred(_) | Way::Untraced => {
-                Ok(self.enter_unheld(tid, call, regs, way))
+                self.enter_unheld(tid, call, regs, way, added);
+                Ok(())
             }
         }
     }

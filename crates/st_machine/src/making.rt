@@ -1,5 +1,5 @@
 // Calls are made, and end what their changes end.
-ghost use Rattle.std.specs.Prelude.{◌≡◌, true, false, Some, IfOk, OnErr};
+ghost use Rattle.std.specs.Prelude.{◌≡◌, true, false, Some, OnOk, OnErr};
 ghost use Rattle.st_base.specs.Numbered.{item_at_number};
 ghost use Rattle.st_law.specs.Schedules.{sets_ids};
 ghost use Rattle.st_machine.specs.Machine.{IsNext, IsStep, Stands};
@@ -65,14 +65,15 @@ impl<'a> Machine<'a> {
         tid: Tid,
         pid: Pid,
         made: Use,
-    ) -> Result<Entry, AllocError>
+        added: &mut Option<Entry>,
+    ) -> Result<(), AllocError>
         requires next { IsNext self.old tid (steps.Make made) }
         requires process { pid_of self.old.system.processes tid ≡ Some pid }
         requires there { IsPid self.old.system.processes pid }
         requires can { CanMake made.call self.old.system (request_with self.old tid pid made) }
         requires unlinked { follows made.call made.regs 0 ≡ true → IsNoLink self.old.system.tree (first_name made.args) }
         requires sets_none { sets_ids made.call ≡ false }
-        ensures step { IfOk result (λ entry. IsStep self.old (Thread tid) (Some entry) self.new) }
+        ensures step { OnOk result (IsStep self.old (Thread tid) added.new self.new) }
         ensures err { OnErr result (Stands self.old self.new) }
         ensures input { self.new.input ≡ self.old.input }
     {
@@ -89,7 +90,8 @@ impl<'a> Machine<'a> {
             pid,
             changes,
         );
-        Ok(made.entry(tid, outcome.result, outcome.changes))
+        *added = Some(made.entry(tid, outcome.result, outcome.changes));
+        Ok(())
     }
 
     // A thread's call is made, whichever it is. Without memory all is as good as before.
@@ -99,21 +101,22 @@ impl<'a> Machine<'a> {
         tid: Tid,
         pid: Pid,
         made: Use,
-    ) -> Result<Entry, AllocError>
+        added: &mut Option<Entry>,
+    ) -> Result<(), AllocError>
         requires next { IsNext self.old tid (steps.Make made) }
         requires fit { IsFit self.old.system made }
         requires process { pid_of self.old.system.processes tid ≡ Some pid }
         requires there { IsPid self.old.system.processes pid }
-        ensures step { IfOk result (λ entry. IsStep self.old (Thread tid) (Some entry) self.new) }
+        ensures step { OnOk result (IsStep self.old (Thread tid) added.new self.new) }
         ensures err { OnErr result (Stands self.old self.new) }
         ensures input { self.new.input ≡ self.old.input }
     {
         // A thread that has started has a process, and the one that a fork starts has none.
         let _has_started = self.system.has_started(self.child_of(tid));
         if sets_ids(made.call) {
-            self.make_and_renew(alloc, tid, pid, made)
+            self.make_and_renew(alloc, tid, pid, made, added)
         } else {
-            self.make(alloc, tid, pid, made)
+            self.make(alloc, tid, pid, made, added)
         }
     }
 }

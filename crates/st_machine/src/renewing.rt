@@ -181,7 +181,8 @@ impl<'a> Machine<'a> {
         pid: Pid,
         made: Use,
         set: Ids,
-    ) -> Result<Entry, AllocError>
+        added: &mut Option<Entry>,
+    ) -> Result<(), AllocError>
         requires next { IsNext self.old tid (steps.Make made) }
         requires process { pid_of self.old.system.processes tid ≡ Some pid }
         requires there { IsPid self.old.system.processes pid }
@@ -190,7 +191,7 @@ impl<'a> Machine<'a> {
         requires sets { sets_ids made.call ≡ true }
         requires refused { set_refused made.call made.ids (slice_index_or made.regs 0 0) ≡ None }
         requires set { ids_after_set made.call made.ids (slice_index_or made.regs 0 0) ≡ set }
-        ensures step { IfOk result (λ entry. IsStep self.old (Moves tid) (Some entry) self.new) }
+        ensures step { OnOk result (IsStep self.old (Moves tid) added.new self.new) }
         ensures err { OnErr result (Stands self.old self.new) }
         ensures input { self.new.input ≡ self.old.input }
     {
@@ -215,7 +216,8 @@ impl<'a> Machine<'a> {
             tid,
             plan.cwds,
         );
-        Ok(made.entry(tid, outcome.result, plan.changes))
+        *added = Some(made.entry(tid, outcome.result, plan.changes));
+        Ok(())
     }
 
     // A thread's call is made that is to set ids, which is refused. Without memory all is as good as before.
@@ -225,7 +227,8 @@ impl<'a> Machine<'a> {
         tid: Tid,
         pid: Pid,
         made: Use,
-    ) -> Result<Entry, AllocError>
+        added: &mut Option<Entry>,
+    ) -> Result<(), AllocError>
         requires next { IsNext self.old tid (steps.Make made) }
         requires process { pid_of self.old.system.processes tid ≡ Some pid }
         requires there { IsPid self.old.system.processes pid }
@@ -233,7 +236,7 @@ impl<'a> Machine<'a> {
         requires unlinked { follows made.call made.regs 0 ≡ true → IsNoLink self.old.system.tree (first_name made.args) }
         requires sets { sets_ids made.call ≡ true }
         requires refused { IsSome (set_refused made.call made.ids (slice_index_or made.regs 0 0)) }
-        ensures step { IfOk result (λ entry. IsStep self.old (Moves tid) (Some entry) self.new) }
+        ensures step { OnOk result (IsStep self.old (Moves tid) added.new self.new) }
         ensures err { OnErr result (Stands self.old self.new) }
         ensures input { self.new.input ≡ self.old.input }
     {
@@ -241,7 +244,8 @@ impl<'a> Machine<'a> {
         let outcome = self.system.execute(alloc, made.call, &request)?;
         self.threads[tid as usize - 1].close();
         end_call(&mut self.workers, made.seq);
-        Ok(made.entry(tid, outcome.result, Sequence::new(alloc)))
+        *added = Some(made.entry(tid, outcome.result, Sequence::new(alloc)));
+        Ok(())
     }
 
     // A thread's call is made that sets ids, and each other held call of its process draws a new number, in the order of threads. Without
@@ -252,20 +256,21 @@ impl<'a> Machine<'a> {
         tid: Tid,
         pid: Pid,
         made: Use,
-    ) -> Result<Entry, AllocError>
+        added: &mut Option<Entry>,
+    ) -> Result<(), AllocError>
         requires next { IsNext self.old tid (steps.Make made) }
         requires process { pid_of self.old.system.processes tid ≡ Some pid }
         requires there { IsPid self.old.system.processes pid }
         requires can { CanMake made.call self.old.system (request_with self.old tid pid made) }
         requires unlinked { follows made.call made.regs 0 ≡ true → IsNoLink self.old.system.tree (first_name made.args) }
         requires sets { sets_ids made.call ≡ true }
-        ensures step { IfOk result (λ entry. IsStep self.old (Moves tid) (Some entry) self.new) }
+        ensures step { OnOk result (IsStep self.old (Moves tid) added.new self.new) }
         ensures err { OnErr result (Stands self.old self.new) }
         ensures input { self.new.input ≡ self.old.input }
     {
         match ids_after(made.call, made.ids, made.regs[0]) {
-            Ok(set) => self.set_ids(alloc, tid, pid, made, set),
-            Err(_) => self.set_no_ids(alloc, tid, pid, made),
+            Ok(set) => self.set_ids(alloc, tid, pid, made, set, added),
+            Err(_) => self.set_no_ids(alloc, tid, pid, made, added),
         }
     }
 }

@@ -1,5 +1,5 @@
-// The steps of workers: each makes of the messages what its entry says, and gives the entry.
-ghost use Rattle.std.specs.Prelude.{◌≡◌, ◌<◌, ℕ, Some, IfOk, OnErr};
+// The steps of workers: each makes of the messages what its entry says, and leaves the entry with the caller.
+ghost use Rattle.std.specs.Prelude.{◌≡◌, ◌<◌, ℕ, Some, OnOk, OnErr};
 ghost use Rattle.st_machine.specs.Machine.{HasTask, IsStep, Stands};
 ghost use Rattle.st_machine.specs.Serving.{is_applied};
 ghost use Rattle.st_messages.specs.Messages.{IsWorker};
@@ -25,37 +25,57 @@ fn is_applied(delivered: Delivered) -> bool
 }
 
 impl<'a> Machine<'a> {
-    /// A worker moves, and gives the entry that this adds; none where it has nothing to do. Without memory all is as good as before.
-    pub fn serve(&mut self, alloc: Global, worker: Worker) -> Result<Option<Entry>, AllocError>
+    /// A worker moves, and leaves the entry that this adds; none where it has nothing to do. Without memory all is as good as before.
+    pub fn serve(
+        &mut self,
+        alloc: Global,
+        worker: Worker,
+        added: &mut Option<Entry>,
+    ) -> Result<(), AllocError>
         requires { IsWorker self.old.workers.calls worker }
-        ensures step { IfOk result (λ entry. IsStep self.old (Worker worker) entry self.new) }
+        ensures step { OnOk result (IsStep self.old (Worker worker) added.new self.new) }
         ensures err { OnErr result (Stands self.old self.new) }
         ensures input { self.new.input ≡ self.old.input }
     {
         match self.workers.task(worker) {
-            Task::Rest => Ok(None),
-            Task::Claim => Ok(Some(self.claim(alloc, worker)?)),
+            Task::Rest => {
+                *added = None;
+                Ok(())
+            }
+            Task::Claim => self.claim(alloc, worker, added),
             Task::Copy {
                 seq,
                 pid,
                 part,
                 place,
-            } => Ok(Some(self.copy(alloc, worker, seq, pid, part, place)?)),
-            Task::Look { seq, part } => Ok(Some(self.look(alloc, worker, seq, part)?)),
-            Task::Fault { seq, errno } => Ok(Some(self.fault(worker, seq, errno))),
-            Task::Answer => Ok(Some(self.answer_of(worker))),
+            } => self.copy(alloc, worker, seq, pid, part, place, added),
+            Task::Look { seq, part } => self.look(alloc, worker, seq, part, added),
+            Task::Fault { seq, errno } => {
+                self.fault(worker, seq, errno, added);
+                Ok(())
+            }
+            Task::Answer => {
+                self.answer_of(worker, added);
+                Ok(())
+            }
         }
     }
 
     // An idle worker claims the least number that waits.
-    fn claim(&mut self, alloc: Global, worker: Worker) -> Result<Entry, AllocError>
+    fn claim(
+        &mut self,
+        alloc: Global,
+        worker: Worker,
+        added: &mut Option<Entry>,
+    ) -> Result<(), AllocError>
         requires { HasTask self.old worker tasks.Claim }
-        ensures step { IfOk result (λ entry. IsStep self.old (Worker worker) (Some entry) self.new) }
+        ensures step { OnOk result (IsStep self.old (Worker worker) added.new self.new) }
         ensures err { OnErr result (Stands self.old self.new) }
         ensures input { self.new.input ≡ self.old.input }
     {
         let seq = self.workers.claim(alloc, worker)?;
-        Ok(Entry::Claimed { worker, seq })
+        *added = Some(Entry::Claimed { worker, seq });
+        Ok(())
     }
 
     // A worker copies the word at a place of the memory of its message's process, which is this.
@@ -67,20 +87,22 @@ impl<'a> Machine<'a> {
         pid: Pid,
         part: u32,
         place: u32,
-    ) -> Result<Entry, AllocError>
+        added: &mut Option<Entry>,
+    ) -> Result<(), AllocError>
         requires task { HasTask self.old worker (tasks.Copy seq pid part place) }
-        ensures step { IfOk result (λ entry. IsStep self.old (Worker worker) (Some entry) self.new) }
+        ensures step { OnOk result (IsStep self.old (Worker worker) added.new self.new) }
         ensures err { OnErr result (Stands self.old self.new) }
         ensures input { self.new.input ≡ self.old.input }
     {
         let word = self.system.word(pid, place);
         self.workers.copy(alloc, worker, word)?;
-        Ok(Entry::Copied {
+        *added = Some(Entry::Copied {
             seq,
             part,
             place,
             word,
-        })
+        });
+        Ok(())
     }
 
     // A worker looks at the next name of its message.
@@ -90,9 +112,10 @@ impl<'a> Machine<'a> {
         worker: Worker,
         seq: Seq,
         part: u32,
-    ) -> Result<Entry, AllocError>
+        added: &mut Option<Entry>,
+    ) -> Result<(), AllocError>
         requires { HasTask self.old worker (tasks.Look seq part) }
-        ensures step { IfOk result (λ entry. IsStep self.old (Worker worker) (Some entry) self.new) }
+        ensures step { OnOk result (IsStep self.old (Worker worker) added.new self.new) }
         ensures err { OnErr result (Stands self.old self.new) }
         ensures input { self.new.input ≡ self.old.input }
     {
@@ -100,39 +123,40 @@ impl<'a> Machine<'a> {
         let seen = self.system.look(&name);
         let text = seen.copy(alloc)?;
         self.workers.look(alloc, worker, seen)?;
-        Ok(Entry::Looked {
+        *added = Some(Entry::Looked {
             seq,
             part,
             name,
             seen: text,
-        })
+        });
+        Ok(())
     }
 
     // A worker tells the error of its message.
-    fn fault(&mut self, worker: Worker, seq: Seq, errno: Errno) -> Entry
+    fn fault(&mut self, worker: Worker, seq: Seq, errno: Errno, added: &mut Option<Entry>)
         requires { HasTask self.old worker (tasks.Fault seq errno) }
-        ensures step { IsStep self.old (Worker worker) (Some result) self.new }
+        ensures step { IsStep self.old (Worker worker) added.new self.new }
         ensures input { self.new.input ≡ self.old.input }
     {
         self.workers.fault(worker);
-        Entry::Faulted { seq, errno }
+        *added = Some(Entry::Faulted { seq, errno });
     }
 
     // A ready worker answers with what the filters that were read say of its copies.
-    fn answer_of(&mut self, worker: Worker) -> Entry
+    fn answer_of(&mut self, worker: Worker, added: &mut Option<Entry>)
         requires task { HasTask self.old worker tasks.Answer }
         requires worker { IsWorker self.old.workers.calls worker }
-        ensures step { IsStep self.old (Worker worker) (Some result) self.new }
+        ensures step { IsStep self.old (Worker worker) added.new self.new }
         ensures input { self.new.input ≡ self.old.input }
     {
         let copies = self.workers.copies(worker);
         let verdict = decide(self.input.policies.get(copies.policy.bytes()), copies);
         let (snapshot, delivered) = self.workers.answer(worker, verdict);
-        Entry::Answered {
+        *added = Some(Entry::Answered {
             worker,
             snapshot,
             verdict,
             applied: is_applied(delivered),
-        }
+        });
     }
 }

@@ -20,17 +20,17 @@ on_err (Err e) x = x
 kept_in : (m : Running) (kept kept_then : List Repeat) (first : ℕ) (asleep : List Bool) → kept_then ≡ kept → IsCourse m kept first asleep → IsCourse m kept_then first asleep
 kept_in m kept kept_then first asleep same course = subst (λ (l : List Repeat). IsCourse m l first asleep) (sym same) course
 
-pub invariant_of-self-in_err-added : goal.invariant_of-self-in_err-added
-invariant_of-self-in_err-added c =
+pub invariant_of-self-in_err-choose : goal.invariant_of-self-in_err-choose
+invariant_of-self-in_err-choose c =
     kept_in c.choose.new.self c.self.inside.made.items c.reserve.new.self.items c.self.inside.first c.self.inside.asleep.items c.reserve.ensures.items
-    (course_same c.self.inside.machine c.choose.new.self c.self.inside.made.items c.self.inside.first c.self.inside.asleep.items c.self.invariant c.choose.ensures.input (c.in_err-added.ensures.err _ c.self.invariant.machine))
+    (course_same c.self.inside.machine c.choose.new.self c.self.inside.made.items c.self.inside.first c.self.inside.asleep.items c.self.invariant c.choose.ensures.input (c.in_err-choose.ensures.err _ c.self.invariant.machine))
 
-pub returns-in_err-added-clause-err : goal.returns-in_err-added-clause-err
-returns-in_err-added-clause-err c = on_err c.from_residual-in_err-added.result ((λ k. record { input = c.choose.ensures.input k; choices = spelled_choices (c.reserve.ensures.items k) }) ∙ c.self.view_is)
+pub returns-in_err-choose-clause-err : goal.returns-in_err-choose-clause-err
+returns-in_err-choose-clause-err c = on_err c.from_residual-in_err-choose.result ((λ k. record { input = c.choose.ensures.input k; choices = spelled_choices (c.reserve.ensures.items k) }) ∙ c.self.view_is)
 
 pub invariant_of-self-in-Some : goal.invariant_of-self-in-Some
 invariant_of-self-in-Some c =
-    let step : IsStep c.self.inside.machine c.args.choice (Some c.in-Some.entry) c.choose.new.self = subst (λ (o : Option Entry). IsStep c.self.inside.machine c.args.choice o c.choose.new.self) c.in-Some.is c.in_ok-added.ensures.step in
+    let step : IsStep c.self.inside.machine c.args.choice (Some c.in-Some.entry) c.choose.new.self = subst (λ (o : Option Entry). IsStep c.self.inside.machine c.args.choice o c.choose.new.self) c.in-Some.is c.in_ok-choose.ensures.step in
     let written = with_items_is c.self.inside.asleep c.wake.new.asleep (c.wake.ensures.count ∙ c.deref_mut.ensures.len) in
     let has : HasWoken c.woken_by-woken.result c.self.inside.first c.self.inside.asleep.items c.cursor-self-inside.result c.wake.new.asleep = record {
       from = c.cursor-self-inside.ensures.from;
@@ -48,7 +48,7 @@ invariant_of-self-in-Some c =
 
 pub returns-in-Some-clause-chosen : goal.returns-in-Some-clause-chosen
 returns-in-Some-clause-chosen c =
-    let step : IsStep c.self.inside.machine c.args.choice (Some c.in-Some.entry) c.choose.new.self = subst (λ (o : Option Entry). IsStep c.self.inside.machine c.args.choice o c.choose.new.self) c.in-Some.is c.in_ok-added.ensures.step in
+    let step : IsStep c.self.inside.machine c.args.choice (Some c.in-Some.entry) c.choose.new.self = subst (λ (o : Option Entry). IsStep c.self.inside.machine c.args.choice o c.choose.new.self) c.in-Some.is c.in_ok-choose.ensures.step in
     let all = ap spelled_choices (c.note_choice.ensures ∙ ap (λ (l : List Repeat). repeats_with l c.args.choice) c.reserve.ensures.items) ∙ spelled_more c.self.inside.made.items c.args.choice c.self.invariant.joined in (
       c.in-Some.entry,
       refl,
@@ -58,13 +58,13 @@ returns-in-Some-clause-chosen c =
 
 pub invariant_of-self-in-None : goal.invariant_of-self-in-None
 invariant_of-self-in-None c =
-    let step : IsStep c.self.inside.machine c.args.choice None c.choose.new.self = subst (λ (o : Option Entry). IsStep c.self.inside.machine c.args.choice o c.choose.new.self) c.in-None.is c.in_ok-added.ensures.step in
+    let step : IsStep c.self.inside.machine c.args.choice None c.choose.new.self = subst (λ (o : Option Entry). IsStep c.self.inside.machine c.args.choice o c.choose.new.self) c.in-None.is c.in_ok-choose.ensures.step in
     kept_in c.choose.new.self c.self.inside.made.items c.reserve.new.self.items c.self.inside.first c.self.inside.asleep.items c.reserve.ensures.items
     (course_same c.self.inside.machine c.choose.new.self c.self.inside.made.items c.self.inside.first c.self.inside.asleep.items c.self.invariant c.choose.ensures.input (step _ c.self.invariant.machine).1)
 
 pub returns-in-None-clause-chosen : goal.returns-in-None-clause-chosen
 returns-in-None-clause-chosen c =
-    let step : IsStep c.self.inside.machine c.args.choice None c.choose.new.self = subst (λ (o : Option Entry). IsStep c.self.inside.machine c.args.choice o c.choose.new.self) c.in-None.is c.in_ok-added.ensures.step in (
+    let step : IsStep c.self.inside.machine c.args.choice None c.choose.new.self = subst (λ (o : Option Entry). IsStep c.self.inside.machine c.args.choice o c.choose.new.self) c.in-None.is c.in_ok-choose.ensures.step in (
       subst (λ (course : Course). entry_of course.input (state_in course) c.args.choice ≡ None) c.self.view_is (step _ c.self.invariant.machine).0,
       (λ k. record { input = c.choose.ensures.input k; choices = spelled_choices (c.reserve.ensures.items k) }) ∙ c.self.view_is,
     )

@@ -5,10 +5,10 @@ use Rattle.st_machine.specs.Machine.{IsStep, Running}
 use Rattle.st_machine.proofs.Served.{claimed, running_step, with_workers}
 use Rattle.st_machine.proofs.machine.Machine.claim.Goals as goal
 
-abbrev old : goal.In_ok-seq → Running
+abbrev old : goal.Joined-added → Running
 old c = record { input = c.self.inside.input.now; system = c.self.inside.system; workers = c.self.inside.workers; threads = c.self.inside.threads.items; answers = c.self.inside.answers; operator = c.self.inside.operator }
 
-step : (c : goal.In_ok-seq) → IsStep (old c) (choice.Worker c.args.worker) (Some (entry.Claimed c.args.worker c.in_ok-seq.seq)) (with_workers (old c) c.claim.new.self)
+step : (c : goal.Joined-added) → IsStep (old c) (choice.Worker c.args.worker) (Some (entry.Claimed c.args.worker c.in_ok-seq.seq)) (with_workers (old c) c.claim.new.self)
 step c = claimed (old c) c.args.worker c.claim.new.self c.in_ok-seq.seq c.in_ok-seq.ensures.law c.in_ok-seq.ensures.kept
 
 pub invariant_of-self-2 : goal.invariant_of-self-2

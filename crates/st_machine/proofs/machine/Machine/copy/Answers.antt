@@ -6,13 +6,13 @@ use Rattle.st_machine.proofs.Served.{copied, process_there, on_err, running_stan
 use Rattle.st_workers.specs.declared.task.Task.TheVariants as tasks
 use Rattle.st_machine.proofs.machine.Machine.copy.Goals as goal
 
-abbrev old : goal.In_ok-copy → Running
+abbrev old : goal.Joined-added → Running
 old c = record { input = c.self.inside.input.now; system = c.self.inside.system; workers = c.self.inside.workers; threads = c.self.inside.threads.items; answers = c.self.inside.answers; operator = c.self.inside.operator }
 
-task : (c : goal.In_ok-copy) → HasTask (old c) c.args.worker (tasks.Copy c.args.seq c.args.pid c.args.part c.args.place)
+task : (c : goal.Joined-added) → HasTask (old c) c.args.worker (tasks.Copy c.args.seq c.args.pid c.args.part c.args.place)
 task c = subst (λ (m : Running). HasTask m c.args.worker (tasks.Copy c.args.seq c.args.pid c.args.part c.args.place)) (sym c.self.view_is) c.requires.task
 
-step : (c : goal.In_ok-copy) → IsStep (old c) (choice.Worker c.args.worker) (Some (entry.Copied c.args.seq c.args.part c.args.place c.word-word.result)) (with_workers (old c) c.copy.new.self)
+step : (c : goal.Joined-added) → IsStep (old c) (choice.Worker c.args.worker) (Some (entry.Copied c.args.seq c.args.part c.args.place c.word-word.result)) (with_workers (old c) c.copy.new.self)
 step c = copied (old c) c.args.worker c.copy.new.self c.args.seq c.args.pid c.args.part c.args.place c.word-word.result (task c) c.word-word.ensures.law (c.in_ok-copy.ensures.kept c.args.seq c.args.pid c.args.part c.args.place (task c).here)
 
 pub invariant_of-self-2 : goal.invariant_of-self-2

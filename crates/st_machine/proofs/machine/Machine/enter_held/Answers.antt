@@ -54,29 +54,29 @@ returns-in_err-post-clause-err c =
 
 -- once it is posted
 
-abbrev old : goal.After-self-1 → Running
+abbrev old : goal.Joined-added → Running
 old c = record { input = c.self.inside.input.now; system = c.self.inside.system; workers = c.self.inside.workers; threads = c.self.inside.threads.items; answers = c.self.inside.answers; operator = c.self.inside.operator }
 
-next : (c : goal.After-self-1) → IsNext (old c) c.args.tid (steps.Enter c.args.call c.args.regs)
+next : (c : goal.Joined-added) → IsNext (old c) c.args.tid (steps.Enter c.args.call c.args.regs)
 next c = subst (λ (k : Running). IsNext k c.args.tid (steps.Enter c.args.call c.args.regs)) (sym c.self.view_is) c.requires.next
 
-row : (c : goal.After-self-1) → (row : ThreadRow) × (item_at_number (old c).threads c.args.tid ≡ Some row)
+row : (c : goal.Joined-added) → (row : ThreadRow) × (item_at_number (old c).threads c.args.tid ≡ Some row)
 row c = row_entering (old c) c.self.invariant c.args.tid c.args.call c.args.regs (next c)
 
-abbrev new : (c : goal.After-self-1) → ThreadRow → Running
+abbrev new : (c : goal.Joined-added) → ThreadRow → Running
 new c row = with_parts (old c) (old c).system c.post.new.self (set (old c).threads (c.args.tid - 1) row)
 
-put : (c : goal.After-self-1) → c.enter.new.self ≡ row_entered (row c).0 c.args.call c.args.regs (Held c.args.seq)
+put : (c : goal.Joined-added) → c.enter.new.self ≡ row_entered (row c).0 c.args.call c.args.regs (Held c.args.seq)
 put c = c.enter.ensures ∙ ap (λ (r : ThreadRow). row_entered r c.args.call c.args.regs (Held c.args.seq)) (read_is (old c).threads c.args.tid (row c).0 c.index_mut.result.now (row c).1 c.index_mut.ensures.value)
 
 -- the head is that of the law's machine
-head : (c : goal.After-self-1) (st : State) → IsMachine (old c) st → head_of c.args.tid c.in_ok-head.head ≡ new_head (old c).input c.args.tid (st.threads c.args.tid).owner (st.processes (st.threads c.args.tid).owner) c.args.call c.args.regs
+head : (c : goal.Joined-added) (st : State) → IsMachine (old c) st → head_of c.args.tid c.in_ok-head.head ≡ new_head (old c).input c.args.tid (st.threads c.args.tid).owner (st.processes (st.threads c.args.tid).owner) c.args.call c.args.regs
 head c st is =
     let posted : IsHeadOf (old c) c.args.seq c.args.pid c.args.call c.args.regs c.in_ok-head.head = subst (λ (k : Running). IsHeadOf k c.args.seq c.args.pid c.args.call c.args.regs c.in_ok-head.head) (sym c.self.view_is) c.in_ok-head.ensures in
     let process = ap (λ (k : Running). pid_of k.system.processes c.args.tid) c.self.view_is ∙ c.requires.process in
     posted.law st c.args.tid is ∙ ap (λ (pid : ℕ). new_head (old c).input c.args.tid pid (st.processes pid) c.args.call c.args.regs) (sym (owner_is (old c) st is c.args.tid c.args.pid process))
 
-step : (c : goal.After-self-1) → IsStep (old c) (choice.Thread c.args.tid) (Some (entry.Entered c.args.tid c.args.call c.args.regs (Held c.args.seq))) (new c c.enter.new.self)
+step : (c : goal.Joined-added) → IsStep (old c) (choice.Thread c.args.tid) (Some (entry.Entered c.args.tid c.args.call c.args.regs (Held c.args.seq))) (new c c.enter.new.self)
 step c = subst (λ (r : ThreadRow). IsStep (old c) (choice.Thread c.args.tid) (Some (entry.Entered c.args.tid c.args.call c.args.regs (Held c.args.seq))) (new c r)) (sym (put c))
     (held_step (old c) c.args.tid c.args.call c.args.regs (next c) (row c).0 (row c).1 c.args.seq (subst (λ (k : Running). IsWayOf k c.args.tid c.args.call c.args.regs (Held c.args.seq)) (sym c.self.view_is) c.requires.way)
     c.post.new.self c.in_ok-head.head (head c) c.in_ok-post.ensures.kept)

@@ -6,13 +6,13 @@ use Rattle.st_machine.proofs.Served.{faulted, running_step, with_workers}
 use Rattle.st_workers.specs.declared.task.Task.TheVariants as tasks
 use Rattle.st_machine.proofs.machine.Machine.fault.Goals as goal
 
-abbrev old : goal.After-fault → Running
+abbrev old : goal.Joined-added → Running
 old c = record { input = c.self.inside.input.now; system = c.self.inside.system; workers = c.self.inside.workers; threads = c.self.inside.threads.items; answers = c.self.inside.answers; operator = c.self.inside.operator }
 
-task : (c : goal.After-fault) → HasTask (old c) c.args.worker (tasks.Fault c.args.seq c.args.errno)
+task : (c : goal.Joined-added) → HasTask (old c) c.args.worker (tasks.Fault c.args.seq c.args.errno)
 task c = subst (λ (m : Running). HasTask m c.args.worker (tasks.Fault c.args.seq c.args.errno)) (sym c.self.view_is) c.requires
 
-step : (c : goal.After-fault) → IsStep (old c) (choice.Worker c.args.worker) (Some (entry.Faulted c.args.seq c.args.errno)) (with_workers (old c) c.fault.new.self)
+step : (c : goal.Joined-added) → IsStep (old c) (choice.Worker c.args.worker) (Some (entry.Faulted c.args.seq c.args.errno)) (with_workers (old c) c.fault.new.self)
 step c = faulted (old c) c.args.worker c.fault.new.self c.args.seq c.args.errno (task c) (c.fault.ensures.kept c.args.seq c.args.errno (task c).here)
 
 pub invariant_of-self : goal.invariant_of-self

@@ -8,13 +8,13 @@ use Rattle.st_names.specs.declared.seen.SeenText.{SeenText}
 use Rattle.st_workers.specs.Kept.{Follows}
 use Rattle.st_machine.proofs.machine.Machine.look.Goals as goal
 
-abbrev old : goal.In_ok-look → Running
+abbrev old : goal.Joined-added → Running
 old c = record { input = c.self.inside.input.now; system = c.self.inside.system; workers = c.self.inside.workers; threads = c.self.inside.threads.items; answers = c.self.inside.answers; operator = c.self.inside.operator }
 
-task : (c : goal.In_ok-look) → HasTask (old c) c.args.worker (tasks.Look c.args.seq c.args.part)
+task : (c : goal.Joined-added) → HasTask (old c) c.args.worker (tasks.Look c.args.seq c.args.part)
 task c = subst (λ (m : Running). HasTask m c.args.worker (tasks.Look c.args.seq c.args.part)) (sym c.self.view_is) c.requires
 
-step : (c : goal.In_ok-look) → IsStep (old c) (choice.Worker c.args.worker) (Some (entry.Looked c.args.seq c.args.part c.in_ok-name.name c.in_ok-text.text)) (with_workers (old c) c.look.new.self)
+step : (c : goal.Joined-added) → IsStep (old c) (choice.Worker c.args.worker) (Some (entry.Looked c.args.seq c.args.part c.in_ok-name.name c.in_ok-text.text)) (with_workers (old c) c.look.new.self)
 step c = looked (old c) c.args.worker c.look.new.self c.look_name.new.self c.args.seq c.args.part c.in_ok-name.name c.in_ok-text.text (c.in_ok-text.ensures ∙ c.look-seen.ensures) c.look_name.ensures.stands
     (λ i st kept. c.in_ok-name.ensures.law i st c.args.seq c.args.part kept (task c).here)
     (subst (λ (seen : SeenText). Follows c.look_name.new.self (entry.Looked c.args.seq c.args.part c.in_ok-name.name seen) c.look.new.self) (sym c.in_ok-text.ensures)
