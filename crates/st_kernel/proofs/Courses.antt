@@ -41,17 +41,17 @@ module _ (i : Input) (choices : List Choice) (c : Choice) (e : Entry) (adds : en
 -- ---- the cursor and the marks
 
 -- where the cursor stands, and which threads are marked as asleep, behind an entry that may wake some threads
-pub record HasWoken (woken : Woken) (first : ℕ) (asleep : List Bool) (first_then : ℕ) (asleep_then : List Bool) : Type 0 where
+pub record HasWoken (m : Running) (woken : Woken) (first : ℕ) (asleep : List Bool) (first_then : ℕ) (asleep_then : List Bool) : Type 0 where
   pub from : 1 ≤ first_then
   pub to : first_then ≤ first
-  pub before : (t : ℕ) → 1 ≤ t → t < first_then → is_woken woken t ≡ false
+  pub before : (t : ℕ) → 1 ≤ t → t < first_then → is_woken m woken t ≡ false
   pub count : length asleep_then ≡ length asleep
   pub marked : (place : ℕ) → is_asleep asleep_then place ≡ true → is_asleep asleep place ≡ true
-  pub unwoken : (place : ℕ) → is_asleep asleep_then place ≡ true → is_woken woken (suc place) ≡ false
+  pub unwoken : (place : ℕ) → is_asleep asleep_then place ≡ true → is_woken m woken (suc place) ≡ false
 
 -- the entry wakes no other threads, by the machine behind it
 abbrev pub WakesNoOther : Running → Entry → Woken → Type 0
-WakesNoOther m e woken = (st : State) → IsMachine m st → (t : ℕ) → wakes st e t ≡ true → is_woken woken t ≡ true
+WakesNoOther m e woken = (st : State) → IsMachine m st → (t : ℕ) → wakes st e t ≡ true → is_woken m woken t ≡ true
 
 module _ (m new : Running) (kept : List Repeat) (first : ℕ) (asleep : List Bool) (course : IsCourse m kept first asleep) (c : Choice) (e : Entry)
     (adds : entry_of m.input (state_of_run m.input (spelled_choices kept)) c ≡ Some e) (is : IsMachine new (state_after m.input (state_of_run m.input (spelled_choices kept)) e)) (woken : Woken) (only : WakesNoOther new e woken) where
@@ -62,10 +62,10 @@ module _ (m new : Running) (kept : List Repeat) (first : ℕ) (asleep : List Boo
   reached = reached_run m.input course.machine.reached.startable (spelled_choices kept)
 
   -- a thread that couldn't move and isn't woken can't
-  still_then : (t : ℕ) → 1 ≤ t → thread_entry m.input st t ≡ None → is_woken woken t ≡ false → thread_entry m.input (state_after m.input st e) t ≡ None
+  still_then : (t : ℕ) → 1 ≤ t → thread_entry m.input st t ≡ None → is_woken new woken t ≡ false → thread_entry m.input (state_after m.input st e) t ≡ None
   still_then t some none unwoken =
       none_more m.input st reached t some none c e adds
-      (sym (wakes_behind m.input st e t) ∙ not_woken (wakes (state_after m.input st e) e t) (is_woken woken t) (only (state_after m.input st e) is t) unwoken)
+      (sym (wakes_behind m.input st e t) ∙ not_woken (wakes (state_after m.input st e) e t) (is_woken new woken t) (only (state_after m.input st e) is t) unwoken)
 
 -- ---- the choices that are kept
 
@@ -83,7 +83,7 @@ joined_more kept c joined =
 
 -- what runs has gone on by a choice
 pub course_on : (m new : Running) (kept : List Repeat) (first : ℕ) (asleep : List Bool) (c : Choice) (e : Entry) (woken : Woken) (first_then : ℕ) (asleep_then : List Bool) →
-    IsCourse m kept first asleep → new.input ≡ m.input → IsStep m c (Some e) new → WakesNoOther new e woken → HasWoken woken first asleep first_then asleep_then →
+    IsCourse m kept first asleep → new.input ≡ m.input → IsStep m c (Some e) new → WakesNoOther new e woken → HasWoken new woken first asleep first_then asleep_then →
     IsCourse new (repeats_with kept c) first_then asleep_then
 course_on m new kept first asleep c e woken first_then asleep_then course same step only has =
     let choices = spelled_choices kept in

@@ -3,3 +3,4 @@ mod Cursors
 mod Plays
 mod Rests
 mod Unwoken
+mod Woken

@@ -6,16 +6,19 @@ use Rattle.st_trace.specs.declared.entry.Entry.TheVariants.{Faulted, Answered, U
 use Rattle.st_law.specs.Machine.{thread_entry}
 use Rattle.st_law.specs.State.{State}
 use Rattle.st_law.specs.declared.input.Input.{Input}
+use Rattle.st_machine.specs.Holding.{is_held_alike, message_at}
+use Rattle.st_machine.specs.Machine.{Running}
 use Rattle.st_messages.specs.Messages.{HeldCalls, thread_at}
 use Rattle.st_reached.specs.Waiting.{wakes_all}
 use Rattle.st_kernel.specs.declared.waking.Woken.{Woken}
-use Rattle.st_kernel.specs.declared.waking.Woken.TheVariants.{Nobody, One, Everybody}
+use Rattle.st_kernel.specs.declared.waking.Woken.TheVariants.{Nobody, One, Alike, Everybody}
 
--- whether thread t may have been woken
-abbrev pub is_woken : Woken → ℕ → Bool
-is_woken Nobody t = false
-is_woken (One tid) t = t == tid
-is_woken Everybody t = true
+-- whether thread t may have been woken, by what runs
+abbrev pub is_woken : Running → Woken → ℕ → Bool
+is_woken m Nobody t = false
+is_woken m (One tid) t = t == tid
+is_woken m (Alike seq) t = is_held_alike m (message_at m seq) t
+is_woken m Everybody t = true
 
 -- the thread that holds the call of a number is woken, or each where that isn't known
 abbrev pub holder_woken : Option ℕ → Woken
@@ -27,8 +30,8 @@ abbrev pub woken_by : HeldCalls → Entry → Woken
 woken_by calls (Used u seq call regs args ids result changes) = if list_any wakes_all changes then Everybody else Nobody
 woken_by calls (Faulted q errno) = holder_woken (thread_at calls q)
 woken_by calls (Answered w snapshot verdict applied) = if applied then holder_woken (thread_at calls snapshot.seq) else Nobody
-woken_by calls (Learned q n) = Everybody
-woken_by calls (Replied q reply n) = Everybody
+woken_by calls (Learned q n) = Alike q
+woken_by calls (Replied q reply n) = Alike q
 woken_by calls _ = Nobody
 
 -- whether the thread at a place, from 0, is marked as asleep

@@ -134,8 +134,8 @@ impl<'a> Kernel<'a> {
         match added {
             Some(entry) => {
                 let woken = woken_by(&self.machine, entry);
-                self.first = woken.cursor(self.first);
-                woken.wake(&mut self.asleep);
+                self.first = woken.cursor(&self.machine, self.first);
+                woken.wake(&self.machine, &mut self.asleep);
                 note_choice(&mut self.made, choice);
                 Ok(true)
             }

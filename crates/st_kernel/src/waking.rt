@@ -2,12 +2,14 @@
 ghost use Rattle.std.specs.Prelude.{◌≡◌, ◌⊎◌, ◌==◌, ◌≤◌, ◌<◌, ℕ, suc, true, false, length};
 ghost use Rattle.std.specs.List.{list_any};
 ghost use Rattle.st_law.specs.State.{State};
+ghost use Rattle.st_machine.specs.Holding.{is_alike, message_held};
 ghost use Rattle.st_machine.specs.Machine.{IsMachine};
 ghost use Rattle.st_messages.specs.Messages.{thread_at};
 ghost use Rattle.st_reached.specs.Waiting.{is_message_by, wakes, wakes_all};
 ghost use Rattle.st_kernel.specs.Waking.{holder_woken, is_asleep, is_woken, woken_by};
 
 use st_base::{Seq, Tid};
+use st_lookaside::Head;
 use st_machine::Machine;
 use st_trace::{Change, Entry};
 
@@ -16,6 +18,8 @@ use st_trace::{Change, Entry};
 pub enum Woken {
     Nobody,
     One(Tid),
+    /// Those that hold calls of the policy and the rule of this number's.
+    Alike(Seq),
     Everybody,
 }
 
@@ -39,7 +43,7 @@ fn wakes_some(changes: &[Change]) -> bool
 // The thread that holds the call of a number, or all of them where it isn't known.
 fn holder(machine: &Machine<'_>, seq: Seq) -> Woken
     ensures whom { result ≡ holder_woken (thread_at machine.now.workers.calls seq) }
-    ensures law { (st : State) → IsMachine machine.now st → (t : ℕ) → is_message_by st t seq ≡ true → is_woken result t ≡ true }
+    ensures law { (st : State) → IsMachine machine.now st → (t : ℕ) → is_message_by st t seq ≡ true → is_woken machine.now result t ≡ true }
 {
     match machine.holder(seq) {
         Some(tid) => Woken::One(tid),
@@ -50,7 +54,7 @@ fn holder(machine: &Machine<'_>, seq: Seq) -> Woken
 /// Which threads an entry may wake, by the machine behind it.
 pub fn woken_by(machine: &Machine<'_>, entry: &Entry) -> Woken
     ensures whom { result ≡ woken_by machine.now.workers.calls entry.now }
-    ensures law { (st : State) → IsMachine machine.now st → (t : ℕ) → wakes st entry.now t ≡ true → is_woken result t ≡ true }
+    ensures law { (st : State) → IsMachine machine.now st → (t : ℕ) → wakes st entry.now t ≡ true → is_woken machine.now result t ≡ true }
 {
     match entry {
         Entry::Used { changes, .. } => {
@@ -72,7 +76,7 @@ pub fn woken_by(machine: &Machine<'_>, entry: &Entry) -> Woken
                 Woken::Nobody
             }
         }
-        Entry::Learned { .. } | Entry::Replied { .. } => Woken::Everybody,
+        Entry::Learned { seq, .. } | Entry::Replied { seq, .. } => Woken::Alike(*seq),
         _ => Woken::Nobody,
     }
 }
@@ -89,33 +93,71 @@ fn mark_awake(tid: Tid, asleep: &mut [bool])
     }
 }
 
+// The first thread before this one that holds a call of the policy and the rule of a message, else this one.
+fn first_alike(machine: &Machine<'_>, message: &Head, first: Tid) -> Tid
+    requires { 1 ≤ first }
+    ensures from { 1 ≤ result }
+    ensures to { result ≤ first }
+    ensures here { (result ≡ first) ⊎ (is_alike message.now (message_held machine.now result) ≡ true) }
+    ensures before { (t : ℕ) → 1 ≤ t → t < result → is_alike message.now (message_held machine.now t) ≡ false }
+{
+    for tid in 1..first {
+        if machine.holds_alike(tid, message) {
+            return tid;
+        }
+    }
+    first
+}
+
+// Marks the threads that hold calls of the policy and the rule of a message as awake.
+fn wake_alike(machine: &Machine<'_>, message: &Head, asleep: &mut [bool])
+    ensures count { length asleep.new ≡ length asleep.old }
+    ensures before { (place : ℕ) → is_asleep asleep.new place ≡ true → is_asleep asleep.old place ≡ true }
+    ensures woken { (place : ℕ) → is_asleep asleep.new place ≡ true → is_alike message.now (message_held machine.now (suc place)) ≡ false }
+    ensures others { (place : ℕ) → is_asleep asleep.old place ≡ true → is_alike message.now (message_held machine.now (suc place)) ≡ false → is_asleep asleep.new place ≡ true }
+{
+    for tid in 1..machine.thread_count() + 1 {
+        if machine.holds_alike(tid, message) {
+            mark_awake(tid, asleep);
+        }
+    }
+}
+
 impl Woken {
     /// Where a cursor stands that stood here: not behind a thread that was woken, and no farther back than it has to.
-    pub fn cursor(self, first: Tid) -> Tid
+    pub fn cursor(self, machine: &Machine<'_>, first: Tid) -> Tid
         requires { 1 ≤ first }
         ensures from { 1 ≤ result }
         ensures to { result ≤ first }
-        ensures here { (result ≡ first) ⊎ (is_woken self result ≡ true) }
-        ensures before { (t : ℕ) → 1 ≤ t → t < result → is_woken self t ≡ false }
+        ensures here { (result ≡ first) ⊎ (is_woken machine.now self result ≡ true) }
+        ensures before { (t : ℕ) → 1 ≤ t → t < result → is_woken machine.now self t ≡ false }
     {
         match self {
             Woken::Nobody => first,
             Woken::One(0) => first,
             Woken::One(tid) => first.min(tid),
+            Woken::Alike(seq) => match machine.message(seq) {
+                Some(message) => first_alike(machine, message, first),
+                None => 1,
+            },
             Woken::Everybody => 1,
         }
     }
 
     /// Marks the threads that were woken as awake; thread t stands at t - 1.
-    pub fn wake(self, asleep: &mut [bool])
+    pub fn wake(self, machine: &Machine<'_>, asleep: &mut [bool])
         ensures count { length asleep.new ≡ length asleep.old }
         ensures before { (place : ℕ) → is_asleep asleep.new place ≡ true → is_asleep asleep.old place ≡ true }
-        ensures woken { (place : ℕ) → is_asleep asleep.new place ≡ true → is_woken self (suc place) ≡ false }
-        ensures others { (place : ℕ) → is_asleep asleep.old place ≡ true → is_woken self (suc place) ≡ false → is_asleep asleep.new place ≡ true }
+        ensures woken { (place : ℕ) → is_asleep asleep.new place ≡ true → is_woken machine.now self (suc place) ≡ false }
+        ensures others { (place : ℕ) → is_asleep asleep.old place ≡ true → is_woken machine.now self (suc place) ≡ false → is_asleep asleep.new place ≡ true }
     {
         match self {
             Woken::Nobody => {}
             Woken::One(tid) => mark_awake(tid, asleep),
+            Woken::Alike(seq) => match machine.message(seq) {
+                Some(message) => wake_alike(machine, message, asleep),
+                None => asleep.fill(false),
+            },
             Woken::Everybody => asleep.fill(false),
         }
     }

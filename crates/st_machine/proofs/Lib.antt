@@ -1,4 +1,5 @@
 mod After
+pub mod Alike
 mod Asked
 mod Begun
 mod CanMake

@@ -1,6 +1,7 @@
 pub mod Enabled
 pub mod Ending
 pub mod Entering
+pub mod Holding
 pub mod Machine
 pub mod Making
 pub mod NextSteps

@@ -8,6 +8,7 @@ mod deciding;
 mod enabled;
 mod ending;
 mod entering;
+mod holding;
 pub mod machine;
 mod making;
 mod renewing;

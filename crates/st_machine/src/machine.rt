@@ -1,4 +1,4 @@
-ghost use Rattle.std.specs.Prelude.{◌≡◌, ◌≤◌, ◌<◌, ◌-◌, ℕ, IfSome, IfOk, Option, None, Some, map};
+ghost use Rattle.std.specs.Prelude.{◌≡◌, ◌≤◌, ◌<◌, ◌-◌, ℕ, IfSome, IfOk, Option, None, Some, length, map};
 ghost use Rattle.st_base.specs.Numbered.{item_at_number};
 ghost use Rattle.st_filter.specs.Policies.{policy_of};
 ghost use Rattle.st_law.specs.Inputs.{IsStartable};
@@ -96,6 +96,7 @@ impl<'a> Machine<'a> {
     /// How many threads the script has.
     pub fn thread_count(&self) -> u32
         ensures count { result ≡ thread_count self.now.input }
+        ensures threads { result ≡ length self.now.threads }
         ensures few { result ≤ 64 }
     {
         self.threads.len() as u32

@@ -13,3 +13,4 @@ pub mod Starting
 pub mod Still
 pub mod StillKept
 pub mod StillWorkers
+pub mod Unlike

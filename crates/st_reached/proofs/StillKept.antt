@@ -1,6 +1,6 @@
 -- A thread that is still stays so behind each entry of another that doesn't wake it.
 use native.Mathlib.Omega.{arith}
-use Rattle.std.proofs.Common.{◌≡◌, ◌≢◌, ◌≤◌, ◌<◌, ◌⊎◌, ℕ, suc, ◌+◌, Bool, true, false, cond, ◌&&◌, ◌||◌, ◌==◌, List, [], ◌∷◌, Option, Some, None, refl, sym, ap, subst, ◌∙◌, inl, inr}
+use Rattle.std.proofs.Common.{◌≡◌, ◌≢◌, ◌≤◌, ◌<◌, ◌⊎◌, ℕ, suc, ◌+◌, Bool, true, false, cond, ◌&&◌, ◌||◌, ◌==◌, List, [], ◌∷◌, ◌++◌, Option, Some, None, refl, sym, ap, subst, ◌∙◌, inl, inr}
 use Rattle.std.proofs.lemmas.Bool.{and_from, and_parts, eq-eqb, ne_eqb, or_parts, true≢false}
 use Rattle.std.specs.List.{list_any}
 use Rattle.std.specs.Prelude.{is_some, length, not}
@@ -12,23 +12,24 @@ use Rattle.st_calls.specs.declared.judged.Snapshot.{Snapshot}
 use Rattle.st_effects.specs.Changes.{dying_after_change, owner_after_change, seq_after}
 use Rattle.st_effects.specs.Processes.{renewals}
 use Rattle.st_effects.specs.System.{HeldCall}
+use Rattle.st_filter.specs.declared.set.Reply.{Reply}
 use Rattle.st_trace.specs.declared.entry.CallResult.{CallResult}
 use Rattle.st_trace.specs.declared.entry.Change.{Change}
 use Rattle.st_trace.specs.declared.entry.Change.TheVariants.{Dying, Execed, Forked}
 use Rattle.st_trace.specs.declared.entry.Choice.{Choice}
 use Rattle.st_trace.specs.declared.entry.Entry.{Entry}
-use Rattle.st_trace.specs.declared.entry.Entry.TheVariants.{Entered, Faulted, Answered, Used, Denied, Ended, Learned, Replied}
+use Rattle.st_trace.specs.declared.entry.Entry.TheVariants.{Stored, Entered, Claimed, Copied, Looked, Faulted, Answered, Used, Denied, Ended, Learned, Replied}
 use Rattle.st_trace.specs.declared.entry.Way.{Way}
 use Rattle.st_trace.specs.declared.entry.Way.TheVariants.{Fast, Barred, Held, Untraced}
 use Rattle.st_law.specs.declared.input.Input.{Input}
 use Rattle.st_law.specs.declared.input.Mode.{Mode}
 use Rattle.st_law.specs.declared.input.Mode.TheVariants.{Enforce, Learn, AskText}
-use Rattle.st_law.specs.Lawful.{IsLawful, IsUsed}
+use Rattle.st_law.specs.Lawful.{IsLawful, IsLearned, IsReplied, IsUsed}
 use Rattle.st_law.specs.Machine.{entry_of, state_after, thread_entry}
-use Rattle.st_law.specs.Sessions.{decision, is_reply_for, least_from, session_filters}
+use Rattle.st_law.specs.Sessions.{decision, is_reply_for, learnt_by, learnt_filter, least_from, replied_by, session_filters}
 use Rattle.st_law.specs.State.{State, held_from, is_asked, is_live, is_open_question, is_undecided, read_for, request_of, snapshot_in, system_of, thread_count}
 use Rattle.st_law.specs.Threads.{child_of_next, thread_of}
-use Rattle.st_law.proofs.HeldCalls.{IsHolder}
+use Rattle.st_law.proofs.HeldCalls.{IsHolder, own_of}
 use Rattle.st_law.proofs.Invariant.{IsOpen}
 use Rattle.st_law.proofs.QuietChanges.{fold_same, mute_of_quiet, seq_mute}
 use Rattle.st_law.proofs.RenewalKept.{open_of}
@@ -37,10 +38,11 @@ use Rattle.st_law.proofs.Shapes.{Each, Shape, quiet, forked, execed, renewed}
 use Rattle.st_law.proofs.Turns.{IsFresh}
 use Rattle.st_law.proofs.UsedShapes.{used_shape}
 use Rattle.st_law.proofs.Standing.{answered_after_entry, copies_after}
-use Rattle.st_reached.specs.Waiting.{IsAsking, IsAwaiting, IsStill, asking, awaiting, ended, is_head_by, is_message_by, unstarted, wakes, wakes_all}
+use Rattle.st_reached.specs.Waiting.{IsAsking, IsAwaiting, IsStill, are_alike, asking, awaiting, ended, holds_alike, is_head_by, is_message_by, unstarted, wakes, wakes_all}
 use Rattle.st_reached.proofs.Movers.{others_add}
 use Rattle.st_reached.proofs.Reached.{Reached, held_live, lawful_entry, reached_behind}
 use Rattle.st_reached.proofs.Still.{none_still, question_answered, still_none}
+use Rattle.st_reached.proofs.Unlike.{are_of_one, asked_on, copies_alike, open_on, reply_there}
 
 -- ---- changes that wake nobody
 
@@ -96,9 +98,8 @@ asked_by i st new replied s Enforce = refl
 asked_by i st new replied s Learn = refl
 asked_by i st new replied s AskText = λ k. is_some (least_from (λ n. is_reply_for s.policy s.rule (item_at_number i.replies n) && not (replied k n)) 1 (length i.replies))
 
-open_by : (i : Input) (st new : State) → new.session ≡ st.session → new.replied ≡ st.replied → (o : Option Snapshot) → is_open_question i new o ≡ is_open_question i st o
-open_by i st new session replied None = refl
-open_by i st new session replied (Some s) =
+open_by : (i : Input) (st new : State) → new.session ≡ st.session → new.replied ≡ st.replied → (s : Snapshot) → is_open_question i new (Some s) ≡ is_open_question i st (Some s)
+open_by i st new session replied s =
     λ k. is_undecided (decision (read_for i s.policy s.rule) (session_filters (session k) s.policy s.rule) s) && asked_by i st new replied s i.options.mode k
 
 module _ (i : Input) (st : State) (reached : Reached i st) (t : ℕ) where
@@ -124,10 +125,9 @@ module _ (i : Input) (st : State) (reached : Reached i st) (t : ℕ) where
     pub unfaulted : IsAwaiting st t → ((state_after i st e).messages ((state_after i st e).threads t).number).fault ≡ None
     pub unanswered : IsAwaiting st t → ((state_after i st e).messages ((state_after i st e).threads t).number).answered ≡ false
     pub renewed : (((state_after i st e).threads t).number ≡ number) ⊎ IsUnmetIn (state_after i st e) ((state_after i st e).threads t).number
-    pub session : (state_after i st e).session ≡ st.session
-    pub replied : (state_after i st e).replied ≡ st.replied
+    pub question : (s : Snapshot) → snapshot_in st number ≡ Some s → IsAsking i st t → is_open_question i (state_after i st e) (Some s) ≡ is_open_question i st (Some s)
 
-  -- a question is one still where its number, the session and the replies that were given are the same
+  -- a question is one still where its number is the same, and the operator is to answer for its copies still
   asks_on : (e : Entry) → IsLawful i st e → (leaves : Leaves e) → IsAsking i st t → ((state_after i st e).threads t).number ≡ number → IsAsking i (state_after i st e) t
   asks_on e lawful leaves x same =
       let new : State = state_after i st e in
@@ -137,8 +137,9 @@ module _ (i : Input) (st : State) (reached : Reached i st) (t : ℕ) where
       let was : (st.messages number).answered ≡ true = question_answered i st number x.question in
       let answered : (new.messages (new.threads t).number).answered ≡ true = subst (λ q. (new.messages q).answered ≡ true) (sym same) (answered_after_entry i st reached.whole number was e) in
       let copies : snapshot_in new (new.threads t).number ≡ snapshot_in st number = ap (snapshot_in new) same ∙ copies_after i st reached.whole number was e lawful in
+      let there : (s : Snapshot) × (snapshot_in st number ≡ Some s) = reached.whole.turns.ready number was in
       let is_open : is_open_question i new (snapshot_in new (new.threads t).number) ≡ true =
-      ap (is_open_question i new) copies ∙ open_by i st new leaves.session leaves.replied (snapshot_in st number)
+      ap (is_open_question i new) (copies ∙ there.1) ∙ leaves.question there.0 there.1 x ∙ sym (ap (is_open_question i st) there.1)
       ∙ (and_parts (is_live st number && (st.messages number).answered) (is_open_question i st (snapshot_in st number)) x.question).1 in
       let live : is_live new (new.threads t).number ≡ true = ((held_live i new then).held t x.entered x.first pending x.way undying).live in record {
         undying = undying;
@@ -189,8 +190,7 @@ module _ (i : Input) (st : State) (reached : Reached i st) (t : ℕ) where
     unfaulted = λ x. ap (λ q. (st.messages q).fault) (number_same way) ∙ x.unfaulted;
     unanswered = λ x. ap (λ q. (st.messages q).answered) (number_same way) ∙ x.unanswered;
     renewed = inl (number_same way);
-    session = refl;
-    replied = refl;
+    question = λ s there x. open_by i st (state_after i st (Entered u call regs way)) refl refl s;
   } where
     number_same : (each : Way) → ((state_after i st (Entered u call regs each)).threads t).number ≡ number
     number_same Fast = refl
@@ -244,9 +244,35 @@ module _ (i : Input) (st : State) (reached : Reached i st) (t : ℕ) where
           unfaulted = λ x. (unmet_then x drawn).0;
           unanswered = λ x. (unmet_then x drawn).1;
           renewed = same_or_unmet drawn;
-          session = refl;
-          replied = refl;
+          question = λ s there x. open_by i st (state_after i st (Used u seq call regs args ids result changes)) refl refl s;
         }
+
+  -- ---- the operator answers a question of another policy or rule
+
+  -- a thread that waits for the operator holds its call
+  holder : IsAsking i st t → IsHolder st t
+  holder x = record { entered = x.entered; pending = x.pending; first = x.first; way = x.way; undying = x.undying }
+
+  apart : (q : ℕ) → holds_alike st q t ≡ false → IsAsking i st t → (copies s : Snapshot) → snapshot_in st q ≡ Some copies → snapshot_in st number ≡ Some s → are_of_one copies s ≡ false
+  apart q calm x copies s posted there =
+      let alike : ℕ → Bool = λ p. are_alike (st.messages q).head (st.messages p).head in
+      sym (copies_alike st q number copies s posted there)
+      ∙ (or_parts (alike number) false (sym (ap (list_any (λ (held : HeldCall). alike held.number)) (own_of st t (holder x))) ∙ calm)).0
+
+  learned_leaves : (q n : ℕ) → IsLearned i st q n → holds_alike st q t ≡ false → IsAsking i st t → (s : Snapshot) → snapshot_in st number ≡ Some s → is_open_question i (state_after i st (Learned q n)) (Some s) ≡ is_open_question i st (Some s)
+  learned_leaves q n y calm x s there =
+      let new : State = state_after i st (Learned q n) in
+      open_on i st y.copies s (apart q calm x y.copies s y.asked.copies there) new (learnt_filter y.copies)
+      (ap (λ o. st.session ++ learnt_by o) y.asked.copies) (asked_by i st new refl s i.options.mode)
+
+  replied_leaves : (q reply n : ℕ) → IsReplied i st q reply n → holds_alike st q t ≡ false → IsAsking i st t → (s : Snapshot) → snapshot_in st number ≡ Some s → is_open_question i (state_after i st (Replied q reply n)) (Some s) ≡ is_open_question i st (Some s)
+  replied_leaves q reply n y calm x s there =
+      let new : State = state_after i st (Replied q reply n) in
+      let differs : are_of_one y.copies s ≡ false = apart q calm x y.copies s y.asked.copies there in
+      let is_for : is_reply_for y.copies.policy y.copies.rule (item_at_number i.replies reply) ≡ true = (and_parts (is_reply_for y.copies.policy y.copies.rule (item_at_number i.replies reply)) (not (st.replied reply)) y.there).0 in
+      let given : (r : Reply) × (item_at_number i.replies reply ≡ Some r) = reply_there y.copies.policy y.copies.rule (item_at_number i.replies reply) is_for in
+      open_on i st y.copies s differs new given.0.filter
+      (λ k. st.session ++ replied_by (given.1 k) (y.asked.copies k)) (asked_on i st y.copies s differs new reply refl is_for i.options.mode)
 
   -- ---- every entry
 
@@ -261,8 +287,7 @@ module _ (i : Input) (st : State) (reached : Reached i st) (t : ℕ) where
     unfaulted = λ x. x.unfaulted;
     unanswered = λ x. x.unanswered;
     renewed = inl refl;
-    session = refl;
-    replied = refl;
+    question = λ s there x. open_by i st (state_after i st (Denied u seq errno cause)) refl refl s;
   }
   leaves (Ended u) y other calm = record {
     owner = refl;
@@ -272,8 +297,7 @@ module _ (i : Input) (st : State) (reached : Reached i st) (t : ℕ) where
     unfaulted = λ x. x.unfaulted;
     unanswered = λ x. x.unanswered;
     renewed = inl refl;
-    session = refl;
-    replied = refl;
+    question = λ s there x. open_by i st (state_after i st (Ended u)) refl refl s;
   }
   leaves (Faulted q errno) y other calm = record {
     owner = refl;
@@ -283,8 +307,7 @@ module _ (i : Input) (st : State) (reached : Reached i st) (t : ℕ) where
     unfaulted = λ x. ap (λ b. cond b (Some errno) (st.messages number).fault) (other_number x q calm) ∙ x.unfaulted;
     unanswered = λ x. x.unanswered;
     renewed = inl refl;
-    session = refl;
-    replied = refl;
+    question = λ s there x. open_by i st (state_after i st (Faulted q errno)) refl refl s;
   }
   leaves (Answered w s v applied) y other calm = record {
     owner = refl;
@@ -294,12 +317,9 @@ module _ (i : Input) (st : State) (reached : Reached i st) (t : ℕ) where
     unfaulted = λ x. x.unfaulted;
     unanswered = λ x. unanswered_by x s.seq applied calm;
     renewed = inl refl;
-    session = refl;
-    replied = refl;
+    question = λ s there x. open_by i st (state_after i st (Answered w s v applied)) refl refl s;
   }
-  leaves (Learned q n) y other calm = absurd (true≢false calm)
-  leaves (Replied q reply n) y other calm = absurd (true≢false calm)
-  leaves _ y other calm = record {
+  leaves (Learned q n) y other calm = record {
     owner = refl;
     over = refl;
     dying = refl;
@@ -307,8 +327,57 @@ module _ (i : Input) (st : State) (reached : Reached i st) (t : ℕ) where
     unfaulted = λ x. x.unfaulted;
     unanswered = λ x. x.unanswered;
     renewed = inl refl;
-    session = refl;
-    replied = refl;
+    question = λ s there x. learned_leaves q n y calm x s there;
+  }
+  leaves (Replied q reply n) y other calm = record {
+    owner = refl;
+    over = refl;
+    dying = refl;
+    pending = refl;
+    unfaulted = λ x. x.unfaulted;
+    unanswered = λ x. x.unanswered;
+    renewed = inl refl;
+    question = λ s there x. replied_leaves q reply n y calm x s there;
+  }
+  leaves (Stored u place word) y other calm = record {
+    owner = refl;
+    over = refl;
+    dying = refl;
+    pending = refl;
+    unfaulted = λ x. x.unfaulted;
+    unanswered = λ x. x.unanswered;
+    renewed = inl refl;
+    question = λ s there x. open_by i st (state_after i st (Stored u place word)) refl refl s;
+  }
+  leaves (Claimed w q) y other calm = record {
+    owner = refl;
+    over = refl;
+    dying = refl;
+    pending = refl;
+    unfaulted = λ x. x.unfaulted;
+    unanswered = λ x. x.unanswered;
+    renewed = inl refl;
+    question = λ s there x. open_by i st (state_after i st (Claimed w q)) refl refl s;
+  }
+  leaves (Copied q part place word) y other calm = record {
+    owner = refl;
+    over = refl;
+    dying = refl;
+    pending = refl;
+    unfaulted = λ x. x.unfaulted;
+    unanswered = λ x. x.unanswered;
+    renewed = inl refl;
+    question = λ s there x. open_by i st (state_after i st (Copied q part place word)) refl refl s;
+  }
+  leaves (Looked q part name seen) y other calm = record {
+    owner = refl;
+    over = refl;
+    dying = refl;
+    pending = refl;
+    unfaulted = λ x. x.unfaulted;
+    unanswered = λ x. x.unanswered;
+    renewed = inl refl;
+    question = λ s there x. open_by i st (state_after i st (Looked q part name seen)) refl refl s;
   }
 
   -- a thread that is still stays so behind a lawful entry

@@ -1,6 +1,8 @@
 -- Which threads and workers add nothing, and which threads an entry may have go on: the others needn't be asked again behind it.
 use Rattle.std.specs.Prelude.{◌≡◌, ℕ, Bool, true, false, ◌&&◌, ◌==◌, Option, Some, None}
 use Rattle.std.specs.List.{list_any}
+use Rattle.std.specs.Str.{bytes_eq}
+use Rattle.st_calls.specs.Rules.{same_rule}
 use Rattle.st_trace.specs.declared.entry.Change.{Change}
 use Rattle.st_trace.specs.declared.entry.Change.TheVariants.{Forked, Execed, Dying}
 use Rattle.st_trace.specs.declared.entry.Entry.{Entry}
@@ -9,7 +11,7 @@ use Rattle.st_trace.specs.declared.entry.Way.TheVariants.{Held}
 use Rattle.st_law.specs.declared.input.Input.{Input}
 use Rattle.st_law.specs.Machine.{least_waiting}
 use Rattle.st_law.specs.Messages.{Head}
-use Rattle.st_law.specs.State.{State, is_question, is_worker, worker_at}
+use Rattle.st_law.specs.State.{State, held_by_pending, is_question, is_worker, worker_at}
 use Rattle.st_law.specs.Threads.{PendingCall}
 
 -- ---- threads
@@ -59,14 +61,24 @@ is_head_by t (Some head) = head.tid == t
 abbrev pub is_message_by : State → ℕ → ℕ → Bool
 is_message_by st t q = is_head_by t (st.messages q).head
 
+-- whether two messages are of one policy and one rule
+abbrev pub are_alike : Option Head → Option Head → Bool
+are_alike (Some head) (Some other) = bytes_eq head.policy other.policy && same_rule head.rule other.rule
+are_alike _ _ = false
+
+-- whether thread t holds a call of the policy and the rule of the message of a number
+abbrev pub holds_alike : State → ℕ → ℕ → Bool
+holds_alike st q t = list_any (λ held. are_alike (st.messages q).head (st.messages held.number).head) (held_by_pending st t (st.threads t).pending)
+
 -- whether thread t, which is still, may go on behind an entry of another: a fault and an answer that is applied wake the thread of their
--- number, a call wakes every thread where one of its changes does, and so does each answer of the operator
+-- number, a call wakes every thread where one of its changes does, and what the operator answers wakes the threads that hold calls of the
+-- policy and the rule of the question
 abbrev pub wakes : State → Entry → ℕ → Bool
 wakes st (Used u seq call regs args ids result changes) t = list_any wakes_all changes
 wakes st (Faulted q errno) t = is_message_by st t q
 wakes st (Answered w snapshot verdict applied) t = applied && is_message_by st t snapshot.seq
-wakes st (Learned q n) t = true
-wakes st (Replied q reply n) t = true
+wakes st (Learned q n) t = holds_alike st q t
+wakes st (Replied q reply n) t = holds_alike st q t
 wakes st _ t = false
 
 -- ---- workers

@@ -32,7 +32,7 @@ pub invariant_of-self-in-Some : goal.invariant_of-self-in-Some
 invariant_of-self-in-Some c =
     let step : IsStep c.self.inside.machine c.args.choice (Some c.in-Some.entry) c.choose.new.self = subst (λ (o : Option Entry). IsStep c.self.inside.machine c.args.choice o c.choose.new.self) c.in-Some.is c.in_ok-choose.ensures.step in
     let written = with_items_is c.self.inside.asleep c.wake.new.asleep (c.wake.ensures.count ∙ c.deref_mut.ensures.len) in
-    let has : HasWoken c.woken_by-woken.result c.self.inside.first c.self.inside.asleep.items c.cursor-self-inside.result c.wake.new.asleep = record {
+    let has : HasWoken c.choose.new.self c.woken_by-woken.result c.self.inside.first c.self.inside.asleep.items c.cursor-self-inside.result c.wake.new.asleep = record {
       from = c.cursor-self-inside.ensures.from;
       to = c.cursor-self-inside.ensures.to;
       before = c.cursor-self-inside.ensures.before;

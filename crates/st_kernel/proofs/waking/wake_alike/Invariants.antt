@@ -1,0 +1,12 @@
+use Rattle.std.proofs.Common.{◌≡◌, ◌≤◌, suc, length}
+use Rattle.st_machine.specs.Holding.{is_alike, message_held}
+use Rattle.st_kernel.proofs.Woken.{IsWokenTo}
+use Rattle.st_kernel.proofs.waking.wake_alike.Given as goal
+
+-- the threads so far that hold such a call are awake
+abbrev pub invariant-loop-tid : goal.invariant-loop-tid
+invariant-loop-tid l = record {
+  from : 1 ≤ l.tid;
+  end : l.tid-end ≡ suc (length l.machine.threads);
+  so_far : IsWokenTo (λ t. is_alike l.message (message_held l.machine t)) l.tid l.initial.asleep l.asleep;
+}
