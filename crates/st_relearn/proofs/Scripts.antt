@@ -27,10 +27,10 @@ use Rattle.st_policy.specs.OneFilter.{FilterResult, ReadsFilter, filter_in}
 use Rattle.st_policy.specs.Readable.{AreTextBytes, HasPlainDollars, HasSmallIds, WasRead}
 use Rattle.st_policy.specs.declared.env.Env.{Env}
 use Rattle.st_script_faults.specs.Environment.{dollars_by, dollars_of, environment_of, first_traced, group_id, groups_below, is_given, learns, new_group, new_user, process_of, user_id, user_of, users_below}
-use Rattle.st_script_faults.specs.Faults.{answer_of, script_fault, unless_ask}
+use Rattle.st_script_faults.specs.Faults.{answer_of, reply_said, script_fault, unless_ask}
 use Rattle.st_script_faults.specs.Names.{Name, has_name, with_name}
 use Rattle.st_script_faults.specs.declared.fault.ScriptFault.{ScriptFault}
-use Rattle.st_script.specs.Reading.{object_said, process_said, reply_said, script_in, script_with, start_of, unless_faulty}
+use Rattle.st_script.specs.Reading.{object_said, process_said, script_in, script_with, start_of, unless_faulty}
 use Rattle.st_script.specs.Startable.{CanStart, input_with}
 use Rattle.st_script.specs.declared.reading.ReadScript.{ReadScript}
 use Rattle.st_statements.specs.Parts.{is_normal}

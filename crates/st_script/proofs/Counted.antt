@@ -17,12 +17,12 @@ use Rattle.st_model.specs.declared.object.NewKind.{NewKind}
 use Rattle.st_model.specs.declared.object.NewKind.TheVariants as kind
 use Rattle.st_policy.specs.OneFilter.{FilterResult, filter_in}
 use Rattle.st_policy.specs.declared.env.Env.{Env}
-use Rattle.st_script_faults.specs.Faults.{Whole, is_expected, is_unknown, is_duplicate, is_too_many, is_large, fault_of, fault_by, first_fault, line_fault, unless_ask, answer_of, reply_in, threads_behind, with_thread}
+use Rattle.st_script_faults.specs.Faults.{Whole, is_expected, is_unknown, is_duplicate, is_too_many, is_large, fault_of, fault_by, first_fault, line_fault, unless_ask, answer_of, reply_in, reply_said, threads_behind, with_thread}
 use Rattle.st_script.specs.Bounds.{IsWithinBounds}
 use Rattle.st_script_faults.specs.Names.{Name, Names, no_names, has_name, with_name, number_of, with_says}
 use Rattle.st_statements.specs.Parts.{is_long, is_normal}
 use Rattle.st_trace.specs.declared.start.ThreadRow.{ThreadRow}
-use Rattle.st_script.specs.Reading.{body_in, object_said, process_said, processes_behind, reply_said, script_with, thread_said, thread_with, threads_in, with_process}
+use Rattle.st_script.specs.Reading.{body_in, object_said, process_said, processes_behind, script_with, thread_said, thread_with, threads_in, with_process}
 use Rattle.st_script_faults.specs.declared.fault.ScriptFault.{ScriptFault}
 use Rattle.st_script_faults.specs.declared.limits.TheConstants.{MOST_PROCESSES, MOST_THREADS, MOST_TREE_ROWS}
 use Rattle.st_script.specs.declared.reading.ReadScript.{ReadScript}

@@ -6,6 +6,7 @@ mod Placed
 mod PutTexts
 pub mod ReadTexts
 mod Replied
+mod RepliesSaid
 mod Said
 mod Slashes
 mod Standing

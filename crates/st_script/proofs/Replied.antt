@@ -12,14 +12,14 @@ use Rattle.st_lex.specs.Unquote.{unquoted}
 use Rattle.st_policy.specs.OneFilter.{FilterResult, ReadsFilter, filter_in}
 use Rattle.st_policy.specs.declared.env.Env.{Env}
 use Rattle.st_reached.specs.Grants.{IsUngrantedForSetting, RepliesUngranted}
-use Rattle.st_script_faults.specs.Faults.{answer_of, reply_in, unless_ask}
+use Rattle.st_script_faults.specs.Faults.{answer_of, reply_in, reply_said, unless_ask}
 use Rattle.st_script_faults.specs.Names.{Name}
 use Rattle.st_statements.specs.Parts.{is_normal}
 use Rattle.st_statements.specs.Statements.{lines_in}
 use Rattle.st_statements.specs.declared.statement.ScriptLine.{ScriptLine}
 use Rattle.st_statements.specs.declared.statement.Statement.{Statement}
 use Rattle.st_statements.specs.declared.statement.Statement.TheVariants as says
-use Rattle.st_script.specs.Reading.{reply_said, script_in}
+use Rattle.st_script.specs.Reading.{script_in}
 use Rattle.st_script.specs.declared.reading.ReadScript.{ReadScript}
 use Rattle.st_script.proofs.ReadTexts.{read_has, whole_in}
 use Rattle.st_script.proofs.Ungranted.{filter_ungranted}

@@ -9,7 +9,7 @@ use Rattle.st_model.specs.Memory.{word_of}
 use Rattle.st_names.specs.Name.{Components, components_of, split_at_slashes}
 use Rattle.st_policy.specs.declared.env.Env.{Env}
 use Rattle.st_script_faults.specs.Environment.{environment_of, process_of}
-use Rattle.st_script_faults.specs.Faults.{ends_body, reply_in, script_fault, threads_behind}
+use Rattle.st_script_faults.specs.Faults.{ends_body, reply_said, script_fault, threads_behind}
 use Rattle.st_statements.specs.Lines.{saturated}
 use Rattle.st_script_faults.specs.Names.{Name, number_of, store_count, with_name}
 use Rattle.st_statements.specs.Statements.{lines_in}
@@ -125,11 +125,6 @@ start_of lines = record {
   processes = filter_map (λ line. process_said line.says) lines;
   threads = threads_in (processes_behind [] lines) (threads_behind [] lines) lines;
 }
-
--- the reply of a line
-abbrev pub reply_said : Env → Option Statement → Option Reply
-reply_said env (Some (says.Reply binary filter)) = reply_in env binary filter
-reply_said env _ = None
 
 -- what lines without a fault say, read with this environment
 abbrev pub script_with : Env → List ScriptLine → ReadScript

@@ -1,13 +1,13 @@
-ghost use Rattle.std.specs.Prelude.{◌≡◌, ◌≢◌, ◌^◌, ◌<◌, ℕ, List, None, Ok, Err, length, IfOk, IfErr};
+ghost use Rattle.std.specs.Prelude.{◌≡◌, ◌≢◌, ◌^◌, ◌<◌, ℕ, List, [], None, Ok, Err, length, IfOk, IfErr};
 ghost use Rattle.std.specs.List.{filter_map};
 ghost use Rattle.st_law.specs.declared.input.Options.{Options};
 ghost use Rattle.st_reached.specs.Scripts.{IsBounded};
 ghost use Rattle.st_script.specs.Bounds.{IsWithinBounds};
 ghost use Rattle.st_script.specs.Startable.{CanStart};
 ghost use Rattle.st_script.specs.declared.reading.ReadScript.{ReadScript};
-ghost use Rattle.st_script_faults.specs.Faults.{first_fault};
+ghost use Rattle.st_script_faults.specs.Faults.{first_fault, replies_behind};
 ghost use Rattle.st_script_faults.specs.Names.{no_names};
-ghost use Rattle.st_script.specs.Reading.{user_said, group_said, object_name, object_said, started_process, process_said, reply_said, start_of, script_with, read_lines, script_in};
+ghost use Rattle.st_script.specs.Reading.{user_said, group_said, object_name, object_said, started_process, process_said, start_of, script_with, read_lines, script_in};
 
 use crate::bodies::threads_in;
 use st_base::{Sequence, Text};
@@ -18,7 +18,7 @@ use st_names::AbsName;
 use st_policy::Env;
 use st_script_faults::ScriptFault;
 use st_script_faults::environment::process_of;
-use st_script_faults::faults::{Whole, first_fault, reply_in, whole_of};
+use st_script_faults::faults::{Whole, first_fault, whole_of};
 use st_statements::lines::looked_at;
 use st_statements::{ScriptLine, ScriptProcess, Statement, lines_of_tokens};
 use st_trace::{GroupRow, NewKind, NewNode, ProcessRow, Start, TreeRow, UserRow};
@@ -183,39 +183,21 @@ fn start_of(alloc: Global, lines: &[ScriptLine]) -> Result<Start, AllocError>
     })
 }
 
-fn reply_said(
+// What lines without a fault say, with their replies.
+#[tactic(auto, using(crate::proofs::RepliesSaid::replies_are))]
+fn script_with(
     alloc: Global,
-    env: &Env,
-    says: &Option<Statement>,
-) -> Result<Option<Reply>, AllocError>
-    ensures { IfOk result (λ found. found ≡ reply_said env.now says.now) }
-{
-    match says {
-        Some(Statement::Reply { binary, filter }) => reply_in(alloc, env, binary, filter),
-        _ => Ok(None),
-    }
-}
-
-fn replies_in(alloc: Global, env: &Env, lines: &[ScriptLine]) -> Result<Sequence<Reply>, AllocError>
-    ensures { IfOk result (λ replies. replies ≡ filter_map (λ line. reply_said env.now line.says) lines.now) }
-{
-    let mut replies = Sequence::new(alloc);
-    for line in lines {
-        if let Some(reply) = reply_said(alloc, env, &line.says)? {
-            replies.push(reply)?;
-        }
-    }
-    Ok(replies)
-}
-
-// What lines without a fault say.
-fn script_with(alloc: Global, env: Env, lines: &[ScriptLine]) -> Result<ReadScript, AllocError>
+    env: Env,
+    lines: &[ScriptLine],
+    replies: Sequence<Reply>,
+) -> Result<ReadScript, AllocError>
+    requires { replies ≡ replies_behind env [] lines.now }
     ensures { IfOk result (λ script. script ≡ script_with env lines.now) }
 {
     Ok(ReadScript {
         start: start_of(alloc, lines)?,
-        replies: replies_in(alloc, &env, lines)?,
         env,
+        replies,
     })
 }
 
@@ -224,13 +206,15 @@ fn faultless_script(
     alloc: Global,
     whole: Whole,
     lines: &[ScriptLine],
+    replies: Sequence<Reply>,
 ) -> Result<ReadScript, AllocError>
-    requires { first_fault whole no_names lines.now ≡ None }
+    requires faultless { first_fault whole no_names lines.now ≡ None }
+    requires replies { replies ≡ replies_behind whole.env [] lines.now }
     ensures is { IfOk result (λ script. script ≡ script_with whole.entry.env lines.now) }
     ensures bounds { IfOk result IsWithinBounds }
 {
     let Whole { env, .. } = whole;
-    script_with(alloc, env, lines)
+    script_with(alloc, env, lines, replies)
 }
 
 // What lines are read as, which a lexical fault may follow.
@@ -245,11 +229,12 @@ fn read_lines(
     ensures bounds { IfOk result IsWithinBounds }
 {
     let whole = whole_of(alloc, broken.is_some(), options, lines)?;
-    match first_fault(alloc, &whole, lines)? {
+    let mut replies = Sequence::new(alloc);
+    match first_fault(alloc, &whole, lines, &mut replies)? {
         Some(fault) => Err(fault),
         None => match broken {
             Some(fault) => Err(ScriptFault::Lex(fault)),
-            None => Ok(faultless_script(alloc, whole, lines)?),
+            None => Ok(faultless_script(alloc, whole, lines, replies)?),
         },
     }
 }

@@ -1,5 +1,5 @@
 -- The faults of a script, by line.
-use Rattle.std.specs.Prelude.{ℕ, ◌+◌, Bool, true, false, ◌||◌, ◌&&◌, not, if◌then◌else◌, nat_le, nat_lt, List, [], ◌∷◌, length, Option, Some, None, is_some, option_map, Ok, Err}
+use Rattle.std.specs.Prelude.{ℕ, ◌+◌, Bool, true, false, ◌||◌, ◌&&◌, not, if◌then◌else◌, nat_le, nat_lt, List, [], ◌∷◌, ◌++◌, length, Option, Some, None, is_some, option_map, Ok, Err}
 use Rattle.std.specs.List.{list_any}
 use Rattle.st_filter.specs.Formula.{FilterValue}
 use Rattle.st_law.specs.declared.input.Options.{Options}
@@ -52,6 +52,21 @@ reply_for binary filter = if is_normal binary then option_map (λ f. record { bi
 -- the reply of a row's quoted binary and filter, if it is one
 abbrev pub reply_in : Env → List ℕ → List ℕ → Option Reply
 reply_in env binary filter = reply_for (unquoted env.dollars binary) (answer_of (filter_in filter env))
+
+-- the reply that a line says
+abbrev pub reply_said : Env → Option Statement → Option Reply
+reply_said env (Some (says.Reply binary filter)) = reply_in env binary filter
+reply_said env _ = None
+
+-- replies, and one more behind them, if it is there
+abbrev pub with_reply : List Reply → Option Reply → List Reply
+with_reply replies None = replies
+with_reply replies (Some reply) = replies ++ reply ∷ []
+
+-- the replies that lines say, behind these
+abbrev pub replies_behind : Env → List Reply → List ScriptLine → List Reply
+replies_behind env replies [] = replies
+replies_behind env replies (line ∷ lines) = replies_behind env (with_reply replies (reply_said env line.says)) lines
 
 -- whether a row is the end of a thread's body
 abbrev pub is_end : Option Statement → Bool

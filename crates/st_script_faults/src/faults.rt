@@ -1,6 +1,6 @@
-ghost use Rattle.std.specs.Prelude.{◌≡◌, ◌^◌, ◌≤◌, List, Some, None, Ok, [], IfOk, OnOk};
+ghost use Rattle.std.specs.Prelude.{◌≡◌, ◌^◌, ◌≤◌, List, Some, None, Ok, [], is_some, IfOk, OnOk};
 ghost use Rattle.std.specs.List.{list_any};
-ghost use Rattle.st_script_faults.specs.Faults.{answer_of, reply_for, reply_in, is_end, ends_body, is_expected, is_unknown, is_started, is_duplicate, is_large, exceeds, is_too_many, fault_of, fault_by, line_fault, first_fault, with_thread, threads_behind, with_started, started_behind, whole_of};
+ghost use Rattle.st_script_faults.specs.Faults.{answer_of, reply_for, reply_in, reply_said, replies_behind, with_reply, is_end, ends_body, is_expected, is_unknown, is_started, is_duplicate, is_large, exceeds, is_too_many, fault_of, fault_by, line_fault, first_fault, with_thread, threads_behind, with_started, started_behind, whole_of};
 ghost use Rattle.st_script_faults.specs.FirstFault.{IsFirstFault};
 ghost use Rattle.st_script_faults.specs.Faults as spec;
 ghost use Rattle.st_script_faults.specs.Names.{no_names, with_says};
@@ -15,7 +15,7 @@ use crate::environment::environment_of;
 use crate::fault::ScriptFault;
 use crate::limits::{MOST_INSTRUCTIONS, MOST_PROCESSES, MOST_THREADS, MOST_TREE_ROWS};
 use crate::names::{NameIndex, NamesAbove, directory_of, store_count};
-use st_base::Text;
+use st_base::{Sequence, Text};
 use st_filter::{Action, Filter, Reply};
 use st_law::Options;
 use st_lex::unquote;
@@ -81,8 +81,8 @@ fn reply_for(binary: Text, filter: Option<Filter>) -> Option<Reply>
     }
 }
 
-/// The reply of a row's quoted binary and filter, if it is one.
-pub fn reply_in(
+// The reply of a row's quoted binary and filter, if it is one.
+fn reply_in(
     alloc: Global,
     env: &Env,
     binary: &Text,
@@ -93,6 +93,26 @@ pub fn reply_in(
     let filter = answer_of(alloc, filter, env)?;
     let binary = unquote(alloc, binary.bytes(), &env.dollars)?;
     Ok(reply_for(binary, filter))
+}
+
+// Whether a row's quoted binary and filter are a reply, which is added to these.
+fn is_reply(
+    alloc: Global,
+    env: &Env,
+    binary: &Text,
+    filter: &FilterText,
+    replies: &mut Sequence<Reply>,
+) -> Result<bool, AllocError>
+    ensures is { IfOk result (λ is. is ≡ is_some (reply_in env.now binary.now filter.now)) }
+    ensures replies { OnOk result (replies.new ≡ with_reply replies.old (reply_in env.now binary.now filter.now)) }
+{
+    match reply_in(alloc, env, binary, filter)? {
+        Some(reply) => {
+            replies.push(reply)?;
+            Ok(true)
+        }
+        None => Ok(false),
+    }
 }
 
 fn is_end(says: &Option<Statement>) -> bool
@@ -120,20 +140,23 @@ fn is_closed(below: &[ScriptLine]) -> bool
     false
 }
 
-// A thread that no `end` follows, unless the script is cut off, and a reply that is none. Only the body of a thread is gone through.
+// A thread that no `end` follows, unless the script is cut off, and a reply that is none. Only the body of a thread is gone through. A reply
+// is read once: it is added to these.
 fn is_expected(
     alloc: Global,
     whole: &Whole,
     below: &[ScriptLine],
     statement: &Statement,
+    replies: &mut Sequence<Reply>,
 ) -> Result<bool, AllocError>
-    ensures { IfOk result (λ is. is ≡ is_expected whole.now below.now statement.now) }
+    ensures is { IfOk result (λ is. is ≡ is_expected whole.now below.now statement.now) }
+    ensures replies { OnOk result (replies.new ≡ with_reply replies.old (reply_said whole.now.env (Some statement.now))) }
 {
     match statement {
         Statement::Thread { .. } => Ok(!whole.is_cut && !is_closed(below)),
         Statement::Reply { binary, filter } => {
-            let reply = reply_in(alloc, &whole.env, binary, filter)?;
-            Ok(reply.is_none())
+            let is_one = is_reply(alloc, &whole.env, binary, filter, replies)?;
+            Ok(!is_one)
         }
         _ => Ok(false),
     }
@@ -233,7 +256,7 @@ fn is_too_many(
     })
 }
 
-// What is wrong with a row: the first kind that is met.
+// What is wrong with a row: the first kind that is met. Its reply is added to these.
 fn fault_of(
     alloc: Global,
     whole: &Whole,
@@ -241,11 +264,13 @@ fn fault_of(
     below: &[ScriptLine],
     line: u32,
     statement: &Statement,
+    replies: &mut Sequence<Reply>,
 ) -> Result<Option<ScriptFault>, AllocError>
     requires { above.now.instructions ≤ MOST_INSTRUCTIONS }
-    ensures { IfOk result (λ fault. fault ≡ fault_of whole.now above.now below.now line statement.now) }
+    ensures fault { IfOk result (λ fault. fault ≡ fault_of whole.now above.now below.now line statement.now) }
+    ensures replies { OnOk result (replies.new ≡ with_reply replies.old (reply_said whole.now.env (Some statement.now))) }
 {
-    if is_expected(alloc, whole, below, statement)? {
+    if is_expected(alloc, whole, below, statement, replies)? {
         return Ok(Some(ScriptFault::Expected(line)));
     }
     if is_unknown(whole, above, statement) {
@@ -260,41 +285,45 @@ fn fault_of(
     Ok(None)
 }
 
-// The fault of a line, or nothing, and then what it gives is added to what stands above.
+// The fault of a line, or nothing, and then what it gives is added to what stands above, and its reply to these.
 fn take_line<'a>(
     alloc: Global,
     whole: &Whole,
     above: &mut NamesAbove<'a>,
     below: &[ScriptLine],
     line: &'a ScriptLine,
+    replies: &mut Sequence<Reply>,
 ) -> Result<Option<ScriptFault>, AllocError>
     requires { above.old.instructions ≤ MOST_INSTRUCTIONS }
     ensures fault { IfOk result (λ fault. fault ≡ line_fault whole.now above.old below.now line.now) }
     ensures names { IfOk result (λ fault. fault ≡ None → above.new ≡ with_says above.old line.now.says) }
     ensures few { IfOk result (λ fault. fault ≡ None → above.new.instructions ≤ MOST_INSTRUCTIONS) }
+    ensures replies { IfOk result (λ fault. fault ≡ None → replies.new ≡ with_reply replies.old (reply_said whole.now.env line.now.says)) }
 {
     let Some(statement) = &line.says else {
         return Ok(Some(ScriptFault::Expected(line.number)));
     };
-    let fault = fault_of(alloc, whole, above, below, line.number, statement)?;
+    let fault = fault_of(alloc, whole, above, below, line.number, statement, replies)?;
     if fault.is_none() {
         above.add(statement)?;
     }
     Ok(fault)
 }
 
-/// The fault of the first line that has one.
+/// The fault of the first line that has one. Where none has, the replies of all are added to these.
 pub fn first_fault(
     alloc: Global,
     whole: &Whole,
     lines: &[ScriptLine],
+    replies: &mut Sequence<Reply>,
 ) -> Result<Option<ScriptFault>, AllocError>
-    ensures { IfOk result (λ fault. fault ≡ first_fault whole.now no_names lines.now) }
+    ensures fault { IfOk result (λ fault. fault ≡ first_fault whole.now no_names lines.now) }
+    ensures replies { IfOk result (λ fault. fault ≡ None → replies.new ≡ replies_behind whole.now.env replies.old lines.now) }
 {
     let mut above = NamesAbove::new(alloc);
     let mut rest = lines;
     while let Some((line, below)) = rest.split_first() {
-        let fault = take_line(alloc, whole, &mut above, below, line)?;
+        let fault = take_line(alloc, whole, &mut above, below, line, replies)?;
         if fault.is_some() {
             return Ok(fault);
         }

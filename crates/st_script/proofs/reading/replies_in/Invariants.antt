@@ -1,8 +1,0 @@
-use Rattle.std.proofs.Common.{◌≡◌, ◌++◌, drop}
-use Rattle.std.specs.List.{filter_map}
-use Rattle.st_script.specs.Reading.{reply_said}
-use Rattle.st_script.proofs.reading.replies_in.Given as goal
-
--- what was found so far, and what the rest gives, is what all lines give
-abbrev pub invariant-loop-line : goal.invariant-loop-line
-invariant-loop-line l = l.replies ++ filter_map (λ line. reply_said l.env line.says) (drop l.line-index l.lines) ≡ filter_map (λ line. reply_said l.env line.says) l.lines
