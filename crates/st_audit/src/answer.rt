@@ -2,7 +2,7 @@ ghost use Rattle.std.specs.Prelude.{◌≡◌, ℕ, OnOk};
 ghost use Rattle.st_audit.specs.Ledger.{answer_in};
 ghost use Rattle.st_audit.specs.Told.{answer_after};
 
-use st_base::Seq;
+use st_base::{Seq, Shared};
 use st_calls::{Snapshot, Verdict};
 use st_trace::Entry;
 use std::alloc::{AllocError, Global};
@@ -12,7 +12,7 @@ use std::marker::Model;
 /// An applied answer to a held call, as the trace has it.
 #[derive(Drop)]
 pub struct Answer {
-    copies: Snapshot,
+    copies: Shared<Snapshot>,
     verdict: Verdict,
 }
 
@@ -29,7 +29,7 @@ impl Answer {
     pub fn copies(&self) -> &Snapshot
         ensures { result.now ≡ self.now.snapshot }
     {
-        &self.copies
+        self.copies.get()
     }
 
     /// What the filters that were read say of them.
@@ -56,10 +56,10 @@ pub fn note_answer(
             ..
         } => {
             let answer = Answer {
-                copies: snapshot.copy(alloc)?,
+                copies: snapshot.share()?,
                 verdict: *verdict,
             };
-            answers.insert(snapshot.seq, answer)?;
+            answers.insert(snapshot.get().seq, answer)?;
         }
         Entry::Used { seq: Some(seq), .. } | Entry::Denied { seq: Some(seq), .. } => {
             answers.remove(seq);

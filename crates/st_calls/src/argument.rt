@@ -1,11 +1,10 @@
-ghost use Rattle.std.specs.Prelude.{◌≡◌, find, IfOk};
+ghost use Rattle.std.specs.Prelude.{◌≡◌, find};
 ghost use Rattle.std.specs.Str.{bytes_eq};
 ghost use Rattle.st_calls.specs.Argument.{args_of_call, args_of, name_of_label, label_named};
 
 use crate::call::SysCall;
 use crate::rule::Rule;
 use st_base::Text;
-use std::alloc::{AllocError, Global};
 
 /// What a policy calls an argument of a call.
 #[derive(Clone, Copy, Debug, PartialEq, Eq)]
@@ -80,19 +79,6 @@ pub struct ArgText {
     /// Which of the arguments with this label, from 0.
     pub index: u32,
     pub text: Text,
-}
-
-impl ArgText {
-    /// An equal one with a text of its own.
-    pub fn copy(&self, alloc: Global) -> Result<Self, AllocError>
-        ensures { IfOk result (λ copied. copied ≡ self.now) }
-    {
-        Ok(ArgText {
-            label: self.label,
-            index: self.index,
-            text: self.text.copy(alloc)?,
-        })
-    }
 }
 
 /// How an argument lies in registers and memory, and which text it has.

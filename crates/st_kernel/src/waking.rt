@@ -71,7 +71,7 @@ pub fn woken_by(machine: &Machine<'_>, entry: &Entry) -> Woken
             ..
         } => {
             if *applied {
-                holder(machine, snapshot.seq)
+                holder(machine, snapshot.get().seq)
             } else {
                 Woken::Nobody
             }

@@ -1,5 +1,5 @@
 -- A message under way: what was copied and seen for each of its arguments.
-use Rattle.std.specs.Prelude.{◌≡◌, ◌<◌, ◌≤◌, ◌+◌, ℕ, Bool, true, false, List, [], All, map, get_or, slice_index_or, slice_set, length}
+use Rattle.std.specs.Prelude.{◌≡◌, ◌<◌, ◌≤◌, ◌+◌, ℕ, Bool, true, false, List, [], All, map, get_or, Option, IfSome, slice_index_or, slice_set, length}
 use Rattle.st_base.specs.declared.ids.Ids.{Ids}
 use Rattle.st_calls.specs.Argument.{args_of}
 use Rattle.st_calls.specs.declared.argument.ArgText.{ArgText}
@@ -154,6 +154,16 @@ pub record IsSlot (head : Head) (kept : List Part) : Type 0 where
   pub specs : map (λ part. part.spec) kept ≡ args_of head.rule
   pub parts : All (IsPart (request_of head)) kept
   pub order : AreInOrder kept
+
+-- these copies are the message with the texts of its arguments
+pub record IsSealOf (slot : Slot) (copies : Snapshot) : Type 0 where
+  pub args : progress_of slot ≡ Ready copies.parts
+  pub head : copies ≡ snapshot_with slot.head copies.parts
+
+-- the same, with the copies that are kept once it was sealed
+pub record IsSlotWith (head : Head) (kept : List Part) (copies : Option Snapshot) : Type 0 where
+  pub slot : IsSlot head kept
+  pub sealed : IfSome copies (IsSealOf (record { head = head; parts = map filled_of kept }))
 
 -- of no argument from this place on a word is copied
 abbrev pub AreNotBegun : List Part → ℕ → Type 0

@@ -14,7 +14,7 @@ ghost use Rattle.st_effects.specs.Progress.{Look, Ready};
 use crate::head::Head;
 use crate::need::Need;
 use crate::part::Part;
-use st_base::{Errno, Ids, Seq, Sequence};
+use st_base::{Errno, Ids, Seq, Sequence, Shared};
 use st_calls::{ArgText, Snapshot, args_of};
 use st_names::{AbsName, Seen};
 use std::alloc::{AllocError, Global};
@@ -38,19 +38,21 @@ pub enum Next {
 pub struct Slot {
     head: Head,
     parts: Vec<Part>,
+    // The message with the texts of its arguments, once it was sealed.
+    sealed: Option<Shared<Snapshot>>,
 }
 
 impl Model for Slot {
     ghost use Rattle.std.specs.Prelude.{map};
     ghost use Rattle.st_lookaside.specs.Part.{filled_of};
     ghost use Rattle.st_lookaside.specs.Slot as slot;
-    ghost use Rattle.st_lookaside.specs.Slot.{IsSlot};
+    ghost use Rattle.st_lookaside.specs.Slot.{IsSlotWith};
 
     ghost Value = { slot.Slot };
 
     ghost view = { λ s. record { head = s.head; parts = map filled_of s.parts.items } };
 
-    ghost invariant = { λ s. IsSlot s.head s.parts.items };
+    ghost invariant = { λ s. IsSlotWith s.head s.parts.items s.sealed };
 }
 
 // The first argument that isn't finished.
@@ -101,7 +103,11 @@ impl Slot {
         for spec in args_of(head.rule) {
             parts.push(Part::begin(alloc, &head, *spec)?)?;
         }
-        Ok(Slot { head, parts })
+        Ok(Slot {
+            head,
+            parts,
+            sealed: None,
+        })
     }
 
     /// The message.
@@ -199,14 +205,15 @@ impl Slot {
         ensures word { (before : slot.Slot) (word : ℕ) → IsInOrder before → IsWordNext (progress_of before) → self.old ≡ after_word before word → self.new ≡ unreadied before }
         ensures look { (before : slot.Slot) (seen : SeenText) → IsInOrder before → IsLookNext (progress_of before) → self.old ≡ after_look before seen → self.new ≡ unreadied before }
     {
+        self.sealed = None;
         if let Some(j) = last_begun(&self.parts) {
             let part = &mut self.parts[j];
             part.take_back(&self.head);
         }
     }
 
-    /// The message with the texts of its arguments, as they were copied and looked up.
-    pub fn seal(&self, alloc: Global) -> Result<Snapshot, AllocError>
+    // The message with the texts of its arguments, made anew.
+    fn snapshot(&self, alloc: Global) -> Result<Snapshot, AllocError>
         requires { IsReady (progress_of self.now) }
         ensures args { IfOk result (λ snapshot. progress_of self.now ≡ Ready snapshot.parts) }
         ensures head { IfOk result (λ snapshot. snapshot ≡ snapshot_with self.now.head snapshot.parts) }
@@ -228,6 +235,30 @@ impl Slot {
         })
     }
 
+    /// The message with the texts of its arguments, as they were copied and looked up. They are made only where it wasn't sealed.
+    pub fn copies(&self, alloc: Global) -> Result<Shared<Snapshot>, AllocError>
+        requires { IsReady (progress_of self.now) }
+        ensures args { IfOk result (λ snapshot. progress_of self.now ≡ Ready snapshot.parts) }
+        ensures head { IfOk result (λ snapshot. snapshot ≡ snapshot_with self.now.head snapshot.parts) }
+    {
+        match &self.sealed {
+            Some(copies) => copies.share(),
+            None => Shared::new(alloc, self.snapshot(alloc)?),
+        }
+    }
+
+    /// The same, which is kept here until something is undone or the message begins anew, so that it is made once.
+    pub fn seal(&mut self, alloc: Global) -> Result<Shared<Snapshot>, AllocError>
+        requires { IsReady (progress_of self.old) }
+        ensures same { self.new ≡ self.old }
+        ensures args { IfOk result (λ snapshot. progress_of self.old ≡ Ready snapshot.parts) }
+        ensures head { IfOk result (λ snapshot. snapshot ≡ snapshot_with self.old.head snapshot.parts) }
+    {
+        let copies = self.copies(alloc)?;
+        self.sealed = Some(copies.share()?);
+        Ok(copies)
+    }
+
     /// Begins anew under this number, with these ids and this directory, in the room that is there.
     pub fn renew(&mut self, seq: Seq, ids: Ids, cwd: AbsName)
         requires { IsShort cwd }
@@ -236,6 +267,7 @@ impl Slot {
         self.head.seq = seq;
         self.head.ids = ids;
         self.head.cwd = cwd;
+        self.sealed = None;
         restart(&mut self.parts, &self.head);
     }
 }

@@ -10,7 +10,7 @@ ghost use Rattle.st_names.specs.declared.seen.SeenText.{SeenText};
 
 use crate::head::Head;
 use crate::slot::{Next, Slot};
-use st_base::{Ids, Seq};
+use st_base::{Ids, Seq, Shared};
 use st_calls::Snapshot;
 use st_names::{AbsName, Seen};
 use std::alloc::{AllocError, Global};
@@ -194,14 +194,29 @@ impl Slots {
         slot.saw(alloc, seen)
     }
 
-    /// A message with the texts of its arguments, as they were copied and looked up.
-    pub fn seal(&self, alloc: Global, seq: Seq) -> Result<Snapshot, AllocError>
+    /// A message with the texts of its arguments, as they were copied and looked up. They are made only where it wasn't sealed.
+    pub fn copies(&self, alloc: Global, seq: Seq) -> Result<Shared<Snapshot>, AllocError>
         requires slot { IsSome (slot_at self.now seq) }
         requires ready { IfSome (slot_at self.now seq) (λ slot. IsReady (progress_of slot)) }
         ensures args { IfOk result (λ snapshot. IfSome (slot_at self.now seq) (λ slot. progress_of slot ≡ Ready snapshot.parts)) }
         ensures head { IfOk result (λ snapshot. IfSome (slot_at self.now seq) (λ slot. snapshot ≡ snapshot_with slot.head snapshot.parts)) }
     {
-        self.slot(seq).seal(alloc)
+        self.slot(seq).copies(alloc)
+    }
+
+    /// The same, which is kept until something is undone or the message begins anew, so that it is made once.
+    pub fn seal(&mut self, alloc: Global, seq: Seq) -> Result<Shared<Snapshot>, AllocError>
+        requires slot { IsSome (slot_at self.old seq) }
+        requires ready { IfSome (slot_at self.old seq) (λ slot. IsReady (progress_of slot)) }
+        ensures same { self.new ≡ self.old }
+        ensures args { IfOk result (λ snapshot. IfSome (slot_at self.old seq) (λ slot. progress_of slot ≡ Ready snapshot.parts)) }
+        ensures head { IfOk result (λ snapshot. IfSome (slot_at self.old seq) (λ slot. snapshot ≡ snapshot_with slot.head snapshot.parts)) }
+    {
+        let Ok(place) = place_of(&self.slots, seq) else {
+            unreachable!()
+        };
+        let slot = &mut self.slots[place];
+        slot.seal(alloc)
     }
 
     /// Undoes the last `fill` or `saw` of a message; nothing is readied then. It takes no memory.

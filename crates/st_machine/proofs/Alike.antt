@@ -88,7 +88,7 @@ module _ (m : Running) (st : State) (is : IsMachine m st) where
   head_by : (q : ℕ) (b : Bool) → is_live st q ≡ b → (head : kept.Head) → message_at m q ≡ Some head → (tid : ℕ) × ((st.messages q).head ≡ Some (head_of tid head))
   head_by q true live head there =
       let x = live_message q live in
-      (x.1, x.3 ∙ ap (λ (o : Option kept.Head). option_map (head_of x.1) o) (sym x.2 ∙ there) )
+      (x.1, x.3 ∙ ap (λ (o : Option kept.Head). option_map (head_of x.1) o) (sym x.2 ∙ there))
   head_by q false dead head there = absurd (none-some head (sym (ap (option_map (λ (slot : Slot). slot.head)) (is.workers.agrees.dead q dead).slot) ∙ there))
 
   holder_alike : (q t : ℕ) → IsHolder st t → are_alike (st.messages q).head (st.messages (st.threads t).number).head ≡ true → (o : Option kept.Head) → message_at m q ≡ o → is_held_alike m o t ≡ true

@@ -162,6 +162,12 @@ permitted_is m st is t q ids copies s parts link aliasing sealed met alias same 
     ap (λ (x : Snapshot). Some (permitted_entry m.input st t q x ids (link_now m.input st x.call x.regs x.parts))) copies_are
     ∙ ap (λ (o : Option Components). Some (permitted_entry m.input st t q copies ids o)) (ap (link_now m.input st copies.call copies.regs) (sym same) ∙ sym (met m.input st is.system alias))
 
+-- the copies that several records hold are those of the message
+pub shared_are : (m : Running) (q : ℕ) (shared copies : Snapshot) → copies ≡ shared
+    → ((i : Input) (state : State) → IsKept i state (is_live state) m.workers → snapshot_in state q ≡ Some shared)
+    → (i : Input) (state : State) → IsKept i state (is_live state) m.workers → snapshot_in state q ≡ Some copies
+shared_are m q shared copies same sealed i state kept = sealed i state kept ∙ ap Some (sym same)
+
 -- what a good result says, a good result says that follows from it
 pub if_ok : {A E : Type 0} (P Q : A → Type 0) (result : Result A E) → ((a : A) → P a → Q a) → IfOk result P → IfOk result Q
 if_ok P Q (Ok a) more x = more a x

@@ -11,7 +11,7 @@ use crate::machine::Machine;
 use crate::step::{Step, Use};
 use st_base::{Errno, Ids, Pid, Seq, Sequence, Tid};
 use st_calls::SysCall;
-use st_trace::{CallResult, Cause, Entry};
+use st_trace::{CallArgs, CallResult, Cause, Entry};
 use std::alloc::{AllocError, Global};
 
 impl<'a> Machine<'a> {
@@ -57,7 +57,7 @@ impl<'a> Machine<'a> {
             seq: None,
             call,
             regs,
-            args: Sequence::new(alloc),
+            args: CallArgs::own(Sequence::new(alloc)),
             ids,
         };
         *added = Some(failed.entry(tid, CallResult::Failed(errno), Sequence::new(alloc)));

@@ -8,7 +8,7 @@ ghost use Rattle.st_operator.specs.Operator.{answers};
 ghost use Rattle.st_trace.specs.declared.entry.Choice.TheVariants.{Operator};
 
 use crate::machine::Machine;
-use st_base::Seq;
+use st_base::{Seq, Shared};
 use st_calls::{Snapshot, Verdict};
 use st_messages::MsgState;
 use st_trace::Entry;
@@ -29,11 +29,11 @@ fn is_undecided(verdict: Verdict) -> bool
 }
 
 // Whether a question was found, with this number or a smaller one.
-fn is_at_most(least: &Option<Snapshot>, seq: Seq) -> bool
+fn is_at_most(least: &Option<Shared<Snapshot>>, seq: Seq) -> bool
     ensures { result ≡ is_at_most least.now seq }
 {
     match least {
-        Some(copies) => copies.seq <= seq,
+        Some(copies) => copies.get().seq <= seq,
         None => false,
     }
 }
@@ -48,14 +48,18 @@ impl<'a> Machine<'a> {
     }
 
     // The copies of a number that is a question: it is answered, no filter decides, and the operator answers.
-    pub(crate) fn question(&self, alloc: Global, seq: Seq) -> Result<Option<Snapshot>, AllocError>
+    pub(crate) fn question(
+        &self,
+        alloc: Global,
+        seq: Seq,
+    ) -> Result<Option<Shared<Snapshot>>, AllocError>
         ensures { IfOk result (IsQuestion self.now seq) }
     {
         if !is_unmatched(self.workers.state(seq)) {
             return Ok(None);
         }
         let copies = self.workers.snapshot(alloc, seq)?;
-        if !self.is_asked(&copies) {
+        if !self.is_asked(copies.get()) {
             return Ok(None);
         }
         Ok(Some(copies))
@@ -65,9 +69,9 @@ impl<'a> Machine<'a> {
     fn lesser(
         &self,
         alloc: Global,
-        least: Option<Snapshot>,
+        least: Option<Shared<Snapshot>>,
         seq: Seq,
-    ) -> Result<Option<Snapshot>, AllocError>
+    ) -> Result<Option<Shared<Snapshot>>, AllocError>
         ensures { IfOk result (IsLeastWith self.now least seq) }
     {
         let _ = &self.input;
@@ -78,7 +82,7 @@ impl<'a> Machine<'a> {
     }
 
     // The copies of the least question.
-    fn least_question(&self, alloc: Global) -> Result<Option<Snapshot>, AllocError>
+    fn least_question(&self, alloc: Global) -> Result<Option<Shared<Snapshot>>, AllocError>
         ensures { IfOk result (IsLeastFound self.now) }
     {
         let mut least = None;
@@ -108,7 +112,7 @@ impl<'a> Machine<'a> {
             *added = None;
             return Ok(());
         };
-        *added = Some(self.operator.answer(alloc, self.input, &copies)?);
+        *added = Some(self.operator.answer(alloc, self.input, copies.get())?);
         Ok(())
     }
 }

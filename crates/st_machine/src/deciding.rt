@@ -17,9 +17,9 @@ use crate::step::{Step, Use};
 use crate::thread::PendingCall;
 use st_arguments::Arguments;
 use st_base::{Errno, Ids, Pid, Seq, Tid};
-use st_calls::{FastAnswer, Rule, Snapshot, SysCall, Verdict};
+use st_calls::{FastAnswer, Rule, SysCall, Verdict};
 use st_messages::MsgState;
-use st_trace::{Cause, Way};
+use st_trace::{CallArgs, Cause, Way};
 use std::alloc::{AllocError, Global};
 
 // A step that denies a held call.
@@ -125,7 +125,7 @@ impl<'a> Machine<'a> {
                 seq: None,
                 call,
                 regs,
-                args,
+                args: CallArgs::own(args),
                 ids,
             }),
             Some(_) => Step::Fail {
@@ -204,11 +204,12 @@ impl<'a> Machine<'a> {
         ensures step { IfOk result (IsDecidedStep self.now tid seq Unmatched) }
         ensures fit { IfOk result (CanBeDone self.now.system) }
     {
-        let copies = self.workers.snapshot(alloc, seq)?;
-        match self.operator.verdict(&self.input.policies, &copies) {
+        let shared = self.workers.snapshot(alloc, seq)?;
+        let copies = shared.get();
+        match self.operator.verdict(&self.input.policies, copies) {
             Verdict::Permit(_, ids) => self.permitted_step(alloc, tid, seq, ids),
             Verdict::Refuse(number, errno) => Ok(deny(seq, errno, Cause::Filter(number))),
-            Verdict::Unmatched if self.operator.answers(self.input, &copies) => Ok(Step::Wait),
+            Verdict::Unmatched if self.operator.answers(self.input, copies) => Ok(Step::Wait),
             Verdict::Unmatched => Ok(deny(seq, Errno::EPERM, Cause::NoFilter)),
         }
     }
@@ -225,24 +226,21 @@ impl<'a> Machine<'a> {
         ensures step { IfOk result (IsPermittedStep self.now tid seq ids) }
         ensures fit { IfOk result (CanBeDone self.now.system) }
     {
-        let copies = self.workers.snapshot(alloc, seq)?;
-        let Snapshot {
-            call,
-            regs,
-            parts,
-            ..
-        } = copies;
+        let shared = self.workers.snapshot(alloc, seq)?;
+        let copies = shared.get();
+        let call = copies.call;
+        let regs = copies.regs;
         let aliasing = self.input.options.aliasing;
         let link = self
             .system
-            .link_met(alloc, call, &regs, parts.as_slice(), aliasing)?;
+            .link_met(alloc, call, &regs, copies.parts.as_slice(), aliasing)?;
         match link {
             Some(name) => Ok(deny(seq, Errno::ELOOP, Cause::Link(name))),
             None => Ok(Step::Make(Use {
                 seq: Some(seq),
                 call,
                 regs,
-                args: parts,
+                args: CallArgs::judged(shared),
                 ids,
             })),
         }

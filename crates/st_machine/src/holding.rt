@@ -30,7 +30,8 @@ impl<'a> Machine<'a> {
         ensures { result ≡ is_alike message.now (message_held self.now tid) }
     {
         match self.message_held(tid) {
-            Some(held) => message.rule == held.rule && message.policy.bytes() == held.policy.bytes(),
+            Some(held) => message.rule == held.rule
+                && message.policy.bytes() == held.policy.bytes(),
             None => false,
         }
     }

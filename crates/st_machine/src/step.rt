@@ -8,8 +8,8 @@ ghost use Rattle.st_system.specs.System.{Parts};
 ghost use Rattle.st_trace.specs.declared.entry.Entry.TheVariants.{Used};
 
 use st_base::{Errno, Ids, Seq, Sequence, Tid};
-use st_calls::{ArgText, SysCall};
-use st_trace::{CallResult, Cause, Change, Entry, Instr};
+use st_calls::SysCall;
+use st_trace::{CallArgs, CallResult, Cause, Change, Entry, Instr};
 
 /// What a thread does next.
 #[derive(Debug, Drop)]
@@ -51,7 +51,7 @@ pub struct Use {
     pub seq: Option<Seq>,
     pub call: SysCall,
     pub regs: [u64; 6],
-    pub args: Sequence<ArgText>,
+    pub args: CallArgs,
     pub ids: Ids,
 }
 

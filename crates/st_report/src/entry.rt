@@ -331,9 +331,10 @@ fn append_worker_entry(alloc: Global, text: &mut Text, entry: &Entry) -> Result<
             verdict,
             applied,
         } => {
-            append_numbered(text, b"answered", &[u64::from(*worker), snapshot.seq])?;
-            append_judged(text, snapshot)?;
-            append_answer(text, snapshot, *verdict, *applied)
+            let copies = snapshot.get();
+            append_numbered(text, b"answered", &[u64::from(*worker), copies.seq])?;
+            append_judged(text, copies)?;
+            append_answer(text, copies, *verdict, *applied)
         }
         _ => unreachable!(),
     }

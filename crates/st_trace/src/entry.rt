@@ -1,5 +1,6 @@
-use st_base::{Errno, Ids, Obj, Pid, Seq, Sequence, Space, Text, Tid, Worker};
-use st_calls::{ArgText, Snapshot, SysCall, Verdict};
+use crate::call_args::CallArgs;
+use st_base::{Errno, Ids, Obj, Pid, Seq, Sequence, Shared, Space, Text, Tid, Worker};
+use st_calls::{Snapshot, SysCall, Verdict};
 use st_model::NewKind;
 use st_names::{AbsName, SeenText};
 
@@ -55,7 +56,7 @@ pub enum Entry {
     /// A worker answers with a verdict on its snapshot.
     Answered {
         worker: Worker,
-        snapshot: Snapshot,
+        snapshot: Shared<Snapshot>,
         verdict: Verdict,
         /// Whether the message still waited for it.
         applied: bool,
@@ -80,7 +81,7 @@ pub enum Entry {
         seq: Option<Seq>,
         call: SysCall,
         regs: [u64; 6],
-        args: Sequence<ArgText>,
+        args: CallArgs,
         ids: Ids,
         result: CallResult,
         changes: Sequence<Change>,

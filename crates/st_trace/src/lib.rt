@@ -1,9 +1,11 @@
 //! What a run of the modelled kernel is: where it starts, and the entries of its trace.
 #![tactic(auto)]
 
+mod call_args;
 pub mod entry;
 pub mod start;
 
+pub use call_args::CallArgs;
 pub use entry::{CallResult, Cause, Change, Choice, Entry, Way};
 pub use st_model::{NewKind, NewNode};
 pub use start::{GroupRow, Instr, ProcessRow, Start, ThreadRow, TreeRow, UserRow};

@@ -12,7 +12,7 @@ ghost use Rattle.st_workers.specs.declared.turn.Turn.TheVariants.{Ready, Working
 
 use crate::task::Task;
 use crate::turn::Turn;
-use st_base::{Pid, Seq};
+use st_base::{Pid, Seq, Shared};
 use st_calls::Snapshot;
 use st_lookaside::{Next, Slots};
 use st_names::Seen;
@@ -38,9 +38,10 @@ pub fn task_at(seq: Seq, pid: Pid, next: Next) -> Task
 
 /// The turn of the worker of a message: where all is there, it is sealed.
 #[inline]
-pub fn turn_for(slots: &Slots, alloc: Global, seq: Seq) -> Result<Turn, AllocError>
-    requires { IsSome (slot_at slots.now seq) }
-    ensures { IfOk result (λ turn. IfSome (slot_at slots.now seq) (λ slot. IsTurnFor seq slot turn)) }
+pub fn turn_for(slots: &mut Slots, alloc: Global, seq: Seq) -> Result<Turn, AllocError>
+    requires { IsSome (slot_at slots.old seq) }
+    ensures same { slots.new ≡ slots.old }
+    ensures turn { IfOk result (λ turn. IfSome (slot_at slots.old seq) (λ slot. IsTurnFor seq slot turn)) }
 {
     if let Next::Ready = slots.next(seq) {
         return Ok(Turn::Ready(slots.seal(alloc, seq)?));
@@ -49,7 +50,7 @@ pub fn turn_for(slots: &Slots, alloc: Global, seq: Seq) -> Result<Turn, AllocErr
 }
 
 // Seals a message of which its last word or look made the whole. Without memory that word or look is undone.
-fn seal_last(slots: &mut Slots, alloc: Global, seq: Seq) -> Result<Snapshot, AllocError>
+fn seal_last(slots: &mut Slots, alloc: Global, seq: Seq) -> Result<Shared<Snapshot>, AllocError>
     requires slot { IsSome (slot_at slots.old seq) }
     requires ready { IfSome (slot_at slots.old seq) (λ slot. IsReady (progress_of slot)) }
     ensures same { OnOk result (slots.new ≡ slots.old) }

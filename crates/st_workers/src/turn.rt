@@ -1,4 +1,4 @@
-use st_base::Seq;
+use st_base::{Seq, Shared};
 use st_calls::Snapshot;
 
 /// What a worker is at.
@@ -9,5 +9,5 @@ pub enum Turn {
     /// The message of this number, of which not all is there.
     Working(Seq),
     /// The answer to these copies, which were sealed in the step that made them whole.
-    Ready(Snapshot),
+    Ready(Shared<Snapshot>),
 }

@@ -27,7 +27,7 @@ ghost use Rattle.st_workers.specs.declared.task.Task.TheVariants.{Answer, Claim,
 use crate::filling;
 use crate::task::Task;
 use crate::turn::Turn;
-use st_base::{Ids, Seq, Tid, Worker};
+use st_base::{Ids, Seq, Shared, Tid, Worker};
 use st_calls::{Snapshot, Verdict};
 use st_lookaside::{Head, Next, Slots};
 use st_messages::{Delivered, Messages, MsgState};
@@ -154,7 +154,7 @@ impl Workers {
         let Turn::Ready(snapshot) = &self.turns[worker as usize - 1] else {
             unreachable!()
         };
-        snapshot
+        snapshot.get()
     }
 
     /// What a worker does next.
@@ -213,7 +213,7 @@ impl Workers {
         let Some(seq) = self.messages.least_waiting() else {
             unreachable!()
         };
-        let turn = filling::turn_for(&self.slots, alloc, seq)?;
+        let turn = filling::turn_for(&mut self.slots, alloc, seq)?;
         self.turns[worker as usize - 1] = turn;
         self.messages.claim(worker);
         Ok(seq)
@@ -284,7 +284,7 @@ impl Workers {
 
     /// A worker answers with the verdict on its copies, which it gives, and is idle. The answer is applied exactly where the number of
     /// the copies is live. It takes no memory.
-    pub fn answer(&mut self, worker: Worker, verdict: Verdict) -> (Snapshot, Delivered)
+    pub fn answer(&mut self, worker: Worker, verdict: Verdict) -> (Shared<Snapshot>, Delivered)
         requires { task_of self.old worker ≡ Answer }
         ensures copies { turn_at self.old worker ≡ Some (Ready result.0) }
         ensures applied { (result.1 ≡ Applied) ↔ (is_live self.old.calls result.0.seq ≡ true) }
@@ -298,16 +298,16 @@ impl Workers {
         let Turn::Ready(snapshot) = turn else {
             unreachable!()
         };
-        let delivered = self.messages.answer(snapshot.seq, verdict);
+        let delivered = self.messages.answer(snapshot.get().seq, verdict);
         (snapshot, delivered)
     }
 
     /// The copies of a message that is answered.
-    pub fn snapshot(&self, alloc: Global, seq: Seq) -> Result<Snapshot, AllocError>
+    pub fn snapshot(&self, alloc: Global, seq: Seq) -> Result<Shared<Snapshot>, AllocError>
         requires { IsAnswered (state_at self.now.calls seq) }
         ensures { IfOk result (λ copies. (i : Input) (st : State) → IsKept i st (is_live_in st) self.now → snapshot_in st seq ≡ Some copies) }
     {
-        self.slots.seal(alloc, seq)
+        self.slots.copies(alloc, seq)
     }
 
     /// Ends a live number, as its call is made or denied, or its thread is dying. A worker at it is idle, unless it is ready: then it

@@ -14,5 +14,5 @@ returns c =
     let specs : map (λ (p : Part). p.spec) new ≡ map (λ (p : Part). p.spec) old = c.restart.ensures.specs ∙ ap (map (λ (p : Part). p.spec)) c.deref_mut.ensures.value in
     let long : length new ≡ length old = sym (length-map new (λ (p : Part). p.spec)) ∙ ap length specs ∙ length-map old (λ (p : Part). p.spec) in
     ap (λ (l : List Part). record { head = head; parts = map filled_of l }) (whole_again new old c.self.inside.parts.len c.self.inside.parts.ok.0 long)
-    ∙ begun_anew head new (specs ∙ c.self.invariant.specs) c.restart.ensures.filled
+    ∙ begun_anew head new (specs ∙ c.self.invariant.slot.specs) c.restart.ensures.filled
     ∙ ap (λ (s : Slot). renewed s c.args.seq c.args.ids c.args.cwd) c.self.view_is

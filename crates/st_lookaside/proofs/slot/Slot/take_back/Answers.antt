@@ -7,10 +7,12 @@ use Rattle.st_lookaside.proofs.Undone.{changed_begun, changed_last, some_look, s
 use Rattle.st_lookaside.proofs.slot.Slot.take_back.Goals as goal
 
 pub invariant_of-self : goal.invariant_of-self
-invariant_of-self c =
-    slot_kept c.self.inside.head c.self.inside.parts.items c.in-Some.j c.index_mut-part.result.now c.take_back.new.self c.self.invariant
-    (turn_of_last c.self.inside.head c.self.inside.parts.items c.in-Some.j c.self.invariant (subst (λ (l : List Part). IsLastBegun l c.in-Some.j) c.deref.ensures.value c.in-Some.ensures.some))
-    c.index_mut-part.ensures.value c.take_back.ensures.part c.take_back.ensures.spec
+invariant_of-self c = record {
+  slot = slot_kept c.self.inside.head c.self.inside.parts.items c.in-Some.j c.index_mut-part.result.now c.take_back.new.self c.self.invariant.slot
+      (turn_of_last c.self.inside.head c.self.inside.parts.items c.in-Some.j c.self.invariant.slot (subst (λ (l : List Part). IsLastBegun l c.in-Some.j) c.deref.ensures.value c.in-Some.ensures.some))
+      c.index_mut-part.ensures.value c.take_back.ensures.part c.take_back.ensures.spec;
+  sealed = tt;
+}
 
 pub returns-in-Some-clause-word : goal.returns-in-Some-clause-word
 returns-in-Some-clause-word c = λ before word order next is.
@@ -19,14 +21,14 @@ returns-in-Some-clause-word c = λ before word order next is.
     let part : Part = c.index_mut-part.result.now in
     let filled : Filled = part_at before.parts (part_next (progress_of before)) in
     let due = word_is_due _ next in
-    let last = changed_last head parts c.args.self.now before (with_word filled word) c.self.invariant c.self.view_is order due (some_word filled word) is c.in-Some.j part (subst (λ (l : List Part). IsLastBegun l c.in-Some.j) c.deref.ensures.value c.in-Some.ensures.some) c.index_mut-part.ensures.value in
+    let last = changed_last head parts c.args.self.now before (with_word filled word) c.self.invariant.slot c.self.view_is order due (some_word filled word) is c.in-Some.j part (subst (λ (l : List Part). IsLastBegun l c.in-Some.j) c.deref.ensures.value c.in-Some.ensures.some) c.index_mut-part.ensures.value in
     view_with head parts c.args.self.now c.in-Some.j c.take_back.new.self (without_walk filled) c.self.view_is (c.take_back.ensures.word filled word (order.unseen next) last.1)
-    ∙ undone head parts c.args.self.now before (with_word filled word) c.self.invariant c.self.view_is order due (some_word filled word) is c.in-Some.j (without_walk filled) last.0
+    ∙ undone head parts c.args.self.now before (with_word filled word) c.self.invariant.slot c.self.view_is order due (some_word filled word) is c.in-Some.j (without_walk filled) last.0
 
 pub returns-in_default-clause-word : goal.returns-in_default-clause-word
 returns-in_default-clause-word c = λ before word order next is.
     let filled : Filled = part_at before.parts (part_next (progress_of before)) in
-    absurd (changed_begun c.self.inside.head c.self.inside.parts.items c.args.self.now before (with_word filled word) c.self.invariant c.self.view_is order (word_is_due _ next) (some_word filled word) is
+    absurd (changed_begun c.self.inside.head c.self.inside.parts.items c.args.self.now before (with_word filled word) c.self.invariant.slot c.self.view_is order (word_is_due _ next) (some_word filled word) is
     (subst (λ (l : List Part). AreNotBegun l 0) c.deref.ensures.value (c.in_default.ensures.none refl)))
 
 pub returns-in-Some-clause-look : goal.returns-in-Some-clause-look
@@ -36,12 +38,12 @@ returns-in-Some-clause-look c = λ before seen order next is.
     let part : Part = c.index_mut-part.result.now in
     let filled : Filled = part_at before.parts (part_next (progress_of before)) in
     let due = look_is_due _ next in
-    let last = changed_last head parts c.args.self.now before (with_lookup filled seen) c.self.invariant c.self.view_is order due (some_look filled seen) is c.in-Some.j part (subst (λ (l : List Part). IsLastBegun l c.in-Some.j) c.deref.ensures.value c.in-Some.ensures.some) c.index_mut-part.ensures.value in
+    let last = changed_last head parts c.args.self.now before (with_lookup filled seen) c.self.invariant.slot c.self.view_is order due (some_look filled seen) is c.in-Some.j part (subst (λ (l : List Part). IsLastBegun l c.in-Some.j) c.deref.ensures.value c.in-Some.ensures.some) c.index_mut-part.ensures.value in
     view_with head parts c.args.self.now c.in-Some.j c.take_back.new.self (without_walk filled) c.self.view_is (c.take_back.ensures.seen filled seen last.1)
-    ∙ undone head parts c.args.self.now before (with_lookup filled seen) c.self.invariant c.self.view_is order due (some_look filled seen) is c.in-Some.j (without_walk filled) last.0
+    ∙ undone head parts c.args.self.now before (with_lookup filled seen) c.self.invariant.slot c.self.view_is order due (some_look filled seen) is c.in-Some.j (without_walk filled) last.0
 
 pub returns-in_default-clause-look : goal.returns-in_default-clause-look
 returns-in_default-clause-look c = λ before seen order next is.
     let filled : Filled = part_at before.parts (part_next (progress_of before)) in
-    absurd (changed_begun c.self.inside.head c.self.inside.parts.items c.args.self.now before (with_lookup filled seen) c.self.invariant c.self.view_is order (look_is_due _ next) (some_look filled seen) is
+    absurd (changed_begun c.self.inside.head c.self.inside.parts.items c.args.self.now before (with_lookup filled seen) c.self.invariant.slot c.self.view_is order (look_is_due _ next) (some_look filled seen) is
     (subst (λ (l : List Part). AreNotBegun l 0) c.deref.ensures.value (c.in_default.ensures.none refl)))

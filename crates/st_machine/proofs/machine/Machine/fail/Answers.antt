@@ -52,9 +52,9 @@ pub invariant_of-self : goal.invariant_of-self
 invariant_of-self c = running_step (old c) (new c c.close.new.self) (choice.Thread c.args.tid) (entry.Used c.args.tid None c.args.call c.args.regs [] c.args.ids (Failed c.args.errno) []) c.self.invariant (step c)
 
 -- nothing stands in the lists of arguments and changes
-empty : (c : goal.Joined-added) → IsStep (old c) (choice.Thread c.args.tid) (Some (entry.Used c.args.tid None c.args.call c.args.regs c.new.result c.args.ids (Failed c.args.errno) c.new-2.result)) (new c c.close.new.self)
+empty : (c : goal.Joined-added) → IsStep (old c) (choice.Thread c.args.tid) (Some (entry.Used c.args.tid None c.args.call c.args.regs c.own.result c.args.ids (Failed c.args.errno) c.new-2.result)) (new c c.close.new.self)
 empty c =
-    subst (λ (args : List ArgText). IsStep (old c) (choice.Thread c.args.tid) (Some (entry.Used c.args.tid None c.args.call c.args.regs args c.args.ids (Failed c.args.errno) c.new-2.result)) (new c c.close.new.self)) (sym c.new.ensures)
+    subst (λ (args : List ArgText). IsStep (old c) (choice.Thread c.args.tid) (Some (entry.Used c.args.tid None c.args.call c.args.regs args c.args.ids (Failed c.args.errno) c.new-2.result)) (new c c.close.new.self)) (sym (c.own.ensures ∙ c.new.ensures))
     (subst (λ (changes : List Change). IsStep (old c) (choice.Thread c.args.tid) (Some (entry.Used c.args.tid None c.args.call c.args.regs [] c.args.ids (Failed c.args.errno) changes)) (new c c.close.new.self)) (sym c.new-2.ensures) (step c))
 
 pub returns-clause-step : goal.returns-clause-step

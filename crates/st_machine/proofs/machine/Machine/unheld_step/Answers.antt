@@ -2,7 +2,7 @@ use Rattle.std.proofs.Common.{◌∙◌, List, ap, refl, sym, subst}
 use Rattle.st_arguments.specs.Arguments.{progress_of}
 use Rattle.st_calls.specs.declared.argument.ArgText.{ArgText}
 use Rattle.st_exec_fs.specs.Open.{IsNoLink}
-use Rattle.st_system.specs.Fit.{first_name}
+use Rattle.st_system.specs.Fit.{AreFit, first_name}
 use Rattle.st_system.proofs.Fit.{step_fit}
 use Rattle.st_machine.specs.Machine.{Running}
 use Rattle.st_machine.specs.NextSteps.{CanBeDone}
@@ -15,9 +15,10 @@ returns-clause-fit c =
     let st = c.self.invariant.state in
     elim c.match-link.branch [
       | in-None w ↦ subst (CanBeDone c.args.self.now.system) (sym w.result-is) (record {
-        fit = step_fit m.input st c.args.tid c.entered.inside.call c.entered.inside.regs c.in-Ready.args (c.in_ok-args.ensures m.input st c.self.invariant.is.system refl ∙ ap progress_of c.in-Ready.is);
-        unlinked = λ follow. subst (λ (k : Running). IsNoLink k.system.tree (first_name c.in-Ready.args)) c.self.view_is
-            (subst (λ (args : List ArgText). IsNoLink m.system.tree (first_name args)) c.as_slice.ensures (c.in_ok-link.ensures.unlinked w.in-None.is follow));
+        fit = subst (λ (args : List ArgText). AreFit c.entered.inside.call args) (sym w.own.ensures)
+            (step_fit m.input st c.args.tid c.entered.inside.call c.entered.inside.regs c.in-Ready.args (c.in_ok-args.ensures m.input st c.self.invariant.is.system refl ∙ ap progress_of c.in-Ready.is));
+        unlinked = λ follow. subst (λ (k : Running). IsNoLink k.system.tree (first_name w.own.result)) c.self.view_is
+            (subst (λ (args : List ArgText). IsNoLink m.system.tree (first_name args)) (c.as_slice.ensures ∙ sym w.own.ensures) (c.in_ok-link.ensures.unlinked w.in-None.is follow));
       })
       | in-Some w ↦ subst (CanBeDone c.args.self.now.system) (sym w.result-is) tt
     ]

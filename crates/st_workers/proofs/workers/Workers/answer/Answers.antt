@@ -1,4 +1,5 @@
 use Rattle.std.proofs.Common.{◌≡◌, ◌↔◌, ◌-◌, ◌∙◌, set, Some, true, ap, refl, sym, subst}
+use Rattle.st_calls.specs.declared.judged.Snapshot.{Snapshot}
 use Rattle.st_messages.specs.Messages.{is_live}
 use Rattle.st_messages.specs.declared.message.Delivered.TheVariants.{Applied}
 use Rattle.st_workers.specs.Kept.{IsKept}
@@ -33,7 +34,7 @@ put : (c : goal.After-answer-delivered) → (new c).turns ≡ set (old c).turns 
 put c = ap (λ (t : Turn). set (old c).turns (c.args.worker - 1) t) c.replace-turn.ensures.after
 
 delivered : (c : goal.After-answer-delivered) → IsDelivered (old c).calls (new c).calls c.in-Ready.snapshot.seq c.args.verdict c.answer-delivered.result
-delivered c = record { applied = c.answer-delivered.ensures.applied; ok = c.answer-delivered.ensures.ok; stale = c.answer-delivered.ensures.stale }
+delivered c = subst (λ (s : Snapshot). IsDelivered (old c).calls (new c).calls s.seq c.args.verdict c.answer-delivered.result) c.get.ensures (record { applied = c.answer-delivered.ensures.applied; ok = c.answer-delivered.ensures.ok; stale = c.answer-delivered.ensures.stale })
 
 pub invariant_of-self : goal.invariant_of-self
 invariant_of-self c = answered_whole (old c) (new c) c.args.worker c.in-Ready.snapshot c.args.verdict c.answer-delivered.result (ready c) (delivered c) refl (put c) c.self.invariant

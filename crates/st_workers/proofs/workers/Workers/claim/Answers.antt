@@ -1,4 +1,4 @@
-use Rattle.std.proofs.Common.{◌≡◌, ◌≤◌, ◌∙◌, ◌-◌, ℕ, set, length, Some, ap, refl, sym, subst}
+use Rattle.std.proofs.Common.{◌≡◌, ◌≤◌, ◌∙◌, ◌-◌, ℕ, List, set, length, Some, ap, refl, sym, subst}
 use Rattle.st_lookaside.specs.Slot.{Slot}
 use Rattle.st_lookaside.specs.Slots.{slot_at}
 use Rattle.st_messages.specs.Messages.{with_state}
@@ -6,7 +6,7 @@ use Rattle.st_messages.specs.declared.message.MsgState.TheVariants.{Waiting, Cla
 use Rattle.st_law.specs.State.{is_live}
 use Rattle.st_trace.specs.declared.entry.Entry.TheVariants as entry
 use Rattle.st_workers.specs.Filling.{IsTurnFor}
-use Rattle.st_workers.specs.Kept.{Follows, IsKept}
+use Rattle.st_workers.specs.Kept.{Follows, IsKept, IsWhole}
 use Rattle.st_workers.specs.Tasks.{task_of}
 use Rattle.st_workers.specs.UnderWay.{turn_at, UnderWay}
 use Rattle.st_workers.specs.declared.turn.Turn.TheVariants.{Idle}
@@ -20,7 +20,7 @@ abbrev old : goal.After-claim → UnderWay
 old c = record { calls = c.self.inside.messages; slots = c.self.inside.slots; turns = c.self.inside.turns.items }
 
 abbrev new : goal.After-claim → UnderWay
-new c = record { calls = c.claim.new.self; slots = c.self.inside.slots; turns = set c.self.inside.turns.items (c.args.worker - 1) c.in_ok-turn.turn }
+new c = record { calls = c.claim.new.self; slots = c.turn_for.new.slots; turns = set c.self.inside.turns.items (c.args.worker - 1) c.in_ok-turn.turn }
 
 idle : (c : goal.After-claim) → turn_at (old c) c.args.worker ≡ Some Idle
 idle c = (claims_idle (old c) (turn_at (old c) c.args.worker) (ap (λ (k : UnderWay). task_of k c.args.worker) c.self.view_is ∙ c.requires)).0
@@ -32,15 +32,19 @@ calls : (c : goal.After-claim) → (new c).calls ≡ with_state (old c).calls c.
 calls c = told c.claim.result (λ seq. c.claim.new.self ≡ with_state (old c).calls seq (Claimed c.args.worker)) c.in-Some.seq (c.claim.ensures.first ∙ sym c.in-Some.ensures.first) c.claim.ensures.ok
 
 turn : (c : goal.After-claim) → IsTurnFor c.in-Some.seq (slot c).0 c.in_ok-turn.turn
-turn c = told (slot_at (old c).slots c.in-Some.seq) (λ s. IsTurnFor c.in-Some.seq s c.in_ok-turn.turn) (slot c).0 (slot c).1 c.in_ok-turn.ensures
+turn c = told (slot_at (old c).slots c.in-Some.seq) (λ s. IsTurnFor c.in-Some.seq s c.in_ok-turn.turn) (slot c).0 (slot c).1 c.in_ok-turn.ensures.turn
 
+-- without memory
 pub invariant_of-self : goal.invariant_of-self
-invariant_of-self c = claimed_whole (old c) (new c) c.args.worker c.in-Some.seq (slot c).0 c.in_ok-turn.turn (idle c) c.in-Some.ensures.least.waiting (slot c).1 (calls c) refl refl (turn c) c.self.invariant
+invariant_of-self c = subst (λ (slots : List Slot). IsWhole (record { calls = c.self.inside.messages; slots = slots; turns = c.self.inside.turns.items })) (sym c.turn_for.ensures.same) c.self.invariant
+
+pub invariant_of-self-2 : goal.invariant_of-self-2
+invariant_of-self-2 c = claimed_whole (old c) (new c) c.args.worker c.in-Some.seq (slot c).0 c.in_ok-turn.turn (idle c) c.in-Some.ensures.least.waiting (slot c).1 (calls c) c.turn_for.ensures.same refl (turn c) c.self.invariant
 
 pub returns-clause-kept : goal.returns-clause-kept
 returns-clause-kept c =
     let follows : Follows (old c) (entry.Claimed c.args.worker c.in-Some.seq) (new c) =
-    claimed_follows (old c) (new c) c.args.worker c.in-Some.seq (slot c).0 c.in_ok-turn.turn (idle c) c.in-Some.ensures.least.waiting (slot c).1 (calls c) refl refl (turn c) in
+    claimed_follows (old c) (new c) c.args.worker c.in-Some.seq (slot c).0 c.in_ok-turn.turn (idle c) c.in-Some.ensures.least.waiting (slot c).1 (calls c) c.turn_for.ensures.same refl (turn c) in
     subst (λ (k : UnderWay). Follows k (entry.Claimed c.args.worker c.in-Some.seq) (new c)) c.self.view_is follows
 
 pub returns-clause-law : goal.returns-clause-law

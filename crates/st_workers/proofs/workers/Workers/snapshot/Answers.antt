@@ -12,7 +12,7 @@ use Rattle.st_workers.proofs.workers.Workers.snapshot.Goals as goal
 pub returns : goal.returns
 returns c =
     let kept : UnderWay = record { calls = c.self.inside.messages; slots = c.self.inside.slots; turns = c.self.inside.turns.items } in
-    both_ok c.seal.result (λ s. IfSome (slot_at kept.slots c.args.seq) (λ slot. progress_of slot ≡ Ready s.parts)) (λ s. IfSome (slot_at kept.slots c.args.seq) (λ slot. s ≡ snapshot_with slot.head s.parts)) _
+    both_ok c.copies.result (λ s. IfSome (slot_at kept.slots c.args.seq) (λ slot. progress_of slot ≡ Ready s.parts)) (λ s. IfSome (slot_at kept.slots c.args.seq) (λ slot. s ≡ snapshot_with slot.head s.parts)) _
     (λ s args head i st is. sealed_is kept c.args.seq s args head c.self.invariant (subst (λ (k : UnderWay). IsAnswered (state_at k.calls c.args.seq)) (sym c.self.view_is) c.requires) i st
     (subst (λ (k : UnderWay). IsKept i st (is_live st) k) (sym c.self.view_is) is))
-    c.seal.ensures.args c.seal.ensures.head
+    c.copies.ensures.args c.copies.ensures.head

@@ -6,7 +6,7 @@ use Rattle.st_lookaside.specs.Head.{request_of}
 use Rattle.st_lookaside.specs.Slot.{Slot, progress_of, IsReady}
 use Rattle.st_lookaside.specs.declared.part.Part.{Part}
 use Rattle.st_lookaside.proofs.Progress.{ready_args, ready_finished, AreArgs, AreArgs-push}
-use Rattle.st_lookaside.proofs.slot.Slot.seal.Goals as goal
+use Rattle.st_lookaside.proofs.slot.Slot.snapshot.Goals as goal
 
 pub arg-requires-clause-need : goal.arg-requires-clause-need
 arg-requires-clause-need c =
@@ -14,7 +14,7 @@ arg-requires-clause-need c =
     let i = c.loop-part.part-index in
     let within : i < length parts = subst (λ (l : List Part). i < length l) c.deref-part-items.ensures.value c.loop-part-test.true in
     ap (λ (p : Part). p.need) (c.part-item.is ∙ ap (λ (l : List Part). get_or l i c.part-item.result) c.deref-part-items.ensures.value)
-    ∙ ready_finished c.self.inside.head parts i c.part-item.result c.self.invariant.specs c.self.invariant.parts (subst (λ (s : Slot). IsReady (progress_of s)) (sym c.self.view_is) c.requires) within
+    ∙ ready_finished c.self.inside.head parts i c.part-item.result c.self.invariant.slot.specs c.self.invariant.slot.parts (subst (λ (s : Slot). IsReady (progress_of s)) (sym c.self.view_is) c.requires) within
 
 pub loop-part-preserved : goal.loop-part-preserved
 loop-part-preserved c =
@@ -34,5 +34,5 @@ returns-clause-args c =
     let len = ap length c.deref-part-items.ensures.value in
     let all : c.loop-part.part-index ≡ length parts = omega (arith, len, c.loop-part-test.false, c.loop-part.auto.part-index-end) in
     sym (ap progress_of c.self.view_is)
-    ∙ ready_args c.self.inside.head parts c.loop-part.args c.self.invariant.specs
+    ∙ ready_args c.self.inside.head parts c.loop-part.args c.self.invariant.slot.specs
     (subst (λ (l : List Part). AreArgs (request_of c.self.inside.head) l c.loop-part.args) (ap (λ (n : ℕ). take n parts) all ∙ take-length parts) c.loop-part.invariant)

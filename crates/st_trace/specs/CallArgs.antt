@@ -1,0 +1,9 @@
+-- The arguments of a call, whoever holds them.
+use Rattle.std.specs.Prelude.{List}
+use Rattle.st_calls.specs.declared.argument.ArgText.{ArgText}
+use Rattle.st_trace.specs.declared.call_args.HeldArgs.{HeldArgs}
+use Rattle.st_trace.specs.declared.call_args.HeldArgs.TheVariants.{Own, Judged}
+
+abbrev pub args_held : HeldArgs → List ArgText
+args_held (Own args) = args
+args_held (Judged copies) = copies.parts
