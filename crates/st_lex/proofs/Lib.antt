@@ -6,6 +6,7 @@ pub mod Insides
 pub mod Lines
 pub mod Parts
 pub mod Pieces
+pub mod Plains
 pub mod Prints
 pub mod Runs
 pub mod Scans

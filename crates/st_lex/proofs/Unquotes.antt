@@ -42,7 +42,7 @@ record Spells (names : List Named) (spelled : List ℕ) (b : ℕ) : Type 0 where
 abbrev pub AreApart : List Named → Type 0
 AreApart names = (b : ℕ) (bs : List ℕ) → b ≢ 36 → named_front names (b ∷ bs) ≡ plain_front (b ∷ bs)
 
-none_apart : AreApart []
+pub none_apart : AreApart []
 none_apart b bs n = refl
 
 pub dollars_apart : (dollars : Dollars) → AreApart (dollar_names dollars)

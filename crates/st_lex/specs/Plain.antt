@@ -3,7 +3,6 @@ use Rattle.std.specs.Prelude.{ℕ, ◌==◌, if◌then◌else◌, List, Option, 
 use Rattle.std.specs.List.{list_any}
 use Rattle.st_lex.specs.declared.token.LexFault.{LexFault}
 use Rattle.st_lex.specs.declared.token.Token.{Token}
-use Rattle.st_lex.specs.declared.token.Lexed.{Lexed}
 use Rattle.st_lex.specs.Tokens.{lexed_text}
 
 -- the byte `#`

@@ -1,5 +1,5 @@
 -- Quoted texts: where one ends, and the first fault inside.
-use Rattle.std.specs.Prelude.{ℕ, ◌+◌, Bool, false, ◌==◌, ◌&&◌, not, if◌then◌else◌, List, [], ◌∷◌, Option, None, Some}
+use Rattle.std.specs.Prelude.{ℕ, ◌+◌, Bool, false, ◌==◌, ◌&&◌, ◌||◌, not, if◌then◌else◌, List, [], ◌∷◌, Option, None, Some}
 use Rattle.std.specs.Char.{is_ascii_hexdigit}
 use Rattle.st_lex.specs.declared.token.LexFault.{LexFault}
 use Rattle.st_lex.specs.declared.token.LexFault.TheVariants.{BadByte, OpenQuote, BadEscape}
@@ -30,6 +30,10 @@ closing_len (b ∷ c ∷ cs) =
     else (if b == newline then None
     else (if b == backslash then (if c == newline then None else count_after 2 (closing_len cs))
     else count_after 1 (closing_len (c ∷ cs))))
+
+-- whether a byte neither closes a quoted text, nor begins an escape, nor is a fault there
+abbrev pub is_inner_byte : ℕ → Bool
+is_inner_byte b = not ((b == 0) || (b == newline) || (b == quote_mark) || (b == backslash))
 
 -- a fault that is some bytes further on
 abbrev pub fault_after : ℕ → LexFault → LexFault

@@ -1,5 +1,5 @@
 -- What a quoted text holds: names are replaced where they stand, escapes are read.
-use Rattle.std.specs.Prelude.{ℕ, zero, suc, ◌+◌, ◌-◌, ◌*◌, ◌==◌, ◌||◌, ◌&&◌, nat_eq, if◌then◌else◌, List, [], ◌∷◌, ◌++◌, length, Option, None, Some, codes}
+use Rattle.std.specs.Prelude.{ℕ, zero, suc, ◌+◌, ◌-◌, ◌*◌, Bool, ◌==◌, ◌||◌, ◌&&◌, not, nat_eq, if◌then◌else◌, List, [], ◌∷◌, ◌++◌, length, Option, None, Some, codes}
 use Rattle.std.specs.Char.{digit_value, is_digit}
 use Rattle.std.specs.List.{starts_with}
 use Rattle.st_lex.specs.declared.unquoted.Dollars.{Dollars}
@@ -65,6 +65,10 @@ unquoted_from names skip [] = []
 unquoted_from names (suc skip) (b ∷ bs) = unquoted_from names skip bs
 unquoted_from names zero (b ∷ bs) =
     (named_front names (b ∷ bs)).text ++ unquoted_from names ((named_front names (b ∷ bs)).len - 1) bs
+
+-- whether a byte can neither begin an escape nor a name
+abbrev pub is_plain_byte : ℕ → Bool
+is_plain_byte b = not ((b == backslash) || (b == 36))
 
 -- what a quoted text holds, its names replaced
 abbrev pub unquoted : Dollars → List ℕ → List ℕ

@@ -3,7 +3,7 @@ ghost use Rattle.std.specs.List.{prefix_len, list_all};
 ghost use Rattle.st_lex.specs.Pieces.{Piece, StandWell, IsReadAs, print, piece_tokens, is_word_text};
 ghost use Rattle.st_lex.specs.Slices.{AreSlices};
 ghost use Rattle.st_lex.specs.Tokens.{is_blank, is_word_byte, is_no_newline, sign_of, quoted_front, front_of, lexed_text, line_after, LiesWithin};
-ghost use Rattle.st_lex.specs.Quoted.{closing_len, inner_fault, is_byte_escape, fault_after, place_of};
+ghost use Rattle.st_lex.specs.Quoted.{closing_len, inner_fault, is_inner_byte, is_byte_escape, fault_after, place_of};
 
 use crate::token::{Front, LexFault, Lexed, Token, TokenKind};
 use st_base::Sequence;
@@ -140,8 +140,19 @@ fn fault_after(by: u32, fault: LexFault) -> LexFault
     }
 }
 
-// What an opening quote and the bytes behind it are.
-fn quoted_front(after: &[u8]) -> Front
+// How many bytes stand before the first that needs a closer look: a quote, a backslash, a newline or a zero.
+fn inner_len(bytes: &[u8]) -> usize
+    ensures is { result ≡ prefix_len is_inner_byte bytes.now }
+    ensures within { result ≤ length bytes.now }
+{
+    bytes
+        .iter()
+        .take_while(|byte| !matches!(**byte, 0 | b'\n' | b'"' | b'\\'))
+        .count()
+}
+
+// What an opening quote and the bytes behind it are, where an escape or a fault may be among them.
+fn escaped_front(after: &[u8]) -> Front
     requires { length after.now + 1 < 2 ^ 32 }
     ensures { result ≡ quoted_front (closing_len after.now) (inner_fault after.now) }
 {
@@ -151,6 +162,18 @@ fn quoted_front(after: &[u8]) -> Front
             None => Front::Piece(TokenKind::Quoted, 1 + count),
             Some(fault) => Front::Broken(fault_after(1, fault)),
         },
+    }
+}
+
+// What an opening quote and the bytes behind it are. Mostly the first byte that isn't plain closes the text.
+fn quoted_front(after: &[u8]) -> Front
+    requires { length after.now + 1 < 2 ^ 32 }
+    ensures { result ≡ quoted_front (closing_len after.now) (inner_fault after.now) }
+{
+    let inner = inner_len(after);
+    match after.get(inner) {
+        Some(b'"') => Front::Piece(TokenKind::Quoted, inner + 2),
+        _ => escaped_front(after),
     }
 }
 

@@ -1,7 +1,8 @@
 ghost use Rattle.std.specs.Prelude.{◌≡◌, ◌<◌, ◌≤◌, ◌∷◌, ◌++◌, [], ℕ, List, length, IfOk, IfSome, OnOk, MatchOption, option_copied};
+ghost use Rattle.std.specs.List.{prefix_len};
 ghost use Rattle.st_lex.specs.Text.{inside};
 ghost use Rattle.st_lex.specs.Quote.{quoted, AreBytes};
-ghost use Rattle.st_lex.specs.Unquote.{hex_byte, plain_front, named_front, dollar_names, names_in, unquoted_from, unquoted, unquoted_plain};
+ghost use Rattle.st_lex.specs.Unquote.{hex_byte, is_plain_byte, plain_front, named_front, dollar_names, names_in, unquoted_from, unquoted, unquoted_plain};
 ghost use Rattle.st_lex.specs.declared.unquoted.Dollars.{Dollars};
 
 use st_base::Text;
@@ -86,7 +87,17 @@ fn append_front(
     Ok(len)
 }
 
-// What the bytes between the quotes stand for.
+// How many bytes at the front stand for themselves, whatever the names are.
+fn plain_len(bytes: &[u8]) -> usize
+    ensures { result ≡ prefix_len is_plain_byte bytes.now }
+{
+    bytes
+        .iter()
+        .take_while(|byte| !matches!(**byte, b'\\' | b'$'))
+        .count()
+}
+
+// What the bytes between the quotes stand for. Mostly they are plain, and then they are copied as they stand.
 fn unquote_inside(
     alloc: Global,
     bytes: &[u8],
@@ -94,8 +105,8 @@ fn unquote_inside(
 ) -> Result<Text, AllocError>
     ensures { IfOk result (λ text. text ≡ unquoted_from (names_in (option_copied dollars.entry)) 0 bytes.now) }
 {
-    let mut text = Text::new(alloc);
-    let mut at: usize = 0;
+    let mut at = plain_len(bytes);
+    let mut text = Text::of(alloc, &bytes[..at])?;
     while at < bytes.len() {
         at += append_front(&bytes[at..], dollars, &mut text)?;
     }
