@@ -17,7 +17,7 @@ use Rattle.st_model.specs.declared.object.NewKind.{NewKind}
 use Rattle.st_model.specs.declared.object.NewKind.TheVariants as kind
 use Rattle.st_policy.specs.OneFilter.{FilterResult, filter_in}
 use Rattle.st_policy.specs.declared.env.Env.{Env}
-use Rattle.st_script_faults.specs.Faults.{Whole, is_expected, is_unknown, is_duplicate, is_too_many, is_large, fault_of, fault_by, first_fault, line_fault, unless_ask, answer_of, reply_in, reply_said, threads_behind, with_thread}
+use Rattle.st_script_faults.specs.Faults.{Whole, expects_other, is_unknown, is_duplicate, is_too_many, is_large, fault_of, fault_by, first_fault, line_fault, unless_ask, answer_of, reply_in, reply_said, threads_behind, with_thread}
 use Rattle.st_script.specs.Bounds.{IsWithinBounds}
 use Rattle.st_script_faults.specs.Names.{Name, Names, no_names, has_name, with_name, number_of, with_says}
 use Rattle.st_statements.specs.Parts.{is_long, is_normal}
@@ -47,7 +47,7 @@ faultless_by whole above s false false false true w x y z p q r e = absurd (cc)
 faultless_by whole above s false false false false w x y z p q r e = record { known = p; new = q; few = r }
 
 faultless : (whole : Whole) (above : Names) (below : List ScriptLine) (line : ℕ) (s : Statement) → fault_of whole above below line s ≡ None → IsFaultless whole above s
-faultless whole above below line s e = faultless_by whole above s (is_expected whole below s) (is_unknown whole above s) (is_duplicate whole above s) (is_too_many whole above s) _ _ _ _ refl refl refl e
+faultless whole above below line s e = faultless_by whole above s (expects_other whole below s) (is_unknown whole above s) (is_duplicate whole above s) (is_too_many whole above s) _ _ _ _ refl refl refl e
 
 -- the fault of a line, or of those below it
 abbrev either : Option ScriptFault → Option ScriptFault → Option ScriptFault

@@ -80,10 +80,10 @@ ends_body line = is_end line.says
 -- ---- what is wrong with a row, by what stands above and below it
 
 -- a thread that no `end` follows, unless the script is cut off, and a reply that is none
-abbrev pub is_expected : Whole → List ScriptLine → Statement → Bool
-is_expected whole below (says.Thread name process) = not whole.is_cut && not (list_any ends_body below)
-is_expected whole below (says.Reply binary filter) = not (is_some (reply_in whole.env binary filter))
-is_expected whole below _ = false
+abbrev pub expects_other : Whole → List ScriptLine → Statement → Bool
+expects_other whole below (says.Thread name process) = not whole.is_cut && not (list_any ends_body below)
+expects_other whole below (says.Reply binary filter) = not (is_some (reply_in whole.env binary filter))
+expects_other whole below _ = false
 
 -- an object that stands in no directory, a thread in no process, and a fork of no thread
 abbrev pub is_unknown : Whole → Names → Statement → Bool
@@ -134,7 +134,7 @@ is_too_many whole above _ = false
 -- what is wrong with a row: the first kind that is met
 abbrev pub fault_of : Whole → Names → List ScriptLine → ℕ → Statement → Option ScriptFault
 fault_of whole above below line statement =
-    if is_expected whole below statement then Some (Expected line)
+    if expects_other whole below statement then Some (Expected line)
     else if is_unknown whole above statement then Some (UnknownName line)
     else if is_duplicate whole above statement then Some (Duplicate line)
     else if is_too_many whole above statement then Some (TooMany line)

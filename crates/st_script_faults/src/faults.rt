@@ -1,6 +1,6 @@
 ghost use Rattle.std.specs.Prelude.{◌≡◌, ◌^◌, ◌≤◌, List, Some, None, Ok, [], is_some, IfOk, OnOk};
 ghost use Rattle.std.specs.List.{list_any};
-ghost use Rattle.st_script_faults.specs.Faults.{answer_of, reply_for, reply_in, reply_said, replies_behind, with_reply, is_end, ends_body, is_expected, is_unknown, is_started, is_duplicate, is_large, exceeds, is_too_many, fault_of, fault_by, line_fault, first_fault, with_thread, threads_behind, with_started, started_behind, whole_of};
+ghost use Rattle.st_script_faults.specs.Faults.{answer_of, reply_for, reply_in, reply_said, replies_behind, with_reply, is_end, ends_body, expects_other, is_unknown, is_started, is_duplicate, is_large, exceeds, is_too_many, fault_of, fault_by, line_fault, first_fault, with_thread, threads_behind, with_started, started_behind, whole_of};
 ghost use Rattle.st_script_faults.specs.FirstFault.{IsFirstFault};
 ghost use Rattle.st_script_faults.specs.Faults as spec;
 ghost use Rattle.st_script_faults.specs.Names.{no_names, with_says};
@@ -95,8 +95,8 @@ fn reply_in(
     Ok(reply_for(binary, filter))
 }
 
-// Whether a row's quoted binary and filter are a reply, which is added to these.
-fn is_reply(
+// Adds the reply that a row's quoted binary and filter are, and says whether they are one.
+fn add_reply(
     alloc: Global,
     env: &Env,
     binary: &Text,
@@ -140,22 +140,22 @@ fn is_closed(below: &[ScriptLine]) -> bool
     false
 }
 
-// A thread that no `end` follows, unless the script is cut off, and a reply that is none. Only the body of a thread is gone through. A reply
-// is read once: it is added to these.
-fn is_expected(
+// Whether something else has to stand here: a thread is followed by no `end`, unless the script is cut off, or a reply is none. Only the body of
+// a thread is gone through. A reply is read once: it is added to these.
+fn expects_other(
     alloc: Global,
     whole: &Whole,
     below: &[ScriptLine],
     statement: &Statement,
     replies: &mut Sequence<Reply>,
 ) -> Result<bool, AllocError>
-    ensures is { IfOk result (λ is. is ≡ is_expected whole.now below.now statement.now) }
+    ensures is { IfOk result (λ is. is ≡ expects_other whole.now below.now statement.now) }
     ensures replies { OnOk result (replies.new ≡ with_reply replies.old (reply_said whole.now.env (Some statement.now))) }
 {
     match statement {
         Statement::Thread { .. } => Ok(!whole.is_cut && !is_closed(below)),
         Statement::Reply { binary, filter } => {
-            let is_one = is_reply(alloc, &whole.env, binary, filter, replies)?;
+            let is_one = add_reply(alloc, &whole.env, binary, filter, replies)?;
             Ok(!is_one)
         }
         _ => Ok(false),
@@ -270,7 +270,7 @@ fn fault_of(
     ensures fault { IfOk result (λ fault. fault ≡ fault_of whole.now above.now below.now line statement.now) }
     ensures replies { OnOk result (replies.new ≡ with_reply replies.old (reply_said whole.now.env (Some statement.now))) }
 {
-    if is_expected(alloc, whole, below, statement, replies)? {
+    if expects_other(alloc, whole, below, statement, replies)? {
         return Ok(Some(ScriptFault::Expected(line)));
     }
     if is_unknown(whole, above, statement) {
