@@ -1,5 +1,5 @@
 -- The filters of a policy and a rule, found by their places.
-use Rattle.std.proofs.Common.{◌≡◌, ◌≤◌, ◌<◌, ◌+◌, ◌∙◌, ◌++◌, ◌&&◌, ℕ, suc, zero, Bool, true, false, cond, List, [], ◌∷◌, length, map, filter, Option, Some, None, refl, ap, sym, subst, get_or, arith}
+use Rattle.std.proofs.Common.{◌≡◌, ◌≤◌, ◌<◌, ◌+◌, ◌∙◌, ◌++◌, ◌&&◌, ◌==◌, ℕ, suc, zero, Bool, true, false, cond, List, [], ◌∷◌, length, map, filter, Option, Some, None, refl, ap, sym, subst, get_or, arith}
 use Rattle.std.proofs.lemmas.List.{append-nil, append_assoc}
 use Rattle.std.specs.Prelude.{slice_get}
 use Rattle.std.specs.Str.{bytes_eq}
@@ -7,9 +7,10 @@ use Rattle.st_calls.specs.Rules.{same_rule}
 use Rattle.st_calls.specs.declared.rule.Rule.{Rule}
 use Rattle.st_filter.specs.Formula.{FilterValue}
 use Rattle.st_law.specs.Sessions.{SessionFilter, session_filters}
+use Rattle.st_learn.specs.Deciding.{asks_first}
 use Rattle.st_learn.specs.Learnt.{filters_added}
 use Rattle.st_learn.specs.Places.{GainsPlace, PolicyPlaces, places_in}
-use Rattle.st_learn.specs.Sessions.{is_of, places_from, places_of}
+use Rattle.st_learn.specs.Sessions.{is_of, places_asking, places_from, places_of}
 
 -- a filter of a session before others, where it is there and of a kind
 abbrev pub with_kind : (SessionFilter → Bool) → Option SessionFilter → List FilterValue → List FilterValue
@@ -140,3 +141,12 @@ pub added_places : (key : SessionFilter → List ℕ) (old new : List PolicyPlac
     → (wanted : List ℕ) → places_in new wanted ≡ places_from (λ each. bytes_eq (key each) wanted) 0 (session ++ kept ∷ [])
 added_places key old new session kept n were gains is wanted =
     gains wanted ∙ (λ k. cond (bytes_eq (key kept) wanted) (were wanted k ++ n ∷ []) (were wanted k)) ∙ places_added key session kept wanted n is
+
+-- a text that isn't empty isn't the empty one
+pub some_text : (text : List ℕ) → (length text == 0) ≡ false → bytes_eq text [] ≡ false
+some_text [] e = cc
+some_text (b ∷ text) e = refl
+
+-- where none asked for no text, and one more asks for some, none does
+pub still_texts : (session : List SessionFilter) (kept : SessionFilter) → asks_first [] kept ≡ false → places_asking session [] ≡ [] → places_asking (session ++ kept ∷ []) [] ≡ []
+still_texts session kept asks none = places_more (asks_first []) 0 session kept ∙ (λ k. none k ++ cond (asks k) ((0 + length session) ∷ []) [])

@@ -1,5 +1,5 @@
 -- The rows of places, as a map keeps them.
-use Rattle.std.proofs.Common.{◌≡◌, ◌≤◌, ◌<◌, ◌+◌, ◌∙◌, ◌++◌, ℕ, suc, Bool, true, false, cond, not, List, [], ◌∷◌, length, Option, Some, None, Vec, Global, refl, ap, sym, subst, option_map, vec_capacity, vec_len, arith}
+use Rattle.std.proofs.Common.{◌≡◌, ◌≤◌, ◌<◌, ◌+◌, ◌∙◌, ◌++◌, ℕ, suc, zero, Bool, true, false, cond, not, List, [], ◌∷◌, length, map, Option, Some, None, Vec, Global, refl, ap, sym, subst, option_map, vec_capacity, vec_len, arith}
 use Rattle.std.proofs.lemmas.Bool.Decides.{Decides-ltb}
 use Rattle.std.proofs.lemmas.Cmp.{nat_list_eq_equiv}
 use Rattle.std.proofs.lemmas.Map.Entries.{length-keys_of}
@@ -10,8 +10,9 @@ use Rattle.std.specs.Map.{keys_of, lookup, values_of}
 use Rattle.std.specs.Option.{option_or}
 use Rattle.std.specs.Prelude.{is_some, nat_lt, slice_get}
 use Rattle.std.specs.Str.{bytes_eq}
+use Rattle.indexmap.proofs.MapLemmas.{Found-position}
 use Rattle.indexmap.specs.IndexMap.{insert_entry, set_value_at}
-use Rattle.st_learn.specs.Places.{GainsPlace, HasRoom, IsRoomLeft, KeepsPlaces, LosesPlace, PlacesEntry, PolicyPlaces, Listing, places_in, places_with, listing_in, shown_listing, shown_rows}
+use Rattle.st_learn.specs.Places.{GainsPlace, HasRoom, HasRoomAt, IsRoomLeft, KeepsPlaces, LosesPlace, PlacesEntry, PolicyPlaces, Listing, places_in, places_with, listing_in, row_of, shown_listing, shown_rows}
 
 abbrev pub is_key : List ℕ → Vec ℕ Global → Bool
 is_key policy key = bytes_eq policy key.items
@@ -95,13 +96,40 @@ row_changed es policy i w at other =
 pub row_there : (es : List PlacesEntry) (policy : List ℕ) (i : ℕ) (v : Vec ℕ Global) → slice_get (values_of es) i ≡ lookup (is_key policy) es → slice_get (values_of es) i ≡ Some v → listing_in (shown_rows es) policy ≡ Some (shown_listing v)
 row_there es policy i v at is = sym (listing_kept es policy) ∙ ap shown (sym at ∙ is)
 
-some_shown : (o : Option (Vec ℕ Global)) → is_some o ≡ false → IsRoomLeft (shown o) → ⊥
-some_shown None e left = left
-some_shown (Some v) e left = cc
+-- ---- where a row stands
 
--- there is no room where there is no row
-pub no_room : (es : List PlacesEntry) (policy : List ℕ) → is_some (lookup (is_key policy) es) ≡ false → HasRoom (shown_rows es) policy → ⊥
-no_room es policy none left = some_shown (lookup (is_key policy) es) none (subst IsRoomLeft (sym (listing_kept es policy)) left)
+abbrev binaries : List PlacesEntry → List (List ℕ)
+binaries es = map (λ (row : PolicyPlaces). row.binary) (shown_rows es)
+
+-- a policy's row stands where the map has its key
+pub row_kept : (es : List PlacesEntry) (policy : List ℕ) → row_of (shown_rows es) policy ≡ position (is_key policy) (keys_of es)
+row_kept es policy = λ k. cond (nat_lt (first es k) (long es k)) (Some (first es k)) None where
+  first : (es : List PlacesEntry) → position_or_len (bytes_eq policy) (binaries es) ≡ position_or_len (is_key policy) (keys_of es)
+  first [] = refl
+  first (e ∷ es) = ap (λ n. cond (not (bytes_eq policy e.0.items)) (1 + n) 0) (first es)
+
+  long : (es : List PlacesEntry) → length (binaries es) ≡ length (keys_of es)
+  long [] = refl
+  long (e ∷ es) = ap suc (long es)
+
+-- what a row has leaves the rows where they are
+row_stays : (es : List PlacesEntry) (policy : List ℕ) (i : ℕ) (w : Vec ℕ Global) → row_of (shown_rows (set_value_at es i w)) policy ≡ row_of (shown_rows es) policy
+row_stays es policy i w = ap (position (bytes_eq policy)) (same es i) where
+  same : (es : List PlacesEntry) (i : ℕ) → binaries (set_value_at es i w) ≡ binaries es
+  same [] i = refl
+  same (e ∷ es) zero = refl
+  same (e ∷ es) (suc i) = ap (λ bs. e.0.items ∷ bs) (same es i)
+
+module _ (es : List PlacesEntry) (policy : List ℕ) (i : ℕ) (at : row_of (shown_rows es) policy ≡ Some i) where
+  pub row_is : Some i ≡ position (is_key policy) (keys_of es)
+  row_is = sym at ∙ row_kept es policy
+
+  pub row_inside : i < length es
+  row_inside = (Found-position (is_key policy) es i (sym row_is)).within
+
+  -- what stands in a policy's row is the policy's
+  pub row_listing : (v : Vec ℕ Global) → slice_get (values_of es) i ≡ Some v → listing_in (shown_rows es) policy ≡ Some (shown_listing v)
+  row_listing v is = row_there es policy i v (sym (Found-position (is_key policy) es i (sym row_is)).value) is
 
 -- the room of a policy is that of its row
 pub room_there : (rows : List PolicyPlaces) (policy : List ℕ) (v : Vec ℕ Global) → listing_in rows policy ≡ Some (shown_listing v) → HasRoom rows policy → vec_len v < vec_capacity v
@@ -137,9 +165,12 @@ module _ (es : List PlacesEntry) (policy : List ℕ) (i : ℕ) (v w : Vec ℕ Gl
     room = λ other left. subst IsRoomLeft (sym (row_changed es policy i w at other)) (changed_room (bytes_eq policy other) policy other (shown_rows es) v w refl was same more left);
   }
 
-  pub row_has_room : length w.items < vec_capacity w → HasRoom (shown_rows (set_value_at es i w)) policy
-  row_has_room left =
+  has_room : length w.items < vec_capacity w → HasRoom (shown_rows (set_value_at es i w)) policy
+  has_room left =
       subst IsRoomLeft (sym (row_changed es policy i w at policy ∙ ap (λ b. cond b (Some (shown_listing w)) (listing_in (shown_rows es) policy)) ((bytes_eq-Decides policy policy).1 refl))) left
+
+  pub row_has_room : length w.items < vec_capacity w → HasRoomAt i (shown_rows (set_value_at es i w)) policy
+  row_has_room left = record { is = row_stays es policy i w ∙ row_kept es policy ∙ sym at; room = has_room left }
 
   gained_by : (b : Bool) (other : List ℕ) (place : ℕ) → bytes_eq policy other ≡ b → w.items ≡ v.items ++ place ∷ []
       → places_with (cond b (Some (shown_listing w)) (listing_in (shown_rows es) other)) ≡ cond b (places_in (shown_rows es) other ++ place ∷ []) (places_in (shown_rows es) other)
@@ -187,6 +218,31 @@ module _ (key v : Vec ℕ Global) (other : List ℕ) where
   row_begun [] none = refl
   row_begun (e ∷ es) none = begun_by (bytes_eq key.items e.0.items) e es (nat_list_eq_equiv.symm key.items e.0.items) none (row_begun es)
 
+-- the row of a key stands where it was, or behind the others
+module _ (key v : Vec ℕ Global) where
+  abbrev place : List PlacesEntry → ℕ
+  place es = position_or_len (same_key key) (keys_of es)
+
+  abbrev Stands : ℕ → List PlacesEntry → Type 0
+  Stands n new = (position_or_len (is_key key.items) (keys_of new) ≡ n) × (n < length (keys_of new))
+
+  stands_by : (b : Bool) (e : PlacesEntry) (es : List PlacesEntry) → bytes_eq key.items e.0.items ≡ b → Stands (place es) (insert_entry same_key es key v)
+      → Stands (cond (not b) (1 + place es) 0) (cond b ((e.0, v) ∷ es) (e ∷ insert_entry same_key es key v))
+  stands_by true e es is later = (ap (λ b. cond (not b) (1 + position_or_len (is_key key.items) (keys_of es)) 0) is, omega arith)
+  stands_by false e es is later =
+      (ap (λ b. cond (not b) (1 + position_or_len (is_key key.items) (keys_of (insert_entry same_key es key v))) 0) is ∙ ap (λ n. 1 + n) later.0, omega (arith, later.1))
+
+  stands : (es : List PlacesEntry) → Stands (place es) (insert_entry same_key es key v)
+  stands [] = (ap (λ b. cond (not b) (1 + 0) 0) ((bytes_eq-Decides key.items key.items).1 refl), omega arith)
+  stands (e ∷ es) = stands_by (bytes_eq key.items e.0.items) e es refl (stands es)
+
+  row_stands : (es : List PlacesEntry) → row_of (shown_rows (insert_entry same_key es key v)) key.items ≡ Some (place es)
+  row_stands es =
+      let new = keys_of (insert_entry same_key es key v) in
+      row_kept (insert_entry same_key es key v) key.items
+      ∙ ap (λ n. cond (nat_lt n (length new)) (Some n) None) (stands es).0
+      ∙ ap (λ b. cond b (Some (place es)) None) ((Decides-ltb (place es) (length new)).1 (stands es).1)
+
 no_places : (o : Option Listing) (b : Bool) (v : Vec ℕ Global) → v.items ≡ [] → places_with (option_or o (cond b (Some (shown_listing v)) None)) ≡ places_with o
 no_places (Some listing) b v empty = refl
 no_places None true v empty = empty
@@ -210,10 +266,20 @@ module _ (es : List PlacesEntry) (key v : Vec ℕ Global) (policy : List ℕ) (n
     room = λ other left. subst IsRoomLeft (sym (behind_all other)) (still_room (listing_in (shown_rows es) other) (cond (bytes_eq key.items other) (Some (shown_listing v)) None) left);
   }
 
-  pub new_has_room : length v.items < vec_capacity v → HasRoom (shown_rows (insert_entry same_key es key v)) policy
-  new_has_room left =
+  has_room_behind : length v.items < vec_capacity v → HasRoom (shown_rows (insert_entry same_key es key v)) policy
+  has_room_behind left =
       subst IsRoomLeft (sym (behind_all policy ∙ (λ k. option_or (absent k) (cond (bytes_eq (key_is k) policy) (Some (shown_listing v)) None)) ∙ ap (λ b. option_or None (cond b (Some (shown_listing v)) None)) ((bytes_eq-Decides policy policy).1 refl))) left
+
+  pub new_has_room : (i : ℕ) → i ≡ position_or_len (same_key key) (keys_of es) → length v.items < vec_capacity v → HasRoomAt i (shown_rows (insert_entry same_key es key v)) policy
+  new_has_room i is left = record {
+    is = ap (row_of (shown_rows (insert_entry same_key es key v))) (sym key_is) ∙ row_stands key v es ∙ ap Some (sym is);
+    room = has_room_behind left;
+  }
 
 -- nothing was changed
 pub keeps : (rows : List PolicyPlaces) → KeepsPlaces rows rows
 keeps rows = record { places = λ policy. refl; room = λ policy left. left }
+
+-- one more place where all had those that they had before
+pub gains_then : (old kept new : List PolicyPlaces) (policy : List ℕ) (place : ℕ) → KeepsPlaces old kept → GainsPlace kept policy place new → GainsPlace old policy place new
+gains_then old kept new policy place keeps gains other = gains other ∙ (λ k. cond (bytes_eq policy other) (keeps.places other k ++ place ∷ []) (keeps.places other k))

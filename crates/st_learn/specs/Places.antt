@@ -1,6 +1,6 @@
 -- The places of each policy's filters in a session.
 use Rattle.std.specs.Prelude.{◌≡◌, ◌<◌, ℕ, List, [], ◌∷◌, ◌++◌, map, length, if◌then◌else◌, Option, Some, None, Vec, vec_capacity, Bool, true, false}
-use Rattle.std.specs.List.{remove}
+use Rattle.std.specs.List.{position, remove}
 use Rattle.std.specs.Str.{bytes_eq}
 use Rattle.std.specs.declared.alloc.Global.{Global}
 
@@ -36,6 +36,15 @@ IsRoomLeft (Some listing) = length listing.places < listing.capacity
 -- there is room for one more place of a policy
 abbrev pub HasRoom : List PolicyPlaces → List ℕ → Type 0
 HasRoom rows policy = IsRoomLeft (listing_in rows policy)
+
+-- where the row of a policy stands, if there is one
+abbrev pub row_of : List PolicyPlaces → List ℕ → Option ℕ
+row_of rows policy = position (bytes_eq policy) (map (λ (row : PolicyPlaces). row.binary) rows)
+
+-- the row of a policy stands here, and there is room in it for one more place
+pub record HasRoomAt (row : ℕ) (rows : List PolicyPlaces) (policy : List ℕ) : Type 0 where
+  pub is : row_of rows policy ≡ Some row
+  pub room : HasRoom rows policy
 
 -- each policy has the places that it had, and room where there was some
 pub record KeepsPlaces (old new : List PolicyPlaces) : Type 0 where

@@ -62,11 +62,12 @@ abbrev pub numbers_behind : List SessionFilter → List SessionFilter → List �
 numbers_behind front [] = []
 numbers_behind front (kept ∷ back) = count_for front kept ∷ numbers_behind (front ++ kept ∷ []) back
 
--- the places of each policy are those of its filters, the first ones those of the first for their rules, those of each text those of the filters that ask for it first;
--- each filter has its number, and numbers stay within 32 bits
-pub record IsSession (filters : List SessionFilter) (numbers : List ℕ) (policies firsts texts : List PolicyPlaces) : Type 0 where
+-- the places of each policy are those of its filters, the first ones those of the first for their rules, those of each text those of the filters that ask for it first,
+-- and where it is said that none asks for no text, none does; each filter has its number, and numbers stay within 32 bits
+pub record IsSession (filters : List SessionFilter) (numbers : List ℕ) (policies firsts texts : List PolicyPlaces) (has_textless : Bool) : Type 0 where
   pub policies_are : (policy : List ℕ) → places_in policies policy ≡ places_of filters policy
   pub firsts_are : (policy : List ℕ) → places_in firsts policy ≡ firsts_of filters policy
   pub texts_are : (text : List ℕ) → places_in texts text ≡ places_asking filters text
+  pub textless : has_textless ≡ false → places_asking filters [] ≡ []
   pub numbers_are : numbers ≡ numbers_behind [] filters
   pub few : length filters < 2 ^ 31

@@ -1,5 +1,5 @@
-ghost use Rattle.std.specs.Prelude.{◌≡◌, ◌<◌, [], length, OnOk};
-ghost use Rattle.st_learn.specs.Places.{places_in, GainsPlace, HasRoom, KeepsPlaces, LosesPlace};
+ghost use Rattle.std.specs.Prelude.{◌≡◌, ◌<◌, ℕ, List, [], length, Some, IfOk, OnOk, OnErr};
+ghost use Rattle.st_learn.specs.Places.{places_in, row_of, GainsPlace, HasRoomAt, KeepsPlaces, LosesPlace};
 
 use indexmap::IndexMap;
 use st_base::Text;
@@ -46,35 +46,51 @@ impl Places {
         }
     }
 
-    /// Makes room for one more of a policy. Without memory all is as good as before.
-    pub fn reserve(&mut self, alloc: Global, policy: &[u8]) -> Result<(), AllocError>
-        ensures room { OnOk result (HasRoom self.new policy.now) }
+    /// Those of the policy with a row.
+    pub fn at(&self, row: usize) -> &[usize]
+        requires { (policy : List ℕ) × (row_of self.now policy ≡ Some row) }
+        ensures { (policy : List ℕ) → row_of self.now policy ≡ Some row → result.now ≡ places_in self.now policy }
+    {
+        self.rows[row].as_slice()
+    }
+
+    /// Makes room for one more of a policy, and gives the row where they stand. Without memory all is as good as before.
+    pub fn reserve(&mut self, alloc: Global, policy: &[u8]) -> Result<usize, AllocError>
+        ensures room { IfOk result (λ row. HasRoomAt row self.new policy.now) }
         ensures kept { KeepsPlaces self.old self.new }
     {
         match self.rows.get_index_of(policy) {
-            Some(i) => {
-                let places = &mut self.rows[i];
-                places.reserve(1)
+            Some(row) => {
+                let places = &mut self.rows[row];
+                places.reserve(1)?;
+                Ok(row)
             }
             None => {
                 let places = Vec::with_capacity(alloc, 1)?;
-                self.rows
-                    .insert(Text::of(alloc, policy)?.into_bytes(), places)?;
-                Ok(())
+                let binary = Text::of(alloc, policy)?.into_bytes();
+                let (row, _) = self.rows.insert_full(binary, places)?;
+                Ok(row)
             }
         }
     }
 
-    /// Adds a place to those of a policy, in the room that was made, so it takes no memory.
-    pub fn push(&mut self, policy: &[u8], place: usize)
-        requires { HasRoom self.old policy.now }
-        ensures { GainsPlace self.old policy.now place self.new }
+    /// Adds a place to those of the policy with a row, in the room that was made, so it takes no memory.
+    pub fn push_at(&mut self, row: usize, place: usize)
+        requires { (policy : List ℕ) × HasRoomAt row self.old policy }
+        ensures { (policy : List ℕ) → HasRoomAt row self.old policy → GainsPlace self.old policy place self.new }
     {
-        let Some(i) = self.rows.get_index_of(policy) else {
-            unreachable!()
-        };
-        let places = &mut self.rows[i];
+        let places = &mut self.rows[row];
         places.push_reserved(place);
+    }
+
+    /// Adds a place to those of a policy. Without memory all is as good as before.
+    pub fn add(&mut self, alloc: Global, policy: &[u8], place: usize) -> Result<(), AllocError>
+        ensures ok { OnOk result (GainsPlace self.old policy.now place self.new) }
+        ensures err { OnErr result (KeepsPlaces self.old self.new) }
+    {
+        let row = self.reserve(alloc, policy)?;
+        self.push_at(row, place);
+        Ok(())
     }
 
     /// Takes the place at an index out of those of a policy, which takes no memory.

@@ -1,7 +1,7 @@
-ghost use Rattle.std.specs.Prelude.{◌≡◌, ◌≤◌, ◌<◌, ◌^◌, ◌&&◌, [], ◌∷◌, ◌++◌, length, slice_get, Some, OnOk, OnErr};
+ghost use Rattle.std.specs.Prelude.{◌≡◌, ℕ, List, ◌≤◌, ◌<◌, ◌^◌, ◌&&◌, [], ◌∷◌, ◌++◌, length, slice_get, Some, OnOk, OnErr};
 ghost use Rattle.st_law.specs.Sessions.{session_filters};
 ghost use Rattle.st_learn.specs.Deciding.{asks_first, decides, first_at, lesser, NumberIs};
-ghost use Rattle.st_learn.specs.Places.{HasRoom, MayGainPlace};
+ghost use Rattle.st_learn.specs.Places.{KeepsPlaces, MayGainPlace};
 ghost use Rattle.st_learn.specs.Sessions.{added, firsts_of, is_first_at, places_asking, places_of, session_with};
 
 use crate::asked::asked_text;
@@ -30,6 +30,8 @@ pub struct Session {
     firsts: Places,
     // and where those do that ask for a text first.
     texts: Places,
+    // Whether one of them asks for none.
+    has_textless: bool,
 }
 
 impl Model for Session {
@@ -43,7 +45,7 @@ impl Model for Session {
 
     ghost view = { λ s. session_with s.kept.items };
 
-    ghost invariant = { λ s. IsSession s.kept.items s.numbers.items s.policies s.firsts s.texts };
+    ghost invariant = { λ s. IsSession s.kept.items s.numbers.items s.policies s.firsts s.texts s.has_textless };
 }
 
 // The lesser of two places, where there are some.
@@ -57,13 +59,21 @@ fn lesser(first: Option<usize>, other: Option<usize>) -> Option<usize>
     }
 }
 
-// Adds a place to those of a policy, if it is wanted there.
-fn push_if(places: &mut Places, is_wanted: bool, policy: &[u8], place: usize)
-    requires { HasRoom places.old policy.now }
-    ensures { MayGainPlace is_wanted places.old policy.now place places.new }
+// Adds a place to those of a policy, if it is wanted there. Without memory all is as good as before.
+fn add_if(
+    alloc: Global,
+    places: &mut Places,
+    is_wanted: bool,
+    policy: &[u8],
+    place: usize,
+) -> Result<(), AllocError>
+    ensures ok { OnOk result (MayGainPlace is_wanted places.old policy.now place places.new) }
+    ensures err { OnErr result (KeepsPlaces places.old places.new) }
 {
     if is_wanted {
-        places.push(policy, place);
+        places.add(alloc, policy, place)
+    } else {
+        Ok(())
     }
 }
 
@@ -78,6 +88,7 @@ impl Session {
             policies: Places::new(alloc),
             firsts: Places::new(alloc),
             texts: Places::new(alloc),
+            has_textless: false,
         }
     }
 
@@ -98,15 +109,16 @@ impl Session {
             return Err(AllocError);
         }
         let binary = Text::of(alloc, policy)?;
-        let number = self.count_of(policy, rule) as u32;
+        let text = asked_text(filter.expr());
+        let row = self.policies.reserve(alloc, policy)?;
+        let number = self.count_at(self.policies.at(row), rule) as u32;
         self.kept.reserve(1)?;
         self.numbers.reserve(1)?;
-        self.policies.reserve(alloc, policy)?;
-        self.firsts.reserve(alloc, policy)?;
-        self.texts.reserve(alloc, asked_text(filter.expr()))?;
-        self.policies.push(policy, place);
-        push_if(&mut self.firsts, number == 0, policy, place);
-        self.texts.push(asked_text(filter.expr()), place);
+        let text_row = self.texts.reserve(alloc, text)?;
+        add_if(alloc, &mut self.firsts, number == 0, policy, place)?;
+        self.policies.push_at(row, place);
+        self.texts.push_at(text_row, place);
+        self.has_textless |= text.is_empty();
         self.numbers.push_reserved(number);
         self.kept.push_reserved(Kept::new(binary, rule, filter));
         Ok(())
@@ -146,6 +158,10 @@ impl Session {
     fn places_asking(&self, text: &[u8]) -> &[usize]
         ensures { result.now ≡ places_asking self.now.filters text.now }
     {
+        // What is learnt mostly asks for one, and then nothing is hashed for those that ask for none.
+        if text.is_empty() && !self.has_textless {
+            return &[];
+        }
         self.texts.of(text)
     }
 
@@ -174,7 +190,15 @@ impl Session {
         ensures few { result ≤ 2 ^ 31 }
         ensures is { result ≡ length (session_filters self.now.filters policy.now rule) }
     {
-        let places = self.places_of(policy);
+        self.count_at(self.places_of(policy), rule)
+    }
+
+    // How many filters for a rule stand at the places of a policy.
+    fn count_at(&self, places: &[usize], rule: Rule) -> usize
+        requires { (policy : List ℕ) × (places.now ≡ places_of self.now.filters policy) }
+        ensures few { result ≤ 2 ^ 31 }
+        ensures is { (policy : List ℕ) → places.now ≡ places_of self.now.filters policy → result ≡ length (session_filters self.now.filters policy rule) }
+    {
         let mut left = places.len();
         while left > 0 {
             left -= 1;

@@ -54,8 +54,7 @@ fn places_of(alloc: Global, replies: &[Reply]) -> Result<Places, AllocError>
     let mut places = Places::new(alloc);
     for (place, reply) in replies.iter().enumerate() {
         let policy = reply.binary.bytes();
-        places.reserve(alloc, policy)?;
-        places.push(policy, place);
+        places.add(alloc, policy, place)?;
     }
     Ok(places)
 }

@@ -7,7 +7,6 @@ use Rattle.st_operator.proofs.operator.places_of.Goals as goal
 pub loop-place-preserved : goal.loop-place-preserved
 loop-place-preserved c =
     let reply = c.index-replies-place.result in
-    left_more c.args.replies.now (λ number. false) c.loop-place.place reply c.reserve.new.self c.push.new.self
-    (λ policy. c.in_ok-reserve.ensures.kept.places policy ∙ c.loop-place.invariant policy)
+    left_more c.args.replies.now (λ number. false) c.loop-place.place reply c.loop-place.places c.add.new.self c.loop-place.invariant
     (slice_get-get_or c.args.replies.now c.loop-place.place reply c.loop-place-test.true ∙ ap Some (sym c.index-replies-place.is)) refl
-    (subst (λ policy. GainsPlace c.reserve.new.self policy c.loop-place.place c.push.new.self) c.bytes-policy.ensures c.push.ensures)
+    (subst (λ policy. GainsPlace c.loop-place.places policy c.loop-place.place c.add.new.self) c.bytes-policy.ensures c.in_ok-add.ensures.ok)

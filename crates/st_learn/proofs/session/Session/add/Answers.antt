@@ -1,55 +1,82 @@
-use Rattle.std.proofs.Common.{◌≡◌, ◌∙◌, ◌++◌, ◌==◌, [], ◌∷◌, List, ap, arith, length, sym, subst}
+use Rattle.std.proofs.Common.{◌≡◌, ◌∙◌, ◌++◌, ◌==◌, [], ◌∷◌, List, ℕ, ap, arith, length, sym, subst}
+use Rattle.std.proofs.lemmas.Bool.{or_parts}
+use Rattle.std.specs.Str.{bytes_eq}
 use Rattle.st_law.specs.Sessions.{SessionFilter, session_filters}
 use Rattle.st_learn.specs.Asked.{asked_text}
 use Rattle.st_learn.specs.Deciding.{count_for}
 use Rattle.st_learn.specs.Places.{GainsPlace, MayGainPlace}
-use Rattle.st_learn.specs.Sessions.{Session, firsts_of, numbers_behind, places_asking, places_of}
-use Rattle.st_learn.proofs.Filters.{added_places, one_longer}
+use Rattle.st_learn.specs.Sessions.{firsts_of, numbers_behind, places_asking, places_of}
+use Rattle.st_learn.proofs.Filters.{added_places, one_longer, some_text, still_texts}
 use Rattle.st_learn.proofs.Leading.{firsts_added}
 use Rattle.st_learn.proofs.Numbers.{number_added}
 use Rattle.st_learn.proofs.session.Session.add.Goals as goal
+use Rattle.st_learn.proofs.session.Session.add.Goals.{After-push_reserved-2}
 
-place_is : (c : goal.After-push_reserved-2) → c.len-place.result ≡ length c.self.inside.kept.items
+place_is : (c : After-push_reserved-2) → c.len-place.result ≡ length c.self.inside.kept.items
 place_is c = c.len-place.ensures ∙ c.self.inside.kept.ok.0
 
-items_are : (c : goal.After-push_reserved-2) → c.push_reserved-2.new.self.items ≡ c.self.inside.kept.items ++ c.new.result ∷ []
-items_are c = c.push_reserved-2.ensures.items ∙ ap (λ (items : List SessionFilter). items ++ c.new.result ∷ []) c.reserve.ensures.items
+items_are : (c : After-push_reserved-2) → c.push_reserved-2.new.self.items ≡ c.self.inside.kept.items ++ c.new.result ∷ []
+items_are c = c.push_reserved-2.ensures.items ∙ ap (λ (items : List SessionFilter). items ++ c.new.result ∷ []) c.reserve-2.ensures.items
 
-policy_is : (c : goal.After-push_reserved-2) → c.args.policy.now ≡ c.new.result.policy
+policy_is : (c : After-push_reserved-2) → c.args.policy.now ≡ c.new.result.policy
 policy_is c = sym c.in_ok-binary.ensures ∙ sym (ap (λ (kept : SessionFilter). kept.policy) c.new.ensures)
 
-rule_is : (c : goal.After-push_reserved-2) → c.args.rule ≡ c.new.result.rule
+rule_is : (c : After-push_reserved-2) → c.args.rule ≡ c.new.result.rule
 rule_is c = sym (ap (λ (kept : SessionFilter). kept.rule) c.new.ensures)
 
-text_is : (c : goal.After-push_reserved-2) → c.asked_text-2.result.now ≡ asked_text c.new.result.filter.formula
-text_is c = c.asked_text-2.ensures ∙ ap asked_text c.expr-2.ensures ∙ sym (ap (λ (kept : SessionFilter). asked_text kept.filter.formula) c.new.ensures)
+text_is : (c : After-push_reserved-2) → c.asked_text-text.result.now ≡ asked_text c.new.result.filter.formula
+text_is c = c.asked_text-text.ensures ∙ ap asked_text c.expr.ensures ∙ sym (ap (λ (kept : SessionFilter). asked_text kept.filter.formula) c.new.ensures)
 
-number_is : (c : goal.After-push_reserved-2) → c.count_of-number.result ≡ count_for c.self.inside.kept.items c.new.result
-number_is c =
-    c.count_of-number.ensures.is
-    ∙ ap (λ (session : Session). length (session_filters session.filters c.args.policy.now c.args.rule)) (sym c.self.view_is)
-    ∙ (λ k. length (session_filters c.self.inside.kept.items (policy_is c k) (rule_is c k)))
+places_are : (c : goal.After-at) → c.at.result.now ≡ places_of c.self.inside.kept.items c.args.policy.now
+places_are c = c.at.ensures c.args.policy.now c.in_ok-row.ensures.room.is ∙ c.reserve.ensures.kept.places c.args.policy.now ∙ c.self.invariant.policies_are c.args.policy.now
+
+pub count_at-number-requires : goal.count_at-number-requires
+count_at-number-requires c = (c.args.policy.now, places_are c)
 
 pub invariant_of-self-2 : goal.invariant_of-self-2
 invariant_of-self-2 c = record {
+  policies_are = λ wanted. c.reserve.ensures.kept.places wanted ∙ c.self.invariant.policies_are wanted;
+  firsts_are = c.self.invariant.firsts_are;
+  texts_are = c.self.invariant.texts_are;
+  textless = c.self.invariant.textless;
+  numbers_are = c.self.invariant.numbers_are;
+  few = c.self.invariant.few;
+}
+
+number_is : (c : After-push_reserved-2) → c.count_at-number.result ≡ count_for c.self.inside.kept.items c.new.result
+number_is c =
+    c.count_at-number.ensures.is c.args.policy.now (c.at.ensures c.args.policy.now c.in_ok-row.ensures.room.is ∙ c.reserve.ensures.kept.places c.args.policy.now ∙ c.self.invariant.policies_are c.args.policy.now)
+    ∙ (λ k. length (session_filters c.self.inside.kept.items (policy_is c k) (rule_is c k)))
+
+pub push_at-requires : goal.push_at-requires
+push_at-requires c = (c.args.policy.now, c.in_ok-row.ensures.room)
+
+pub push_at-requires-2 : goal.push_at-requires-2
+push_at-requires-2 c = (c.asked_text-text.result.now, c.in_ok-text_row.ensures.room)
+
+pub invariant_of-self-3 : goal.invariant_of-self-3
+invariant_of-self-3 c = record {
   policies_are = λ wanted.
-      added_places (λ (kept : SessionFilter). kept.policy) c.reserve-3.new.self c.push.new.self c.self.inside.kept.items c.new.result c.len-place.result
-      (λ other. c.reserve-3.ensures.kept.places other ∙ c.self.invariant.policies_are other)
-      (subst (λ policy. GainsPlace c.reserve-3.new.self policy c.len-place.result c.push.new.self) (policy_is c) c.push.ensures) (place_is c) wanted
+      added_places (λ (kept : SessionFilter). kept.policy) c.reserve.new.self c.push_at.new.self c.self.inside.kept.items c.new.result c.len-place.result
+      (λ other. c.reserve.ensures.kept.places other ∙ c.self.invariant.policies_are other)
+      (subst (λ policy. GainsPlace c.reserve.new.self policy c.len-place.result c.push_at.new.self) (policy_is c) (c.push_at.ensures c.args.policy.now c.in_ok-row.ensures.room)) (place_is c) wanted
       ∙ ap (λ (session : List SessionFilter). places_of session wanted) (sym (items_are c));
   firsts_are = λ wanted.
-      firsts_added (c.count_of-number.result == 0) c.reserve-4.new.self c.push_if.new.places c.self.inside.kept.items c.new.result c.len-place.result
-      (λ other. c.reserve-4.ensures.kept.places other ∙ c.self.invariant.firsts_are other)
-      (subst (λ policy. MayGainPlace (c.count_of-number.result == 0) c.reserve-4.new.self policy c.len-place.result c.push_if.new.places) (policy_is c) c.push_if.ensures) (place_is c) (ap (λ n. n == 0) (sym (number_is c))) wanted
+      firsts_added (c.count_at-number.result == 0) c.self.inside.firsts c.add_if.new.places c.self.inside.kept.items c.new.result c.len-place.result c.self.invariant.firsts_are
+      (subst (λ policy. MayGainPlace (c.count_at-number.result == 0) c.self.inside.firsts policy c.len-place.result c.add_if.new.places) (policy_is c) c.in_ok-add_if.ensures.ok) (place_is c) (ap (λ n. n == 0) (sym (number_is c))) wanted
       ∙ ap (λ (session : List SessionFilter). firsts_of session wanted) (sym (items_are c));
   texts_are = λ wanted.
-      added_places (λ (kept : SessionFilter). asked_text kept.filter.formula) c.reserve-5.new.self c.push-2.new.self c.self.inside.kept.items c.new.result c.len-place.result
-      (λ other. c.reserve-5.ensures.kept.places other ∙ c.self.invariant.texts_are other)
-      (subst (λ text. GainsPlace c.reserve-5.new.self text c.len-place.result c.push-2.new.self) (text_is c) c.push-2.ensures) (place_is c) wanted
+      added_places (λ (kept : SessionFilter). asked_text kept.filter.formula) c.reserve-4.new.self c.push_at-2.new.self c.self.inside.kept.items c.new.result c.len-place.result
+      (λ other. c.reserve-4.ensures.kept.places other ∙ c.self.invariant.texts_are other)
+      (subst (λ text. GainsPlace c.reserve-4.new.self text c.len-place.result c.push_at-2.new.self) (text_is c) (c.push_at-2.ensures c.asked_text-text.result.now c.in_ok-text_row.ensures.room)) (place_is c) wanted
       ∙ ap (λ (session : List SessionFilter). places_asking session wanted) (sym (items_are c));
+  textless = λ e.
+      let parts = or_parts c.self.inside.has_textless c.is_empty.result e in
+      ap (λ (session : List SessionFilter). places_asking session []) (items_are c)
+      ∙ still_texts c.self.inside.kept.items c.new.result (ap (λ (text : List ℕ). bytes_eq text []) (sym (text_is c)) ∙ some_text c.asked_text-text.result.now (sym c.is_empty.ensures ∙ parts.1)) (c.self.invariant.textless parts.0);
   numbers_are =
       c.push_reserved.ensures.items
-      ∙ (λ k. (c.reserve-2.ensures.items ∙ c.self.invariant.numbers_are) k ++ (number_is c) k ∷ [])
+      ∙ (λ k. (c.reserve-3.ensures.items ∙ c.self.invariant.numbers_are) k ++ (number_is c) k ∷ [])
       ∙ sym (ap (numbers_behind []) (items_are c) ∙ number_added [] c.self.inside.kept.items c.new.result);
   few =
       let items = ap length (items_are c) in
