@@ -2,7 +2,6 @@
 use Rattle.std.proofs.Common.{◌≡◌, ℕ, suc, Bool, true, false, cond, ◌==◌, ◌&&◌, ◌||◌, List, [], ◌∷◌, ◌++◌, length, Option, Some, None, option_map, reverse, refl, sym, ap, subst, ◌∙◌}
 use Rattle.std.proofs.lemmas.Bool.{and_parts, eqb-true, or_parts, true≢false}
 use Rattle.std.specs.List.{fold}
-use Rattle.st_base.specs.Numbered.{item_at_number}
 use Rattle.st_base.specs.declared.errno.Errno.{Errno}
 use Rattle.st_base.specs.declared.ids.Ids.{Ids}
 use Rattle.st_calls.specs.declared.argument.ArgText.{ArgText}
@@ -21,17 +20,17 @@ use Rattle.st_trace.specs.declared.entry.Entry.TheVariants.{Stored, Entered, Cla
 use Rattle.st_law.specs.declared.input.Input.{Input}
 use Rattle.st_law.specs.History.{looking_back, session_at}
 use Rattle.st_law.specs.Inputs.{IsStartable}
-use Rattle.st_law.specs.Lawful.{IsDeniedHeld, IsJudged, IsLawfulBack, IsLearned, IsReplied, IsUsedHeld, Lawful}
+use Rattle.st_law.specs.Lawful.{IsDeniedHeld, IsJudged, IsLawfulBack, IsUsedHeld, Lawful}
 use Rattle.st_law.specs.Messages.{Head, is_answered_at, is_closed_at, is_renewed_by}
-use Rattle.st_law.specs.Sessions.{SessionFilter, learnt_by, replied_by, session_filters, verdict_or}
-use Rattle.st_law.specs.State.{State, is_live, is_live_by, is_open_question, is_question, read_for, snapshot_in}
+use Rattle.st_law.specs.Sessions.{session_filters, verdict_or}
+use Rattle.st_law.specs.State.{State, is_live, is_live_by, read_for, snapshot_in}
 use Rattle.st_law.specs.Threads.{History, owner_at}
 use Rattle.st_law.proofs.MessageHistory.{closed_stays}
 use Rattle.st_law.proofs.Standing.{Stands, answer_stands}
 use Rattle.st_audit.specs.AuditText.{audit, audit_back, call_line, denied_line, ending_text, line_of}
 use Rattle.st_audit.specs.How.{Decided, args_used, decided_by, decided_in, decided_on, how_denied, how_used, is_logged, number_of, parts_of, seq_told}
 use Rattle.st_audit.specs.Rows.{entered_at, row_at}
-use Rattle.st_audit.specs.Told.{answer_of, answer_with, audit_told, copies_of, decided_told, session_told, told_back, told_line}
+use Rattle.st_audit.specs.Told.{answer_of, answer_with, audit_told, decided_told, told_back, told_line}
 
 -- ---- answers
 
@@ -138,59 +137,24 @@ module _ (i : Input) (startable : IsStartable i) where
         says = verdict_of_answer i x.later x.earlier x.worker x.copies x.verdict same;
       }
 
-  same_copies : (h : History) (q : ℕ) → IsLawfulBack i h → is_answered_at h q ≡ true → is_live (looking_back i h) q ≡ true → copies_of (answer_of h q) ≡ snapshot_in (looking_back i h) q
-  same_copies h q lawful answered live = let x : IsTold i h q = told h q lawful answered live in ap copies_of x.newest ∙ sym x.there
-
-  -- ---- the session
-
-  -- a question is live and was answered
-  live_answered : (live answered asked : Bool) → (live && answered && asked) ≡ true → (live ≡ true) × (answered ≡ true)
-  live_answered live answered asked e = and_parts live answered (and_parts (live && answered) asked e).0
-
-  question_copies : (h : History) (q : ℕ) → IsLawfulBack i h → is_question i (looking_back i h) q ≡ true → copies_of (answer_of h q) ≡ snapshot_in (looking_back i h) q
-  question_copies h q lawful e =
-      let both = live_answered (is_live (looking_back i h) q) (is_answered_at h q) (is_open_question i (looking_back i h) (snapshot_in (looking_back i h) q)) e in
-      same_copies h q lawful both.1 both.0
-
-  pub session_same : (h : History) → IsLawfulBack i h → session_told i h ≡ session_at i h
-  session_same [] lawful = refl
-  session_same (Learned q n ∷ h) lawful =
-      let y : IsLearned i (looking_back i h) q n = lawful.0 in
-      let same = question_copies h q lawful.1 y.asked.question in
-      λ k. session_same h lawful.1 k ++ learnt_by (same k)
-  session_same (Replied q reply n ∷ h) lawful =
-      let y : IsReplied i (looking_back i h) q reply n = lawful.0 in
-      let same = question_copies h q lawful.1 y.asked.question in
-      λ k. session_same h lawful.1 k ++ replied_by (item_at_number i.replies reply) (same k)
-  session_same (Stored u place word ∷ h) lawful = session_same h lawful.1
-  session_same (Entered u call regs way ∷ h) lawful = session_same h lawful.1
-  session_same (Claimed w p ∷ h) lawful = session_same h lawful.1
-  session_same (Copied p part place word ∷ h) lawful = session_same h lawful.1
-  session_same (Looked p part name seen ∷ h) lawful = session_same h lawful.1
-  session_same (Faulted p errno ∷ h) lawful = session_same h lawful.1
-  session_same (Answered w s v applied ∷ h) lawful = session_same h lawful.1
-  session_same (Used u seq call regs args ids result changes ∷ h) lawful = session_same h lawful.1
-  session_same (Denied u seq errno cause ∷ h) lawful = session_same h lawful.1
-  session_same (Ended u ∷ h) lawful = session_same h lawful.1
-
   -- ---- what decides
 
-  -- what is said of a held call with these copies, by the verdict of the filters that were read and the session
-  abbrev said_of : Snapshot → Verdict → List SessionFilter → Decided
-  said_of s v session =
-      decided_by i session s (number_of (verdict_or v (verdict_from (suc (length (read_for i s.policy s.rule))) (session_filters session s.policy s.rule) s)))
+  -- what is said of a held call with these copies, by the verdict of the filters that were read
+  abbrev said_of : History → Snapshot → Verdict → Decided
+  said_of h s v =
+      decided_by i (session_at i h) s (number_of (verdict_or v (verdict_from (suc (length (read_for i s.policy s.rule))) (session_filters (session_at i h) s.policy s.rule) s)))
 
-  same_decided : (h : History) (q : ℕ) → IsLawfulBack i h → is_answered_at h q ≡ true → is_live (looking_back i h) q ≡ true → decided_told i (session_told i h) (answer_of h q) ≡ decided_in i (looking_back i h) q
+  same_decided : (h : History) (q : ℕ) → IsLawfulBack i h → is_answered_at h q ≡ true → is_live (looking_back i h) q ≡ true → decided_told i (session_at i h) (answer_of h q) ≡ decided_in i (looking_back i h) q
   same_decided h q lawful answered live = let x : IsTold i h q = told h q lawful answered live in
-      ap (decided_told i (session_told i h)) x.newest
-      ∙ (λ k. Some (said_of x.copies (x.says k) (session_same h lawful k)))
-      ∙ sym (ap (λ o. option_map (λ s. said_of s (verdict (read_for i s.policy s.rule) s) (session_at i h)) o) x.there)
+      ap (decided_told i (session_at i h)) x.newest
+      ∙ (λ k. Some (said_of h x.copies (x.says k)))
+      ∙ sym (ap (λ o. option_map (λ s. said_of h s (verdict (read_for i s.policy s.rule) s)) o) x.there)
 
   -- ---- lines
 
   -- what each of the two says of held calls
   abbrev by_entries : History → ℕ → Option Decided
-  by_entries h q = decided_told i (session_told i h) (answer_of h q)
+  by_entries h q = decided_told i (session_at i h) (answer_of h q)
 
   abbrev by_law : History → ℕ → Option Decided
   by_law h q = decided_in i (looking_back i h) q

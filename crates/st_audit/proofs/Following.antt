@@ -7,8 +7,9 @@ use Rattle.st_calls.specs.declared.argument.ArgText.{ArgText}
 use Rattle.st_calls.specs.declared.call.SysCall.{SysCall}
 use Rattle.st_effects.specs.Changes.{owner_after}
 use Rattle.st_law.specs.declared.input.Input.{Input}
+use Rattle.st_law.specs.History.{session_at}
 use Rattle.st_law.specs.Processes.{process_at}
-use Rattle.st_law.specs.Sessions.{session_after}
+use Rattle.st_law.specs.Sessions.{SessionFilter}
 use Rattle.st_law.specs.Threads.{History, changes_of, left_at, owner_at, pending_at, thread_of}
 use Rattle.st_trace.specs.declared.entry.CallResult.{CallResult}
 use Rattle.st_trace.specs.declared.entry.Change.{Change}
@@ -17,8 +18,9 @@ use Rattle.st_trace.specs.declared.entry.Entry.TheVariants.{Stored, Entered, Cla
 use Rattle.st_audit.specs.AuditText.{call_line, ending_text, line_by}
 use Rattle.st_audit.specs.How.{Decided, args_used, decided_on, how_used, is_logged}
 use Rattle.st_audit.specs.Ledger.{IsLedger, answer_in, entered_after, entered_in, kept_line, owner_in, row_in}
-use Rattle.st_audit.specs.Rows.{Row, row_after}
-use Rattle.st_audit.specs.Told.{answer_after, audit_told, copies_of, decided_told, tells_of_call, told_back, told_line}
+use Rattle.st_audit.specs.Rows.{Row, entered_at, row_after, row_at}
+use Rattle.st_audit.specs.Told.{answer_after, answer_of, audit_told, decided_told, tells_of_call, told_back, told_line}
+use Rattle.st_audit.specs.declared.entered.EnteredCall.{EnteredCall}
 use Rattle.st_audit.specs.declared.how.How.{How}
 use Rattle.st_audit.specs.declared.ledger.Ledger.{Ledger}
 use Rattle.st_audit.proofs.Rows.{entered_changed, row_of_changed}
@@ -29,7 +31,6 @@ pub record Follows (i : Input) (old new : Ledger) (e : Entry) : Type 0 where
   pub rows : (p : ℕ) → row_in i new.rows p ≡ row_after (row_in i old.rows (owner_in i old.owners (thread_of e))) (owner_in i old.owners (thread_of e)) p (row_in i old.rows p) (changes_of e)
   pub entered : (t : ℕ) → entered_in new.entered t ≡ entered_after e t (entered_in old.entered t)
   pub answers : (q : ℕ) → answer_in new.answers q ≡ answer_after e q (answer_in old.answers q)
-  pub session : new.session.filters ≡ session_after i.replies (λ q. copies_of (answer_in old.answers q)) e old.session.filters
 
 pub followed : (i : Input) (old new : Ledger) (e : Entry) (h : History) → Follows i old new e → IsLedger i old h → IsLedger i new (e ∷ h)
 followed i old new e h f is = record {
@@ -40,12 +41,20 @@ followed i old new e h f is = record {
       ∙ sym (row_of_changed (process_at i h) (owner_at i h (thread_of e)) p (changes_of e));
   entered = λ t. f.entered t ∙ ap (entered_after e t) (is.entered t) ∙ sym (entered_changed e t (left_at i h t) (pending_at i h t));
   answers = λ q. f.answers q ∙ ap (answer_after e q) (is.answers q);
-  session = f.session ∙ (λ k. session_after i.replies (λ q. copies_of (is.answers q k)) e (is.session k));
 }
 
--- what an entry prints by what is kept is what it prints by the entries before it
-pub line_told : (i : Input) (ledger : Ledger) (h : History) (e : Entry) → IsLedger i ledger h → kept_line i ledger e ≡ told_line i h e
-line_told i ledger h e is = λ k. line_by i (λ t. is.owners t k) (λ p. is.rows p k) (λ t. is.entered t k) (λ q. decided_told i (is.session k) (is.answers q k)) e
+-- an entry that prints adds nothing to the session
+printing_adds_nothing : (i : Input) (h : History) (e : Entry) (owners : ℕ → ℕ) (rows : ℕ → Row) (entered : ℕ → Option EnteredCall) (decided : List SessionFilter → ℕ → Option Decided)
+    → line_by i owners rows entered (decided (session_at i (e ∷ h))) e ≡ line_by i owners rows entered (decided (session_at i h)) e
+printing_adds_nothing i h (Learned q n) owners rows entered decided = refl
+printing_adds_nothing i h (Replied q reply n) owners rows entered decided = refl
+printing_adds_nothing i h _ owners rows entered decided = refl
+
+-- what an entry prints by the session behind it and by what is kept is what it prints by the entries before it
+pub line_told : (i : Input) (session : List SessionFilter) (ledger : Ledger) (h : History) (e : Entry) → session ≡ session_at i (e ∷ h) → IsLedger i ledger h → kept_line i session ledger e ≡ told_line i h e
+line_told i session ledger h e same is =
+    (λ k. line_by i (λ t. is.owners t k) (λ p. is.rows p k) (λ t. is.entered t k) (λ q. decided_told i (same k) (is.answers q k)) e)
+    ∙ printing_adds_nothing i h e (owner_at i h) (row_at i h) (entered_at i h) (λ session q. decided_told i session (answer_of h q))
 
 -- the rows that the changes of a call give, by its entry
 pub rows_noted : (i : Input) (owners : BTreeMap ℕ ℕ) (old new : BTreeMap ℕ Row) (e : Entry) (t pid : ℕ) (changes : List Change) → thread_of e ≡ t → changes_of e ≡ changes → pid ≡ owner_in i owners t
@@ -61,12 +70,12 @@ rows_noted i owners old new e t pid changes thread all same noted p =
 module _ (i : Input) (ledger : Ledger) where
   -- a step on the way to what becomes of a call leaves what is kept
   pub kept_still : (h : History) (e : Entry) → tells_of_call e ≡ false → IsLedger i ledger h → IsLedger i ledger (e ∷ h)
-  kept_still h (Stored t place word) none is = record { owners = is.owners; rows = is.rows; entered = is.entered; answers = is.answers; session = is.session }
-  kept_still h (Claimed w q) none is = record { owners = is.owners; rows = is.rows; entered = is.entered; answers = is.answers; session = is.session }
-  kept_still h (Copied q part place word) none is = record { owners = is.owners; rows = is.rows; entered = is.entered; answers = is.answers; session = is.session }
-  kept_still h (Looked q part name seen) none is = record { owners = is.owners; rows = is.rows; entered = is.entered; answers = is.answers; session = is.session }
-  kept_still h (Faulted q errno) none is = record { owners = is.owners; rows = is.rows; entered = is.entered; answers = is.answers; session = is.session }
-  kept_still h (Ended t) none is = record { owners = is.owners; rows = is.rows; entered = is.entered; answers = is.answers; session = is.session }
+  kept_still h (Stored t place word) none is = record { owners = is.owners; rows = is.rows; entered = is.entered; answers = is.answers }
+  kept_still h (Claimed w q) none is = record { owners = is.owners; rows = is.rows; entered = is.entered; answers = is.answers }
+  kept_still h (Copied q part place word) none is = record { owners = is.owners; rows = is.rows; entered = is.entered; answers = is.answers }
+  kept_still h (Looked q part name seen) none is = record { owners = is.owners; rows = is.rows; entered = is.entered; answers = is.answers }
+  kept_still h (Faulted q errno) none is = record { owners = is.owners; rows = is.rows; entered = is.entered; answers = is.answers }
+  kept_still h (Ended t) none is = record { owners = is.owners; rows = is.rows; entered = is.entered; answers = is.answers }
   kept_still h (Entered t call regs way) none is = cc
   kept_still h (Answered w s verdict applied) none is = cc
   kept_still h (Replied q reply n) none is = cc
@@ -74,8 +83,9 @@ module _ (i : Input) (ledger : Ledger) where
   kept_still h (Used t seq call regs args ids result changes) none is = cc
   kept_still h (Denied t seq errno cause) none is = cc
 
+module _ (i : Input) (session : List SessionFilter) (ledger : Ledger) where
   -- and prints nothing
-  prints_nothing : (e : Entry) → tells_of_call e ≡ false → kept_line i ledger e ≡ []
+  prints_nothing : (e : Entry) → tells_of_call e ≡ false → kept_line i session ledger e ≡ []
   prints_nothing (Stored t place word) none = refl
   prints_nothing (Claimed w q) none = refl
   prints_nothing (Copied q part place word) none = refl
@@ -89,7 +99,7 @@ module _ (i : Input) (ledger : Ledger) where
   prints_nothing (Used t seq call regs args ids result changes) none = cc
   prints_nothing (Denied t seq errno cause) none = cc
 
-  pub printed_still : (e : Entry) (text : List ℕ) → tells_of_call e ≡ false → text ≡ text ++ kept_line i ledger e
+  pub printed_still : (e : Entry) (text : List ℕ) → tells_of_call e ≡ false → text ≡ text ++ kept_line i session ledger e
   printed_still e text none = sym (append-nil text) ∙ ap (λ line. text ++ line) (sym (prints_nothing e none))
 
 -- ---- one entry more
@@ -101,21 +111,21 @@ module _ (i : Input) (trace : List Entry) (e : Entry) where
   pub kept_more : (old new : Ledger) → IsLedger i old (reverse trace) → ((h : History) → IsLedger i old h → IsLedger i new (e ∷ h)) → IsLedger i new (reverse (trace ++ e ∷ []))
   kept_more old new kept noted = subst (IsLedger i new) (sym newest_first) (noted (reverse trace) kept)
 
-  pub audit_more : (ledger : Ledger) (text new : List ℕ) → text ≡ audit_told i trace → IsLedger i ledger (reverse trace) → new ≡ text ++ kept_line i ledger e → new ≡ audit_told i (trace ++ e ∷ [])
-  audit_more ledger text new written kept more =
-      more ∙ ap (λ line. text ++ line) (line_told i ledger (reverse trace) e kept)
+  pub audit_more : (session : List SessionFilter) (ledger : Ledger) (text new : List ℕ) → session ≡ session_at i (reverse (trace ++ e ∷ [])) → text ≡ audit_told i trace → IsLedger i ledger (reverse trace) → new ≡ text ++ kept_line i session ledger e → new ≡ audit_told i (trace ++ e ∷ [])
+  audit_more session ledger text new same written kept more =
+      more ∙ ap (λ line. text ++ line) (line_told i session ledger (reverse trace) e (same ∙ ap (session_at i) newest_first) kept)
       ∙ ap (λ front. front ++ told_line i (reverse trace) e) written ∙ sym (ap (told_back i) newest_first)
 
 -- what a call that was made prints, by what is told of it
-pub used_line : (i : Input) (ledger : Ledger) (e : Entry) (t : ℕ) (seq : Option ℕ) (call : SysCall) (regs : List ℕ) (args : List ArgText) (ids : Ids) (result : CallResult) (changes : List Change)
+pub used_line : (i : Input) (session : List SessionFilter) (ledger : Ledger) (e : Entry) (t : ℕ) (seq : Option ℕ) (call : SysCall) (regs : List ℕ) (args : List ArgText) (ids : Ids) (result : CallResult) (changes : List Change)
     (text new : List ℕ) (slice told : List ArgText) (how : How) (log : Bool) (decided : Option Decided)
     → e ≡ Used t seq call regs args ids result changes
-    → decided ≡ decided_on (λ q. decided_told i ledger.session.filters (answer_in ledger.answers q)) seq
+    → decided ≡ decided_on (λ q. decided_told i session (answer_in ledger.answers q)) seq
     → slice ≡ args → told ≡ args_used seq slice → how ≡ how_used seq decided ids → log ≡ is_logged decided
     → new ≡ text ++ call_line i (row_in i ledger.rows) (owner_in i ledger.owners t) t call regs (ending_text told how result log)
-    → new ≡ text ++ kept_line i ledger e
-used_line i ledger e t seq call regs args ids result changes text new slice told how log decided is same all those went marked last =
+    → new ≡ text ++ kept_line i session ledger e
+used_line i session ledger e t seq call regs args ids result changes text new slice told how log decided is same all those went marked last =
     last
     ∙ (λ k. text ++ call_line i (row_in i ledger.rows) (owner_in i ledger.owners t) t call regs
     (ending_text ((those ∙ ap (args_used seq) all) k) ((went ∙ ap (λ d. how_used seq d ids) same) k) result ((marked ∙ ap is_logged same) k)))
-    ∙ sym (ap (λ each. text ++ kept_line i ledger each) is)
+    ∙ sym (ap (λ each. text ++ kept_line i session ledger each) is)

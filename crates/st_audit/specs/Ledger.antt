@@ -6,12 +6,13 @@ use Rattle.st_trace.specs.declared.entry.Entry.{Entry}
 use Rattle.st_trace.specs.declared.entry.Entry.TheVariants.{Entered, Used, Denied}
 use Rattle.st_law.specs.declared.input.Input.{Input}
 use Rattle.st_law.specs.Processes.{first_process}
+use Rattle.st_law.specs.Sessions.{SessionFilter}
 use Rattle.st_law.specs.Threads.{History, first_owner, owner_at}
 use Rattle.st_audit.specs.declared.entered.EnteredCall.{EnteredCall}
 use Rattle.st_audit.specs.declared.ledger.Ledger.{Ledger}
 use Rattle.st_audit.specs.AuditText.{line_by}
 use Rattle.st_audit.specs.Rows.{Row, entered_at, row_at, row_of}
-use Rattle.st_audit.specs.Told.{Answer, answer_of, decided_told, session_told}
+use Rattle.st_audit.specs.Told.{Answer, answer_of, decided_told}
 
 -- what a map has of a number, else what stood there at first
 abbrev pub found_or : {X : Type 0} → X → Option X → X
@@ -57,10 +58,9 @@ pub record IsLedger (i : Input) (ledger : Ledger) (h : History) : Type 0 where
   pub rows : (p : ℕ) → row_in i ledger.rows p ≡ row_at i h p
   pub entered : (t : ℕ) → entered_in ledger.entered t ≡ entered_at i h t
   pub answers : (q : ℕ) → answer_in ledger.answers q ≡ answer_of h q
-  pub session : ledger.session.filters ≡ session_told i h
 
--- what an entry prints, by what is kept
-abbrev pub kept_line : Input → Ledger → Entry → List ℕ
-kept_line i ledger e =
+-- what an entry prints, by a session and by what is kept
+abbrev pub kept_line : Input → List SessionFilter → Ledger → Entry → List ℕ
+kept_line i session ledger e =
     line_by i (owner_in i ledger.owners) (row_in i ledger.rows) (entered_in ledger.entered)
-    (λ q. decided_told i ledger.session.filters (answer_in ledger.answers q)) e
+    (λ q. decided_told i session (answer_in ledger.answers q)) e

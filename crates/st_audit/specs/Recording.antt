@@ -3,13 +3,8 @@ use Rattle.std.specs.Prelude.{◌≡◌, List, reverse}
 use Rattle.st_law.specs.declared.input.Input.{Input}
 use Rattle.st_trace.specs.declared.entry.Entry.{Entry}
 use Rattle.st_audit.specs.declared.audit.AuditRecorder.{AuditRecorder}
-use Rattle.st_audit.specs.declared.policies.PolicyRecorder.{PolicyRecorder}
 use Rattle.st_audit.specs.Ledger.{IsLedger}
 use Rattle.st_audit.specs.Told.{audit_told}
-
--- for the policies behind it: what is kept is what these entries of a run of this input tell
-abbrev pub IsKeptOf : PolicyRecorder → Input → List Entry → Type 0
-IsKeptOf recorder i trace = IsLedger i recorder.ledger (reverse trace)
 
 -- for its audit: the text is that of these entries, and what is kept is what they tell
 pub record IsAuditOf (recorder : AuditRecorder) (i : Input) (trace : List Entry) : Type 0 where

@@ -1,4 +1,4 @@
--- What the entries themselves tell of held calls: their applied answers, and the filters that were kept.
+-- What the entries themselves tell of held calls: their applied answers.
 use Rattle.std.specs.Prelude.{ℕ, suc, Bool, true, false, ◌==◌, ◌&&◌, if◌then◌else◌, List, [], ◌∷◌, ◌++◌, reverse, length, Option, Some, None, option_map}
 use Rattle.st_calls.specs.declared.judged.Snapshot.{Snapshot}
 use Rattle.st_calls.specs.declared.judged.Verdict.{Verdict}
@@ -7,7 +7,8 @@ use Rattle.st_model.specs.Tree.{is_number}
 use Rattle.st_trace.specs.declared.entry.Entry.{Entry}
 use Rattle.st_trace.specs.declared.entry.Entry.TheVariants.{Stored, Entered, Claimed, Copied, Looked, Faulted, Answered, Used, Denied, Ended, Replied, Learned}
 use Rattle.st_law.specs.declared.input.Input.{Input}
-use Rattle.st_law.specs.Sessions.{SessionFilter, session_after, session_filters, verdict_or}
+use Rattle.st_law.specs.History.{session_at}
+use Rattle.st_law.specs.Sessions.{SessionFilter, session_filters, verdict_or}
 use Rattle.st_law.specs.State.{read_for}
 use Rattle.st_law.specs.Threads.{History, owner_at}
 use Rattle.st_audit.specs.How.{Decided, decided_by, number_of}
@@ -53,17 +54,6 @@ abbrev pub answer_of : History → ℕ → Option Answer
 answer_of [] q = None
 answer_of (e ∷ h) q = answer_after e q (answer_of h q)
 
--- the copies that an answer was for
-abbrev pub copies_of : Option Answer → Option Snapshot
-copies_of answer = option_map (λ a. a.snapshot) answer
-
--- ---- filters that were kept
-
--- the filters of the session, by the copies that answers were for
-abbrev pub session_told : Input → History → List SessionFilter
-session_told i [] = []
-session_told i (e ∷ h) = session_after i.replies (λ q. copies_of (answer_of h q)) e (session_told i h)
-
 -- ---- what decided
 
 -- what the filters that were read decide by an answer, else those of the session
@@ -75,15 +65,15 @@ decision_told i session a =
 abbrev pub decided_told : Input → List SessionFilter → Option Answer → Option Decided
 decided_told i session answer = option_map (λ a. decided_by i session a.snapshot (number_of (decision_told i session a))) answer
 
--- what an entry prints, by what the entries before it tell
+-- what an entry prints, by what the entries before it tell and by their session
 abbrev pub told_line : Input → History → Entry → List ℕ
-told_line i h e = line_by i (owner_at i h) (row_at i h) (entered_at i h) (λ q. decided_told i (session_told i h) (answer_of h q)) e
+told_line i h e = line_by i (owner_at i h) (row_at i h) (entered_at i h) (λ q. decided_told i (session_at i h) (answer_of h q)) e
 
--- the audit of a history by what its entries tell
+-- the audit of a history by what its entries tell and by their sessions
 abbrev pub told_back : Input → History → List ℕ
 told_back i [] = []
 told_back i (e ∷ h) = told_back i h ++ told_line i h e
 
--- the audit of a trace by what its entries tell
+-- the audit of a trace by what its entries tell and by their sessions
 abbrev pub audit_told : Input → List Entry → List ℕ
 audit_told i trace = told_back i (reverse trace)

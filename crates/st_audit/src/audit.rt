@@ -19,6 +19,7 @@ use crate::telling::tells_of_call;
 use st_base::{Seq, Text, Tid};
 use st_calls::{ArgText, Rule};
 use st_law::Input;
+use st_learn::Session;
 use st_report::Recorder;
 use st_trace::{CallResult, Cause, Entry};
 use std::alloc::{AllocError, Global};
@@ -93,10 +94,11 @@ fn append_line(
     alloc: Global,
     text: &mut Text,
     input: &Input,
+    session: &Session,
     ledger: &Ledger,
     entry: &Entry,
 ) -> Result<(), AllocError>
-    ensures { OnOk result (text.new ≡ text.old ++ kept_line input.now ledger.now entry.now) }
+    ensures { OnOk result (text.new ≡ text.old ++ kept_line input.now session.now.filters ledger.now entry.now) }
 {
     match entry {
         Entry::Used {
@@ -109,7 +111,7 @@ fn append_line(
             result: outcome,
             ..
         } => {
-            let decided = ledger.decided(input, *seq);
+            let decided = ledger.decided(input, session, *seq);
             let ending = Ending {
                 args: args_used(*seq, args.as_slice()),
                 how: How::used(*seq, &decided, *ids),
@@ -129,7 +131,7 @@ fn append_line(
             cause,
         } => match ledger.entered.get(tid) {
             Some(called) => {
-                let decided = ledger.decided(input, seq_told(*seq, cause));
+                let decided = ledger.decided(input, session, seq_told(*seq, cause));
                 let ending = Ending {
                     args: parts_of(&decided),
                     how: How::denied(alloc, *seq, cause)?,
@@ -175,11 +177,17 @@ impl AuditRecorder {
 impl Recorder for AuditRecorder {
     ghost has_noted = { IsAuditOf };
 
-    fn note(&mut self, alloc: Global, input: &Input, entry: &Entry) -> Result<(), AllocError> {
+    fn note(
+        &mut self,
+        alloc: Global,
+        input: &Input,
+        session: &Session,
+        entry: &Entry,
+    ) -> Result<(), AllocError> {
         if !tells_of_call(entry) {
             return Ok(());
         }
-        append_line(alloc, &mut self.text, input, &self.ledger, entry)?;
+        append_line(alloc, &mut self.text, input, session, &self.ledger, entry)?;
         self.ledger.note(alloc, input, entry)
     }
 }

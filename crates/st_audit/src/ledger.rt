@@ -13,7 +13,7 @@ use crate::entered::{EnteredCall, note_entered};
 use crate::marks::Marks;
 use crate::process::{KeptRow, note_owners, note_rows, owner_of};
 use crate::read::{read_count, read_filter};
-use crate::session::{note_session, session_filter};
+use crate::session::session_filter;
 use st_base::{Pid, Seq, Tid};
 use st_calls::{ArgText, Snapshot, Verdict};
 use st_filter::{Action, Filter};
@@ -85,8 +85,6 @@ pub struct Ledger {
     pub entered: BTreeMap<Tid, EnteredCall>,
     /// The applied answers to held calls that are neither made nor denied yet.
     pub answers: BTreeMap<Seq, Answer>,
-    /// The filters that the run has added.
-    pub session: Session,
 }
 
 // Takes an entry into the maps of threads and processes.
@@ -108,6 +106,40 @@ fn note_processes(
     Ok(())
 }
 
+// The filter of a number for a call, by its copies.
+fn filter_numbered<'s>(
+    input: &'s Input,
+    session: &'s Session,
+    copies: &Snapshot,
+    number: u32,
+) -> Option<&'s Filter>
+    ensures { option_copied result ≡ filter_numbered input.now session.now.filters copies.now.policy copies.now.rule number }
+{
+    let policy = input.policies.get(copies.policy.bytes());
+    if let Some(filter) = read_filter(policy, copies.rule, number) {
+        return Some(filter);
+    }
+    // In a lawful run that filter was read, so that only other traces come here.
+    let behind = u64::from(number).checked_sub(read_count(policy, copies.rule))?;
+    session_filter(session, copies.policy.bytes(), copies.rule, behind)
+}
+
+// What an audit says of a held call with these copies, on which none of the filters that were read decides.
+fn decided_by_session<'c>(input: &Input, session: &Session, copies: &'c Snapshot) -> Decided<'c>
+    ensures { result ≡ decided_by input.now session.now.filters copies.now (number_of (decision_told input.now session.now.filters (answer_with copies.now Unmatched))) }
+{
+    let Some((number, filter)) = session.deciding(copies) else {
+        return Decided::by(copies, 0, None);
+    };
+    match filter.action() {
+        Action::Permit | Action::Deny(_) => {
+            let read = read_count(input.policies.get(copies.policy.bytes()), copies.rule);
+            Decided::by(copies, read + u64::from(number), Some(filter))
+        }
+        Action::Ask => Decided::by(copies, 0, None),
+    }
+}
+
 impl Ledger {
     /// Before the first entry.
     pub fn new(alloc: Global) -> Self
@@ -118,56 +150,21 @@ impl Ledger {
             rows: BTreeMap::new(alloc),
             entered: BTreeMap::new(alloc),
             answers: BTreeMap::new(alloc),
-            session: Session::new(alloc),
         }
     }
 
-    // The filter of a number for a call, by its copies.
-    fn filter_numbered<'s>(
-        &'s self,
-        input: &'s Input,
-        copies: &Snapshot,
-        number: u32,
-    ) -> Option<&'s Filter>
-        ensures { option_copied result ≡ filter_numbered input.now self.now.session.filters copies.now.policy copies.now.rule number }
-    {
-        let policy = input.policies.get(copies.policy.bytes());
-        if let Some(filter) = read_filter(policy, copies.rule, number) {
-            return Some(filter);
-        }
-        // In a lawful run that filter was read, so that only other traces come here.
-        let behind = u64::from(number).checked_sub(read_count(policy, copies.rule))?;
-        session_filter(&self.session, copies.policy.bytes(), copies.rule, behind)
-    }
-
-    // What an audit says of a held call with these copies, on which none of the filters that were read decides.
-    fn decided_by_session<'s>(&self, input: &Input, copies: &'s Snapshot) -> Decided<'s>
-        ensures { result ≡ decided_by input.now self.now.session.filters copies.now (number_of (decision_told input.now self.now.session.filters (answer_with copies.now Unmatched))) }
-    {
-        let Some((number, filter)) = self.session.deciding(copies) else {
-            return Decided::by(copies, 0, None);
-        };
-        match filter.action() {
-            Action::Permit | Action::Deny(_) => {
-                let read = read_count(input.policies.get(copies.policy.bytes()), copies.rule);
-                Decided::by(copies, read + u64::from(number), Some(filter))
-            }
-            Action::Ask => Decided::by(copies, 0, None),
-        }
-    }
-
-    /// What an audit says of a held call, where it has this number and was answered.
-    pub fn decided(&self, input: &Input, seq: Option<Seq>) -> Option<Decided<'_>>
-        ensures { result ≡ decided_on (λ q. decided_told input.now self.now.session.filters (answer_in self.now.answers q)) seq }
+    /// What an audit says of a held call by this session, where it has this number and was answered.
+    pub fn decided(&self, input: &Input, session: &Session, seq: Option<Seq>) -> Option<Decided<'_>>
+        ensures { result ≡ decided_on (λ q. decided_told input.now session.now.filters (answer_in self.now.answers q)) seq }
     {
         let answer = self.answers.get(&seq?)?;
         let copies = answer.copies();
         Some(match answer.verdict() {
             Verdict::Permit(number, _) | Verdict::Refuse(number, _) => {
-                let filter = self.filter_numbered(input, copies, number);
+                let filter = filter_numbered(input, session, copies, number);
                 Decided::by(copies, u64::from(number), filter)
             }
-            Verdict::Unmatched => self.decided_by_session(input, copies),
+            Verdict::Unmatched => decided_by_session(input, session, copies),
         })
     }
 
@@ -175,7 +172,6 @@ impl Ledger {
     pub fn note(&mut self, alloc: Global, input: &Input, entry: &Entry) -> Result<(), AllocError>
         ensures { OnOk result ((h : History) → IsLedger input.now self.old h → IsLedger input.now self.new (entry.now ∷ h)) }
     {
-        note_session(alloc, input, &self.answers, &mut self.session, entry)?;
         note_processes(alloc, input, &mut self.owners, &mut self.rows, entry)?;
         note_entered(&mut self.entered, entry)?;
         note_answer(alloc, &mut self.answers, entry)

@@ -15,4 +15,4 @@ mod session;
 mod telling;
 
 pub use audit::{AuditRecorder, longer_runs_extend_the_audit};
-pub use policies::PolicyRecorder;
+pub use policies::policies_text;

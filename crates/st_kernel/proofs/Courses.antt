@@ -2,10 +2,12 @@
 use native.Mathlib.Omega.{arith}
 use Rattle.std.proofs.Common.{inl, inr, length, ◌≡◌, ◌≤◌, ◌<◌, ◌∙◌, ℕ, suc, ◌+◌, Bool, true, false, ◌∷◌, ◌++◌, List, [], Some, None, get_or, set, reverse, ap, sym, subst}
 use Rattle.std.proofs.lemmas.Bool.{cases_eq}
-use Rattle.std.proofs.lemmas.List.{get_or-set_other, length-append, length-set, reverse-append}
+use Rattle.std.proofs.lemmas.List.{get_or-set_other, length-append, length-set, reverse-append, reverse-reverse}
 use Rattle.std.proofs.lemmas.Grind.{reverse_onto}
 use Rattle.st_trace.specs.declared.entry.Choice.{Choice}
 use Rattle.st_trace.specs.declared.entry.Entry.{Entry}
+use Rattle.st_law.proofs.Ties.{state-is}
+use Rattle.st_law.specs.History.{session_at}
 use Rattle.st_law.specs.Machine.{entry_of, history, history_with, run, state_after, state_at, state_of_run, thread_entry}
 use Rattle.st_law.specs.State.{State, thread_count}
 use Rattle.st_law.specs.Threads.{History}
@@ -37,6 +39,12 @@ module _ (i : Input) (choices : List Choice) (c : Choice) (e : Entry) (adds : en
   -- and the state is the one behind it
   pub state_more : state_of_run i (choices ++ c ∷ []) ≡ state_after i (state_of_run i choices) e
   state_more = ap (state_at i) one_more
+
+-- the session is the one behind the run
+pub session_behind : (i : Input) (choices : List Choice) → (state_of_run i choices).session ≡ session_at i (reverse (run i choices))
+session_behind i choices =
+    let h : History = history i (reverse choices) in
+    ap (λ (st : State). st.session) (state-is i h) ∙ ap (session_at i) (sym (reverse-reverse h))
 
 -- ---- the cursor and the marks
 

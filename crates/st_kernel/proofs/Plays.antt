@@ -1,15 +1,17 @@
 -- What the lines of a schedule come to, from where the kernel stands.
 use native.Mathlib.Omega.{arith}
-use Rattle.std.proofs.Common.{◌≡◌, ◌<◌, ◌∙◌, ℕ, suc, ◌+◌, ◌-◌, ◌∷◌, ◌++◌, List, [], Some, None, Result, Ok, Err, ap, sym, subst}
+use Rattle.std.proofs.Common.{◌≡◌, ◌<◌, ◌∙◌, ℕ, suc, ◌+◌, ◌-◌, ◌∷◌, ◌++◌, List, [], Some, None, Result, Ok, Err, ap, reverse, sym, subst}
 use Rattle.std.specs.Result.{IsErr, IsErrAnd}
 use Rattle.std.proofs.Math.Nat.{le_refl}
 use Rattle.std.proofs.lemmas.List.{append_assoc, append-nil}
 use Rattle.st_trace.specs.declared.entry.Choice.{Choice}
 use Rattle.st_trace.specs.declared.entry.Entry.{Entry}
 use Rattle.st_law.proofs.Resting.{rest_settles}
+use Rattle.st_law.specs.History.{session_at}
 use Rattle.st_law.specs.Inputs.{IsStartable}
 use Rattle.st_law.specs.Machine.{entry_of, state_after, state_of_run}
 use Rattle.st_law.specs.Schedules.{Played, further_on, line_played, most_steps, repeated, rest_from}
+use Rattle.st_law.specs.Sessions.{SessionFilter}
 use Rattle.st_law.specs.State.{State}
 use Rattle.st_law.specs.declared.input.Input.{Input}
 use Rattle.st_law.specs.declared.input.What.TheVariants.{Rest}
@@ -66,12 +68,15 @@ module _ (old : Course) (c : Choice) (count k : ℕ) (within : k < count) where
 -- ---- entries that are taken down
 
 -- what holds of the run so far, and then of each longer one by an entry, holds behind a choice
-pub noted_on : (P Q : Input → List Entry → Type 0) (old : Course) (c : Choice) (e : Entry) (new : Course) (i : Input) → new ≡ with_choice old c → i ≡ new.input → entry_of old.input (state_in old) c ≡ Some e
-    → ((trace : List Entry) → P i trace → Q i (trace ++ e ∷ [])) → P old.input (trace_of old) → Q new.input (trace_of new)
-noted_on P Q old c e new i on same adds noted x =
+pub noted_on : (P Q : Input → List Entry → Type 0) (old : Course) (c : Choice) (e : Entry) (new : Course) (i : Input) (session : List SessionFilter)
+    → new ≡ with_choice old c → i ≡ new.input → session ≡ session_at new.input (reverse (trace_of new)) → entry_of old.input (state_in old) c ≡ Some e
+    → ((trace : List Entry) → session ≡ session_at i (reverse (trace ++ e ∷ [])) → P i trace → Q i (trace ++ e ∷ [])) → P old.input (trace_of old) → Q new.input (trace_of new)
+noted_on P Q old c e new i session on same behind adds noted x =
     let was : i ≡ old.input = same ∙ ap (λ (course : Course). course.input) on in
+    let longer : trace_of new ≡ trace_of old ++ e ∷ [] = ap trace_of on ∙ run_more old.input old.choices c e adds in
+    let here : session ≡ session_at i (reverse (trace_of old ++ e ∷ [])) = behind ∙ (λ k. session_at (sym same k) (reverse (longer k))) in
     subst (λ (j : Input). Q j (trace_of new)) same
-    (subst (Q i) (sym (ap trace_of on ∙ run_more old.input old.choices c e adds)) (noted (trace_of old) (subst (λ (j : Input). P j (trace_of old)) (sym was) x)))
+    (subst (Q i) (sym longer) (noted (trace_of old) here (subst (λ (j : Input). P j (trace_of old)) (sym was) x)))
 
 -- ---- choices that were made stand
 

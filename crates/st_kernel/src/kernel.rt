@@ -1,4 +1,5 @@
-ghost use Rattle.std.specs.Prelude.{◌≡◌, ◌≤◌, [], None, Some, is_some, IfOk, OnOk, OnErr};
+ghost use Rattle.std.specs.Prelude.{◌≡◌, ◌≤◌, [], reverse, None, Some, is_some, IfOk, OnOk, OnErr};
+ghost use Rattle.st_law.specs.History.{session_at};
 ghost use Rattle.st_law.specs.Inputs.{IsStartable};
 ghost use Rattle.st_law.specs.Lawful.{Lawful};
 ghost use Rattle.st_law.specs.Machine.{entry_of, IsEnabled, IsSettled};
@@ -13,6 +14,7 @@ ghost use Rattle.st_kernel.specs.Kernel.{rested, state_in, trace_of, with_choice
 use crate::waking::woken_by;
 use st_base::Tid;
 use st_law::Input;
+use st_learn::Session;
 use st_machine::Machine;
 use st_report::{Recorder, Repeat, note_choice};
 use st_trace::{Choice, Entry};
@@ -93,6 +95,13 @@ impl<'a> Kernel<'a> {
         ensures { result.now ≡ self.now.input }
     {
         self.machine.input()
+    }
+
+    /// The session behind the choices that were made.
+    pub fn session(&self) -> &Session
+        ensures { result.now.filters ≡ session_at self.now.input (reverse (trace_of self.now)) }
+    {
+        self.machine.session()
     }
 
     /// The choices that were made, in order, with equal neighbours joined. Each was enabled at its turn, and each entry of the run that they
@@ -245,7 +254,7 @@ impl<'a> Kernel<'a> {
         let mut added = None;
         while self.make_next(alloc, &mut added)? {
             let Some(entry) = &added else { unreachable!() };
-            recorder.note(alloc, self.input(), entry)?;
+            recorder.note(alloc, self.input(), self.session(), entry)?;
         }
         Ok(())
     }

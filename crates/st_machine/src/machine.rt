@@ -3,7 +3,7 @@ ghost use Rattle.st_base.specs.Numbered.{item_at_number};
 ghost use Rattle.st_filter.specs.Policies.{policy_of};
 ghost use Rattle.st_law.specs.Inputs.{IsStartable};
 ghost use Rattle.st_law.specs.Machine.{first_state};
-ghost use Rattle.st_law.specs.State.{thread_count};
+ghost use Rattle.st_law.specs.State.{State, thread_count};
 ghost use Rattle.st_machine.specs.Machine.{IsMachine};
 ghost use Rattle.st_machine.specs.Thread.{first_row};
 ghost use Rattle.st_reached.specs.Grants.{RepliesUngranted, SetIdsUngranted};
@@ -14,6 +14,7 @@ use crate::thread::Thread;
 use st_base::Tid;
 use st_compile::FastTable;
 use st_law::Input;
+use st_learn::Session;
 use st_operator::Operator;
 use st_system::System;
 use st_trace::ThreadRow;
@@ -83,6 +84,13 @@ impl<'a> Machine<'a> {
         ensures { result.now ≡ self.now.input }
     {
         self.input
+    }
+
+    /// The session, as the run has it in each state that the machine is in.
+    pub fn session(&self) -> &Session
+        ensures { (st : State) → IsMachine self.now st → result.now.filters ≡ st.session }
+    {
+        self.operator.session()
     }
 
     // How far a thread has come; none exactly where the script has no such thread.

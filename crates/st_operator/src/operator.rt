@@ -74,6 +74,13 @@ impl<'a> Operator<'a> {
         })
     }
 
+    /// The session: the filters that were learnt or replied.
+    pub fn session(&self) -> &Session
+        ensures { result.now.filters ≡ self.now.filters }
+    {
+        &self.session
+    }
+
     /// What the kernel answers by itself by the session's first filter for a policy and a rule; none where the session has none.
     pub fn first_answer(&self, policy: &[u8], rule: Rule) -> Option<FastAnswer>
         ensures { result ≡ first_answer (session_filters self.now.filters policy.now rule) }

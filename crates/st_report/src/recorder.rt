@@ -1,8 +1,10 @@
-ghost use Rattle.std.specs.Prelude.{◌++◌, ◌∷◌, [], ⊤, List, OnOk};
+ghost use Rattle.std.specs.Prelude.{◌≡◌, ◌++◌, ◌∷◌, [], ⊤, List, reverse, OnOk};
+ghost use Rattle.st_law.specs.History.{session_at};
 ghost use Rattle.st_law.specs.declared.input.Input.{Input};
 ghost use Rattle.st_trace.specs.declared.entry.Entry.{Entry};
 
 use st_law::Input;
+use st_learn::Session;
 use st_trace::Entry;
 use std::alloc::{AllocError, Global};
 
@@ -11,9 +13,15 @@ pub trait Recorder {
     /// Whether just these entries of a run of this input were taken down, in order.
     ghost has_noted: { Self → Input → List Entry → Type 0 };
 
-    /// Takes the next entry of a run of this input down.
-    fn note(&mut self, alloc: Global, input: &Input, entry: &Entry) -> Result<(), AllocError>
-        ensures { OnOk result ((trace : List Entry) → has_noted self.old input.now trace → has_noted self.new input.now (trace ++ entry.now ∷ [])) };
+    /// Takes the next entry of a run of this input down. The session is the one behind that entry.
+    fn note(
+        &mut self,
+        alloc: Global,
+        input: &Input,
+        session: &Session,
+        entry: &Entry,
+    ) -> Result<(), AllocError>
+        ensures { OnOk result ((trace : List Entry) → session.now.filters ≡ session_at input.now (reverse (trace ++ entry.now ∷ [])) → has_noted self.old input.now trace → has_noted self.new input.now (trace ++ entry.now ∷ [])) };
 }
 
 /// Takes nothing down.
@@ -23,7 +31,13 @@ pub struct NoRecorder;
 impl Recorder for NoRecorder {
     ghost has_noted = { λ _ _ _. ⊤ };
 
-    fn note(&mut self, _alloc: Global, _input: &Input, _entry: &Entry) -> Result<(), AllocError> {
+    fn note(
+        &mut self,
+        _alloc: Global,
+        _input: &Input,
+        _session: &Session,
+        _entry: &Entry,
+    ) -> Result<(), AllocError> {
         Ok(())
     }
 }

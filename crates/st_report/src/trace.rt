@@ -6,6 +6,7 @@ use crate::entry::append_entry;
 use crate::recorder::Recorder;
 use st_base::Text;
 use st_law::Input;
+use st_learn::Session;
 use st_trace::Entry;
 use std::alloc::{AllocError, Global};
 use std::marker::Model;
@@ -45,7 +46,13 @@ impl TraceRecorder {
 impl Recorder for TraceRecorder {
     ghost has_noted = { λ text _ trace. text ≡ trace_text trace };
 
-    fn note(&mut self, alloc: Global, _input: &Input, entry: &Entry) -> Result<(), AllocError> {
+    fn note(
+        &mut self,
+        alloc: Global,
+        _input: &Input,
+        _session: &Session,
+        entry: &Entry,
+    ) -> Result<(), AllocError> {
         append_entry(alloc, &mut self.text, entry)?;
         self.text.push(b'\n')
     }

@@ -8,7 +8,7 @@ ghost use Rattle.st_system.specs.Start.{CanStart};
 ghost use Rattle.st_top.specs.Ends.{RunShown};
 
 use crate::status::Status;
-use st_audit::{AuditRecorder, PolicyRecorder};
+use st_audit::{AuditRecorder, policies_text};
 use st_base::Text;
 use st_command::Print;
 use st_kernel::Kernel;
@@ -56,13 +56,11 @@ fn policies_of(
     kernel: &mut Kernel<'_>,
     schedule: &ReadSchedule,
 ) -> Result<Text, Status>
-    requires startable { IsStartable kernel.old.input }
     requires none { kernel.old.choices ≡ [] }
     ensures { RunShown print.Policy kernel.old.input schedule.now result }
 {
-    let mut recorder = PolicyRecorder::new(alloc);
-    kernel.play(alloc, schedule, &mut recorder)?;
-    Ok(recorder.text(alloc, kernel.input())?)
+    kernel.play(alloc, schedule, &mut NoRecorder)?;
+    Ok(policies_text(alloc, kernel.input(), kernel.session())?)
 }
 
 /// Plays a schedule, and gives the text that is asked for of its run.

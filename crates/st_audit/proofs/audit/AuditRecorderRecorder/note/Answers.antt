@@ -6,20 +6,22 @@ use Rattle.st_audit.proofs.Following.{audit_more, kept_more, kept_still, printed
 use Rattle.st_audit.proofs.audit.AuditRecorderRecorder.note.Goals as goal
 
 pub returns-then-not-tells_of_call : goal.returns-then-not-tells_of_call
-returns-then-not-tells_of_call c = λ trace is.
+returns-then-not-tells_of_call c = λ trace same is.
     let i = c.args.input.now in
+    let session = c.args.session.now.filters in
     let e = c.args.entry.now in
     let ledger = c.args.self.now.ledger in
     let none : tells_of_call e ≡ false = search rules in
     record {
-      text = audit_more i trace e ledger c.args.self.now.text c.args.self.now.text is.text is.kept (printed_still i ledger e c.args.self.now.text none);
+      text = audit_more i trace e session ledger c.args.self.now.text c.args.self.now.text same is.text is.kept (printed_still i session ledger e c.args.self.now.text none);
       kept = kept_more i trace e ledger ledger is.kept (λ h. kept_still i ledger h e none);
     }
 
 pub returns : goal.returns
 returns c =
     let i = c.args.input.now in
-    on_ok_weaker c.note.result (λ noted trace (is : IsAuditOf c.args.self.now i trace). record {
-      text = audit_more i trace c.args.entry.now c.args.self.now.ledger c.args.self.now.text c.append_line.new.text is.text is.kept c.in_ok-append_line.ensures;
+    let session = c.args.session.now.filters in
+    on_ok_weaker c.note.result (λ noted trace same (is : IsAuditOf c.args.self.now i trace). record {
+      text = audit_more i trace c.args.entry.now session c.args.self.now.ledger c.args.self.now.text c.append_line.new.text same is.text is.kept c.in_ok-append_line.ensures;
       kept = kept_more i trace c.args.entry.now c.args.self.now.ledger c.note.new.self is.kept noted;
     }) c.note.ensures

@@ -10,11 +10,9 @@ returns c =
       rows = c.note_processes.new.rows;
       entered = c.note_entered.new.entered;
       answers = c.note_answer.new.answers;
-      session = c.note_session.new.session;
     }) c.args.entry.now h (record {
       owners = c.in_ok-note_processes.ensures.owners;
       rows = c.in_ok-note_processes.ensures.rows;
       entered = c.in_ok-note_entered.ensures;
       answers = answers;
-      session = c.in_ok-note_session.ensures;
     }) is) c.note_answer.ensures
