@@ -40,10 +40,16 @@ const USAGE: &[u8] =
     b"usage: systrace step [-f POLICY]... [-a|-A|-t] [-i] [-u] [-c U:G] [-w N] [--print audit|trace|schedule|policy] SCRIPT SCHEDULE
        systrace check [-c U:G] POLICY [SCRIPT]";
 
-// Words, how they end where no file can be read any more, and the line.
+// The line of these words where they end so and no file can be read any more.
+fn line_at_end(alloc: Global, line: &str, status: Status) -> Result<Text, Fail> {
+    let words = words_of(alloc, line)?;
+    let mut files = MemoryFiles::new(alloc);
+    Ok(line_of(alloc, &mut files, words.as_slice(), status)?)
+}
+
 #[test]
-fn tells_a_status(rt: HostRuntime) -> Result<(), Fail> {
-    let cases: [(&str, Status, &[u8]); 17] = [
+fn tells_usage_and_faults(rt: HostRuntime) -> Result<(), Fail> {
+    let cases: [(&str, Status, &[u8]); 6] = [
         (STEP, Status::Done, b""),
         ("step", Status::Usage, USAGE),
         ("step -A -t s c", Status::Usage, USAGE),
@@ -58,6 +64,17 @@ fn tells_a_status(rt: HostRuntime) -> Result<(), Fail> {
             b"systrace: standard output could not be written",
         ),
         (STEP, Status::NoMemory, b"systrace: out of memory"),
+    ];
+    for (line, status, wanted) in cases {
+        let found = line_at_end(rt.alloc(), line, status)?;
+        assert_eq!(rt; found.bytes(), wanted);
+    }
+    Ok(())
+}
+
+#[test]
+fn tells_the_file_that_is_missing_or_too_long(rt: HostRuntime) -> Result<(), Fail> {
+    let cases: [(&str, Status, &[u8]); 6] = [
         (
             STEP,
             Status::Missing(Which::Policy(1)),
@@ -79,21 +96,6 @@ fn tells_a_status(rt: HostRuntime) -> Result<(), Fail> {
             b"systrace: c: holds more than 1048576 bytes",
         ),
         (
-            STEP,
-            Status::Policy(2, PolicyFault::Expected(0)),
-            b"systrace: q: refused, and no memory was left to tell why",
-        ),
-        (
-            STEP,
-            Status::Script(ScriptFault::Expected(1)),
-            b"systrace: s: refused, and no memory was left to tell why",
-        ),
-        (
-            STEP,
-            Status::Schedule(1),
-            b"systrace: c: refused, and no memory was left to tell why",
-        ),
-        (
             "check -c 67:67 p",
             Status::Missing(Which::Policy(1)),
             b"systrace: p: no such file",
@@ -103,21 +105,47 @@ fn tells_a_status(rt: HostRuntime) -> Result<(), Fail> {
             Status::Missing(Which::Script),
             b"systrace: s: no such file",
         ),
+    ];
+    for (line, status, wanted) in cases {
+        let found = line_at_end(rt.alloc(), line, status)?;
+        assert_eq!(rt; found.bytes(), wanted);
+    }
+    Ok(())
+}
+
+#[test]
+fn tells_the_file_that_is_refused(rt: HostRuntime) -> Result<(), Fail> {
+    let policy = PolicyFault::Expected(0);
+    let script = Status::Script(ScriptFault::Expected(1));
+    let cases: [(&str, Status, &[u8]); 5] = [
+        (
+            STEP,
+            Status::Policy(2, policy),
+            b"systrace: q: refused, and no memory was left to tell why",
+        ),
+        (
+            STEP,
+            script,
+            b"systrace: s: refused, and no memory was left to tell why",
+        ),
+        (
+            STEP,
+            Status::Schedule(1),
+            b"systrace: c: refused, and no memory was left to tell why",
+        ),
         (
             "check p",
-            Status::Policy(1, PolicyFault::Expected(0)),
+            Status::Policy(1, policy),
             b"systrace: p: refused, and no memory was left to tell why",
         ),
         (
             "check p s",
-            Status::Script(ScriptFault::Expected(1)),
+            script,
             b"systrace: s: refused, and no memory was left to tell why",
         ),
     ];
     for (line, status, wanted) in cases {
-        let words = words_of(rt.alloc(), line)?;
-        let mut files = MemoryFiles::new(rt.alloc());
-        let found = line_of(rt.alloc(), &mut files, words.as_slice(), status)?;
+        let found = line_at_end(rt.alloc(), line, status)?;
         assert_eq!(rt; found.bytes(), wanted);
     }
     Ok(())
