@@ -24,7 +24,7 @@ pub fn expected_at(place: Place) -> &'static str {
         Place::IndexEnd | Place::ErrorEnd => "']'",
         Place::Operator => "one of match, eq, neq, sub, nsub, inpath",
         Place::Text => "a quoted text",
-        Place::Joint => "'and', 'or', 'then', or ')' behind its '('",
+        Place::Joint => "'and', 'or' or 'then'",
         Place::Action => "'permit', 'deny' or 'ask'",
         Place::Denial => "'[', 'log', ',' or the end of the line",
         Place::Error => ERROR,

@@ -2,11 +2,15 @@
 #![tactic(auto)]
 
 mod answer;
+mod arguments;
+mod caret;
+mod details;
 mod expected;
 mod message;
 mod names;
 mod policy_fault;
 mod position;
+mod refusal;
 mod row;
 mod schedule_fault;
 mod script_fault;

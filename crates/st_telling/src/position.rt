@@ -26,6 +26,20 @@ pub fn rest_of_line(text: &[u8], at: usize) -> &[u8] {
     &rest[..end.min(rest.len())]
 }
 
+/// The line in which a byte stands, from its first byte; of a byte behind the text, the last line.
+pub fn line_around(text: &[u8], at: usize) -> &[u8] {
+    let start = at
+        .min(text.len())
+        .saturating_sub(before_in_line(text, at).len());
+    let rest = &text[start..];
+    let end = rest.iter().take_while(|byte| **byte != b'\n').count();
+    let line = &rest[..end.min(rest.len())];
+    match line {
+        [whole @ .., b'\r'] => whole,
+        _ => line,
+    }
+}
+
 /// The position of a byte; of a byte behind the text, that of the text's end.
 pub fn position_in(text: &[u8], at: usize) -> Position {
     let before = &text[..at.min(text.len())];

@@ -85,7 +85,7 @@ fn expected_of(fault: ScriptFault, row: Row) -> &'static str {
     }
 }
 
-/// The line that tells a person why a script is refused, without its newline.
+/// What tells a person why a script is refused, without the newline behind it: a line, and where it tells of a byte, the lines that show it.
 pub fn script_message(
     alloc: Global,
     name: &[u8],

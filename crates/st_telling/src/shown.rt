@@ -1,3 +1,4 @@
+use crate::caret::append_line_with_caret;
 use crate::position::{Position, position_in, rest_of_line};
 use st_base::Text;
 use st_lex::{LexFault, hex_digit};
@@ -6,7 +7,7 @@ use std::alloc::{AllocError, Global};
 // How much of a file a message shows, in bytes.
 const SHOWN: usize = 60;
 
-/// Appends bytes between quotes, each that doesn't print by its number.
+/// Appends bytes between quotes, each that doesn't print by its number; behind the quotes `...` where there are more.
 pub fn append_shown(line: &mut Text, bytes: &[u8]) -> Result<(), AllocError> {
     line.push(b'\'')?;
     for &byte in &bytes[..bytes.len().min(SHOWN)] {
@@ -15,7 +16,7 @@ pub fn append_shown(line: &mut Text, bytes: &[u8]) -> Result<(), AllocError> {
             _ => line.append(&[b'\\', b'x', hex_digit(byte / 16), hex_digit(byte % 16)])?,
         }
     }
-    line.push(b'\'')
+    line.append(if bytes.len() > SHOWN { b"'..." } else { b"'" })
 }
 
 // A message about a file, as far as the line of the file that it is about.
@@ -79,7 +80,7 @@ pub fn token_for(fault: LexFault) -> &'static str {
     }
 }
 
-/// The line for a text that has a lexical fault.
+/// The lines for a text that has a lexical fault.
 pub fn lexical_message(
     alloc: Global,
     name: &[u8],
@@ -88,8 +89,10 @@ pub fn lexical_message(
 ) -> Result<Text, AllocError> {
     let at = place_of(fault);
     let mut line = found_at(alloc, name, position_in(text, at))?;
-    append_shown(&mut line, broken(rest_of_line(text, at), fault))?;
+    let found = broken(rest_of_line(text, at), fault);
+    append_shown(&mut line, found)?;
     line.append(b", expected ")?;
     line.append(token_for(fault).as_bytes())?;
+    append_line_with_caret(&mut line, text, at, found.len())?;
     Ok(line)
 }

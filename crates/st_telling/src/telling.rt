@@ -78,7 +78,7 @@ fn told_of_file<F: Files>(
 }
 
 /// The line that tells a person how a call with these words ended, over the files that it read, without its newline. Where a file is
-/// refused, the line says what stands there.
+/// refused, the line says what stands there, and where it tells of a byte, two more lines show it.
 pub fn line_of<F: Files>(
     alloc: Global,
     files: &mut F,

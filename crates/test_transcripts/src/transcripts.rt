@@ -453,14 +453,18 @@ native-write: permit
         files: &[HTTPD_POLICY],
         number: 3,
         written: b"",
-        told: b"systrace: httpd.policy:19:73: found 'www', expected an id below 4294967296, or the name of a known user or group",
+        told: b"systrace: httpd.policy:19:73: found 'www', expected an id below 4294967296, or the name of a known user or group; known is 'root'
+native-fswrite: filename match \"/var/www/logs/*\" then permit, if user = www
+                                                                        ^",
     },
     Transcript {
         words: "check www.policy",
         files: &[WWW_POLICY],
         number: 3,
         written: b"",
-        told: b"systrace: www.policy:5:62: found 'as', expected no 'as' where no ids are given by '-c U:G'",
+        told: b"systrace: www.policy:5:62: found 'as', expected no 'as' where no ids are given by '-c U:G'
+native-bind: sockaddr eq \"inet-[0.0.0.0]:80\" then permit log as root:wheel
+                                                             ^",
     },
     Transcript {
         words: "step -f getpid.policy no.script rest.schedule",
