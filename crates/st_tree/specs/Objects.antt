@@ -1,6 +1,10 @@
 -- The objects that a tree keeps, as the tree of names that they make.
 use Rattle.st_base.specs.Numbered.{item_at_number}
-use Rattle.std.specs.Prelude.{◌≤◌, ℕ, Bool, false, List, [], map, length, Option, Some, None}
+use Rattle.std.specs.Prelude.{◌≤◌, ℕ, Bool, false, List, [], ◌∷◌, map, length, Option, Some, None, Vec}
+use Rattle.std.specs.BTreeMap.{insert_entry}
+use Rattle.std.specs.Cmp.Lexicographic.{slice_cmp}
+use Rattle.std.specs.Ordering.{nat_cmp}
+use Rattle.std.specs.declared.alloc.Global.{Global}
 use Rattle.st_model.specs.Tree.{Node, Tree, is_directory}
 use Rattle.st_model.specs.declared.object.Kind.{Kind}
 use Rattle.st_model.specs.declared.object.Kind.TheVariants as object_kind
@@ -22,9 +26,18 @@ content_of_body (Dir entries) = []
 content_of_body (File content) = content.items
 content_of_body (Link target) = target.items
 
+-- entries as the index of a directory keeps them, in any order
+abbrev pub KeptEntries : Type 0
+KeptEntries = List (Vec ℕ Global × ℕ)
+
+-- the same in the order of their components
+abbrev pub sorted_entries : KeptEntries → Entries
+sorted_entries [] = []
+sorted_entries (held ∷ rest) = insert_entry (slice_cmp nat_cmp) (sorted_entries rest) held.0.items held.1
+
 -- the entries of a directory; another object has none
 abbrev pub entries_of_body : Body → Entries
-entries_of_body (Dir entries) = map (λ held. (held.0.items, held.1)) entries.entries
+entries_of_body (Dir entries) = sorted_entries entries.entries
 entries_of_body (File content) = []
 entries_of_body (Link target) = []
 

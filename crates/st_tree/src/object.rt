@@ -3,20 +3,21 @@ ghost use Rattle.std.specs.BTreeMap.{insert_entry, is_at};
 ghost use Rattle.std.specs.Cmp.Lexicographic.{slice_cmp};
 ghost use Rattle.std.specs.Map.{lookup, remove_entry};
 ghost use Rattle.std.specs.Ordering.{nat_cmp};
+ghost use Rattle.std.specs.Str.{bytes_eq};
 ghost use Rattle.st_model.specs.Permission.{allowed};
 ghost use Rattle.st_model.specs.Tree.{is_directory, bytes_after_write, bytes_after_cut, seen_of_kind, size_of_kind, content_of_new, kind_of_new, node_of_new};
 ghost use Rattle.st_model.specs.declared.object.Kind.TheVariants as object_kind;
 ghost use Rattle.st_names.specs.Seen.{seen_text};
-ghost use Rattle.st_tree.specs.Objects.{content_of_body, entries_of_body, kind_of_body, node_of};
+ghost use Rattle.st_tree.specs.Objects.{content_of_body, entries_of_body, kind_of_body, node_of, sorted_entries};
 ghost use Rattle.st_tree.specs.Nodes.{with_content};
 ghost use Rattle.st_model.specs.declared.limits.TheConstants.{LONGEST_FILE};
 
 use crate::content;
+use indexmap::IndexMap;
 use st_base::{Obj, Text};
 use st_model::{Kind, NewKind, NewNode, Permission, Want};
 use st_names::Seen;
 use std::alloc::{AllocError, Global};
-use std::collections::BTreeMap;
 
 /// What an object shows of itself.
 #[derive(Clone, Copy, Debug, PartialEq, Eq)]
@@ -40,8 +41,8 @@ pub(crate) struct Object {
 
 #[derive(Debug, Drop)]
 pub(crate) enum Body {
-    // The number of the object that each component has.
-    Dir(BTreeMap<Vec<u8>, Obj>),
+    // The number of the object that each component has. No call lists a directory, so they stand in no order.
+    Dir(IndexMap<Vec<u8>, Obj>),
     File(Vec<u8>),
     Link(Vec<u8>),
 }
@@ -53,10 +54,39 @@ impl Body {
         ensures entries { entries_of_body result ≡ [] }
     {
         match kind {
-            NewKind::Dir => Body::Dir(BTreeMap::new(alloc)),
+            NewKind::Dir => Body::Dir(IndexMap::new(alloc)),
             NewKind::File(content) => Body::File(content.into_bytes()),
             NewKind::Link(target) => Body::Link(target.into_bytes()),
         }
+    }
+}
+
+// Up to so many entries each is compared: a hash costs more than that.
+const FEW_ENTRIES: usize = 4;
+
+// The number that a component has among entries, each of which is compared.
+fn compared(entries: &IndexMap<Vec<u8>, Obj>, part: &[u8]) -> Option<Obj>
+    ensures { result ≡ lookup (λ key. bytes_eq part.now key.items) entries.now.entries }
+{
+    for place in 0..entries.len() {
+        let Some((component, obj)) = entries.get_index(place) else {
+            unreachable!()
+        };
+        if part == component.as_slice() {
+            return Some(*obj);
+        }
+    }
+    None
+}
+
+// The number that a component has among the entries of a directory.
+fn entry_in(entries: &IndexMap<Vec<u8>, Obj>, part: &[u8]) -> Option<Obj>
+    ensures { result ≡ lookup (is_at (slice_cmp nat_cmp part.now)) (sorted_entries entries.now.entries) }
+{
+    if entries.len() <= FEW_ENTRIES {
+        compared(entries, part)
+    } else {
+        entries.get(part).copied()
     }
 }
 
@@ -149,7 +179,7 @@ impl Object {
         ensures { result ≡ lookup (is_at (slice_cmp nat_cmp part.now)) (entries_of_body self.now.body) }
     {
         match &self.body {
-            Body::Dir(entries) => entries.get(part).copied(),
+            Body::Dir(entries) => entry_in(entries, part),
             Body::File(_) | Body::Link(_) => None,
         }
     }
@@ -174,7 +204,7 @@ impl Object {
         ensures node { node_of self.new ≡ node_of self.old }
     {
         if let Body::Dir(entries) = &mut self.body {
-            entries.remove(part);
+            entries.swap_remove(part);
         }
     }
 
