@@ -115,13 +115,13 @@ fn filter_numbered<'s>(
 ) -> Option<&'s Filter>
     ensures { option_copied result ≡ filter_numbered input.now session.now.filters copies.now.policy copies.now.rule number }
 {
-    let policy = input.policies.get(copies.policy.bytes());
+    let policy = input.policies.get(copies.policy.get().bytes());
     if let Some(filter) = read_filter(policy, copies.rule, number) {
         return Some(filter);
     }
     // In a lawful run that filter was read, so that only other traces come here.
     let behind = u64::from(number).checked_sub(read_count(policy, copies.rule))?;
-    session_filter(session, copies.policy.bytes(), copies.rule, behind)
+    session_filter(session, copies.policy.get().bytes(), copies.rule, behind)
 }
 
 // What an audit says of a held call with these copies, on which none of the filters that were read decides.
@@ -133,7 +133,7 @@ fn decided_by_session<'c>(input: &Input, session: &Session, copies: &'c Snapshot
     };
     match filter.action() {
         Action::Permit | Action::Deny(_) => {
-            let read = read_count(input.policies.get(copies.policy.bytes()), copies.rule);
+            let read = read_count(input.policies.get(copies.policy.get().bytes()), copies.rule);
             Decided::by(copies, read + u64::from(number), Some(filter))
         }
         Action::Ask => Decided::by(copies, 0, None),

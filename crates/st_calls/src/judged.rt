@@ -1,7 +1,7 @@
 use crate::argument::ArgText;
 use crate::call::SysCall;
 use crate::rule::Rule;
-use st_base::{Errno, Ids, Pid, Seq, Sequence, Text};
+use st_base::{Errno, Ids, Pid, Seq, Sequence, Shared, Text};
 
 /// A held call with the copies of its arguments: what policies judge, and what is used.
 #[derive(Debug, Drop)]
@@ -10,7 +10,7 @@ pub struct Snapshot {
     pub pid: Pid,
     pub ids: Ids,
     /// The binary whose policy judges it.
-    pub policy: Text,
+    pub policy: Shared<Text>,
     pub rule: Rule,
     pub call: SysCall,
     pub regs: [u64; 6],

@@ -7,7 +7,7 @@ ghost use Rattle.st_request.specs.Outcome.{outcome_of, unless_err, with_tree};
 ghost use Rattle.st_request.specs.Processes.{AreProcessesAfter};
 
 use crate::walking;
-use st_base::Errno;
+use st_base::{Errno, Shared};
 use st_names::AbsName;
 use st_procs::Procs;
 use st_request::{Outcome, Request};
@@ -47,7 +47,7 @@ pub fn chdir(
     if let Err(errno) = may_enter(tree, request, &name) {
         return Ok(Outcome::failure(alloc, errno));
     }
-    let cwd = name.copy(alloc)?;
+    let cwd = Shared::new(alloc, name.copy(alloc)?)?;
     let outcome = Outcome::change(alloc, 0, Change::Cwd(name))?;
     procs.set_cwd(request.pid, cwd);
     Ok(outcome)

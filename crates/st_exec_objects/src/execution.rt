@@ -12,7 +12,7 @@ ghost use Rattle.st_trace.specs.declared.entry.CallResult.TheVariants.{Value};
 ghost use Rattle.st_exec_objects.specs.Execution.{spaces_after};
 
 use crate::walking;
-use st_base::{Errno, Sequence, Space};
+use st_base::{Errno, Sequence, Shared, Space};
 use st_memory::Spaces;
 use st_names::AbsName;
 use st_procs::Procs;
@@ -81,7 +81,7 @@ fn execute(
     ensures live { (s : ℕ) → s ≢ (process_at procs.old request.now.pid).space → is_live spaces.old s ≡ true → is_live spaces.new s ≡ true }
     ensures err { OnErr result ((procs.new ≡ procs.old) × (spaces.new ≡ spaces.old)) }
 {
-    let binary = name.print(alloc)?;
+    let binary = Shared::new(alloc, name.print(alloc)?)?;
     let space = spaces.make(alloc)?;
     let made = executed(alloc, name, space, request.inherit);
     if made.is_err() {

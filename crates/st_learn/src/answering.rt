@@ -43,7 +43,7 @@ impl Session {
     {
         match self.deciding(copies) {
             Some((number, filter)) => {
-                let policy = policies.get(copies.policy.bytes());
+                let policy = policies.get(copies.policy.get().bytes());
                 let read = read_count(policy, copies.rule) as u32;
                 verdict_of(filter, read + number, copies.ids)
             }

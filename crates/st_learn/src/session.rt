@@ -213,9 +213,10 @@ impl Session {
     fn first_asking(&self, text: &[u8], copies: &Snapshot) -> Option<usize>
         ensures { result ≡ first_at (λ kept. asks_first text.now kept && decides copies.now kept) self.now.filters }
     {
+        let policy = copies.policy.get().bytes();
         for place in self.places_asking(text) {
             let kept = self.kept(*place);
-            if kept.is_for(copies.policy.bytes(), copies.rule) && holds(kept.filter(), copies) {
+            if kept.is_for(policy, copies.rule) && holds(kept.filter(), copies) {
                 return Some(*place);
             }
         }

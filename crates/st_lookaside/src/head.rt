@@ -1,4 +1,4 @@
-use st_base::{Ids, Pid, Seq, Text};
+use st_base::{Ids, Pid, Seq, Shared, Text};
 use st_calls::{Rule, SysCall};
 use st_names::AbsName;
 
@@ -9,9 +9,9 @@ pub struct Head {
     pub pid: Pid,
     pub ids: Ids,
     /// Where its names begin that aren't absolute; it has at most 1,024 bytes.
-    pub cwd: AbsName,
+    pub cwd: Shared<AbsName>,
     /// The binary whose policy judges it.
-    pub policy: Text,
+    pub policy: Shared<Text>,
     /// The rule that judges it, which gives its arguments.
     pub rule: Rule,
     pub call: SysCall,

@@ -99,7 +99,7 @@ impl Part {
         ensures rest { self.new ≡ record self.old { need = self.new.need } }
     {
         self.need = match &self.copying {
-            Some(copying) => Need::before_looks(self.spec, copying, &head.cwd),
+            Some(copying) => Need::before_looks(self.spec, copying, head.cwd.get()),
             None => Need::Nothing,
         };
     }
@@ -153,7 +153,7 @@ impl Part {
         };
         let follow = follows(head.call, &head.regs, self.spec.register);
         // The text has come to no fault, so this is want of memory.
-        let Ok(mut walk) = Walk::begin(alloc, copying.text(), &head.cwd, follow) else {
+        let Ok(mut walk) = Walk::begin(alloc, copying.text(), head.cwd.get(), follow) else {
             return Err(AllocError);
         };
         for seen in &self.lookups {

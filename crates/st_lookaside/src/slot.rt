@@ -227,7 +227,7 @@ impl Slot {
             seq: head.seq,
             pid: head.pid,
             ids: head.ids,
-            policy: head.policy.copy(alloc)?,
+            policy: head.policy.share()?,
             rule: head.rule,
             call: head.call,
             regs: head.regs,
@@ -260,7 +260,7 @@ impl Slot {
     }
 
     /// Begins anew under this number, with these ids and this directory, in the room that is there.
-    pub fn renew(&mut self, seq: Seq, ids: Ids, cwd: AbsName)
+    pub fn renew(&mut self, seq: Seq, ids: Ids, cwd: Shared<AbsName>)
         requires { IsShort cwd }
         ensures { self.new ≡ renewed self.old seq ids cwd }
     {

@@ -234,7 +234,7 @@ impl Slots {
 
     /// Begins a message anew under a number that has no slot, with these ids and this directory, in the room that is there. Its old
     /// number has no slot then.
-    pub fn renew(&mut self, old: Seq, new: Seq, ids: Ids, cwd: AbsName)
+    pub fn renew(&mut self, old: Seq, new: Seq, ids: Ids, cwd: Shared<AbsName>)
         requires slot { IsSome (slot_at self.old old) }
         requires free { slot_at self.old new ≡ None }
         requires short { IsShort cwd }

@@ -83,7 +83,7 @@ impl<'a> Machine<'a> {
         ensures { IsAnswerOf self.now pid call regs.now result }
     {
         let rule = Rule::of(call, regs, self.input.options.aliasing);
-        let policy = self.system.policy(pid).bytes();
+        let policy = self.system.policy(pid).get().bytes();
         self.answers
             .get(policy, rule)
             .or(self.operator.first_answer(policy, rule))

@@ -34,7 +34,6 @@ impl<'a> Machine<'a> {
     // The head of the message of a process's call, under this number.
     fn head_of(
         &self,
-        alloc: Global,
         seq: Seq,
         pid: Pid,
         call: SysCall,
@@ -47,8 +46,8 @@ impl<'a> Machine<'a> {
             seq,
             pid,
             ids: self.system.ids(pid),
-            cwd: self.system.cwd(pid).copy(alloc)?,
-            policy: self.system.policy(pid).copy(alloc)?,
+            cwd: self.system.cwd(pid).share()?,
+            policy: self.system.policy(pid).share()?,
             rule: Rule::of(call, regs, self.input.options.aliasing),
             call,
             regs: *regs,
@@ -98,7 +97,7 @@ impl<'a> Machine<'a> {
         ensures err { OnErr result (Stands self.old self.new) }
         ensures input { self.new.input ≡ self.old.input }
     {
-        let head = self.head_of(alloc, seq, pid, call, &regs)?;
+        let head = self.head_of(seq, pid, call, &regs)?;
         self.workers.post(alloc, tid, head)?;
         let way = Way::Held(seq);
         self.threads[tid as usize - 1].enter(call, regs, way);

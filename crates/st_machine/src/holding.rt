@@ -31,7 +31,7 @@ impl<'a> Machine<'a> {
     {
         match self.message_held(tid) {
             Some(held) => message.rule == held.rule
-                && message.policy.bytes() == held.policy.bytes(),
+                && message.policy.get().bytes() == held.policy.get().bytes(),
             None => false,
         }
     }

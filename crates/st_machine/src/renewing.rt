@@ -21,7 +21,7 @@ use crate::ending::end_call;
 use crate::machine::Machine;
 use crate::step::Use;
 use crate::thread::Thread;
-use st_base::{Ids, Pid, Seq, Sequence, Tid};
+use st_base::{Ids, Pid, Seq, Sequence, Shared, Tid};
 use st_names::AbsName;
 use st_procs::ids_after;
 use st_request::Request;
@@ -54,7 +54,7 @@ fn number_renewed(
 #[derive(Debug, Drop)]
 struct Plan {
     changes: Sequence<Change>,
-    cwds: Vec<AbsName>,
+    cwds: Vec<Shared<AbsName>>,
     // The number that the next renewal draws.
     next: Seq,
 }
@@ -76,7 +76,7 @@ impl Plan {
     }
 
     // One renewal more, if there is one.
-    fn add(&mut self, alloc: Global, seq: Option<Seq>, cwd: &AbsName) -> Result<(), AllocError>
+    fn add(&mut self, seq: Option<Seq>, cwd: &Shared<AbsName>) -> Result<(), AllocError>
         requires { IfSome seq (λ q. self.old.next < 2 ^ 64 - 1) }
         ensures changes { OnOk result (self.new.changes ≡ self.old.changes ++ renewals_from self.old.next (with_number seq [])) }
         ensures cwds { OnOk result (self.new.cwds.items ≡ self.old.cwds.items ++ replicate (length (with_number seq [])) cwd.now) }
@@ -85,7 +85,7 @@ impl Plan {
         if let Some(old) = seq {
             let new = self.next;
             self.changes.push(Change::Renewed { old, new })?;
-            self.cwds.push(cwd.copy(alloc)?)?;
+            self.cwds.push(cwd.share()?)?;
             self.next = new + 1;
         }
         Ok(())
@@ -113,7 +113,7 @@ fn plan_renewals(
     let mut plan = Plan::new(alloc, set, next)?;
     for i in 0..threads.len() {
         let seq = number_renewed(&threads[i], system, pid, caller, i as Tid + 1);
-        plan.add(alloc, seq, cwd)?;
+        plan.add(seq, cwd)?;
     }
     Ok(plan)
 }
@@ -127,7 +127,7 @@ fn renew_call(
     system: &System,
     pid: Pid,
     seq: Option<Seq>,
-    cwds: &mut Vec<AbsName>,
+    cwds: &mut Vec<Shared<AbsName>>,
 )
     requires there { IsPid system.now.processes pid }
     requires live { IfSome seq (λ q. is_live workers.old.calls q ≡ true) }
@@ -156,7 +156,7 @@ fn renew_all(
     system: &System,
     pid: Pid,
     caller: Tid,
-    mut cwds: Vec<AbsName>,
+    mut cwds: Vec<Shared<AbsName>>,
 )
     requires there { IsPid system.now.processes pid }
     requires few { length threads.old < 2 ^ 31 }

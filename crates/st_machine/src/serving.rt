@@ -150,7 +150,7 @@ impl<'a> Machine<'a> {
         ensures input { self.new.input ≡ self.old.input }
     {
         let copies = self.workers.copies(worker);
-        let verdict = decide(self.input.policies.get(copies.policy.bytes()), copies);
+        let verdict = decide(self.input.policies.get(copies.policy.get().bytes()), copies);
         let (snapshot, delivered) = self.workers.answer(worker, verdict);
         *added = Some(Entry::Answered {
             worker,

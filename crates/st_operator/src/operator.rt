@@ -123,7 +123,7 @@ impl<'a> Operator<'a> {
         match input.options.mode {
             Mode::Enforce => false,
             Mode::Learn => true,
-            Mode::AskText => self.next_left(copies.policy.bytes(), copies.rule).is_some(),
+            Mode::AskText => self.next_left(copies.policy.get().bytes(), copies.rule).is_some(),
         }
     }
 
@@ -141,7 +141,7 @@ impl<'a> Operator<'a> {
         ensures left { self.new.left ≡ self.old.left }
         ensures err { OnErr result (self.new ≡ self.old) }
     {
-        let policy = copies.policy.bytes();
+        let policy = copies.policy.get().bytes();
         let number = self.session.next_number(policies, policy, copies.rule);
         self.session.add(alloc, policy, copies.rule, filter)?;
         Ok(number)
@@ -181,7 +181,7 @@ impl<'a> Operator<'a> {
             (question_entry input.now st copies.now.seq copies.now AskText ≡ Some entry) × IsAdded input.now (state_after input.now st entry) self.new) }
         ensures err { OnErr result (self.new ≡ self.old) }
     {
-        let policy = copies.policy.bytes();
+        let policy = copies.policy.get().bytes();
         let place = self.left.of(policy)[index];
         let filter = self.replies[place].filter.copy(alloc)?;
         let number = self.keep(alloc, &input.policies, copies, filter)?;
@@ -210,7 +210,7 @@ impl<'a> Operator<'a> {
             Mode::Enforce => unreachable!(),
             Mode::Learn => self.learn(alloc, input, copies),
             Mode::AskText => {
-                let Some(index) = self.next_left(copies.policy.bytes(), copies.rule) else {
+                let Some(index) = self.next_left(copies.policy.get().bytes(), copies.rule) else {
                     unreachable!()
                 };
                 self.reply(alloc, input, copies, index)

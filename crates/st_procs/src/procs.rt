@@ -8,7 +8,7 @@ ghost use Rattle.st_procs.specs.Rows.{process_of};
 use crate::identity;
 use crate::rows::{self, ProcRow, Row, ThreadCounts};
 use crate::threads::{self, StartedThread};
-use st_base::{Errno, Ids, Pid, Space, Text, Tid};
+use st_base::{Errno, Ids, Pid, Shared, Space, Text, Tid};
 use st_calls::SysCall;
 use st_names::AbsName;
 use std::alloc::{AllocError, Global};
@@ -94,7 +94,7 @@ impl Procs {
     }
 
     /// Where a process's names begin that aren't absolute.
-    pub fn cwd(&self, pid: Pid) -> &AbsName
+    pub fn cwd(&self, pid: Pid) -> &Shared<AbsName>
         requires { IsPid self.now pid }
         ensures { result.now ≡ (process_at self.now pid).cwd }
     {
@@ -102,7 +102,7 @@ impl Procs {
     }
 
     /// The binary whose policy applies to a process.
-    pub fn policy(&self, pid: Pid) -> &Text
+    pub fn policy(&self, pid: Pid) -> &Shared<Text>
         requires { IsPid self.now pid }
         ensures { result.now ≡ (process_at self.now pid).policy }
     {
@@ -167,7 +167,7 @@ impl Procs {
         ensures err { OnErr result (self.new ≡ self.old) }
     {
         let child = self.rows.len() as Pid + 1;
-        let process = rows::process(&self.rows, pid).child(*self.rows.allocator(), space)?;
+        let process = rows::process(&self.rows, pid).child(space)?;
         self.rows.reserve(1)?;
         threads::begin(&mut self.threads, tid, child)?;
         let threads = ThreadCounts {
@@ -180,7 +180,7 @@ impl Procs {
 
     /// Gives a process another memory, and the policy of the binary that it executes unless it keeps its own, as execve(2)
     /// does. It takes no memory.
-    pub fn exec(&mut self, pid: Pid, binary: Text, space: Space, inherit: bool)
+    pub fn exec(&mut self, pid: Pid, binary: Shared<Text>, space: Space, inherit: bool)
         requires { IsPid self.old pid }
         ensures rows { self.new ≡ processes_after_exec self.old pid binary space inherit }
         ensures pids { next_pid self.new ≡ next_pid self.old }
@@ -205,7 +205,7 @@ impl Procs {
     }
 
     /// Gives a process another directory. It takes no memory.
-    pub fn set_cwd(&mut self, pid: Pid, cwd: AbsName)
+    pub fn set_cwd(&mut self, pid: Pid, cwd: Shared<AbsName>)
         requires { IsPid self.old pid }
         ensures rows { self.new ≡ with_cwd self.old pid cwd }
         ensures pids { next_pid self.new ≡ next_pid self.old }

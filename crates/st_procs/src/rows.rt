@@ -3,9 +3,9 @@ ghost use Rattle.st_model.specs.Processes.{process_after_exec, no_process};
 ghost use Rattle.st_base.specs.Numbered.{item_at_number_or, with_item_at_number};
 ghost use Rattle.st_procs.specs.Rows.{counts_of, no_threads, process_of, processes_of};
 
-use st_base::{Ids, Pid, Space, Text};
+use st_base::{Ids, Pid, Shared, Space, Text};
 use st_names::AbsName;
-use std::alloc::{AllocError, Global};
+use std::alloc::AllocError;
 
 /// A process, as it starts.
 #[derive(Debug, Drop)]
@@ -13,24 +13,24 @@ pub struct ProcRow {
     /// Whether policies apply to it.
     pub traced: bool,
     /// The binary whose policy applies to it.
-    pub binary: Text,
+    pub binary: Shared<Text>,
     pub ids: Ids,
     /// Where its names begin that aren't absolute.
-    pub cwd: AbsName,
+    pub cwd: Shared<AbsName>,
     /// The number of its memory.
     pub space: Space,
 }
 
 impl ProcRow {
     /// A process like this one but for its memory.
-    pub fn child(&self, alloc: Global, space: Space) -> Result<Self, AllocError>
+    pub fn child(&self, space: Space) -> Result<Self, AllocError>
         ensures { IfOk result (λ child. process_of child ≡ record (process_of self.now) { space = space }) }
     {
         Ok(ProcRow {
             traced: self.traced,
-            binary: self.binary.copy(alloc)?,
+            binary: self.binary.share()?,
             ids: self.ids,
-            cwd: self.cwd.copy(alloc)?,
+            cwd: self.cwd.share()?,
             space,
         })
     }
@@ -79,7 +79,7 @@ pub fn set_count(rows: &mut [Row], pid: Pid, threads: ThreadCounts)
 }
 
 /// Gives a process another memory, and the policy of the binary that it executes unless it keeps its own.
-pub fn execute(rows: &mut [Row], pid: Pid, binary: Text, space: Space, inherit: bool)
+pub fn execute(rows: &mut [Row], pid: Pid, binary: Shared<Text>, space: Space, inherit: bool)
     requires from { 0 < pid }
     requires to { pid ≤ length rows.old }
     ensures counts { counts_of rows.new ≡ counts_of rows.old }
@@ -103,7 +103,7 @@ pub fn set_ids(rows: &mut [Row], pid: Pid, ids: Ids)
 }
 
 /// Gives a process another directory.
-pub fn set_cwd(rows: &mut [Row], pid: Pid, cwd: AbsName)
+pub fn set_cwd(rows: &mut [Row], pid: Pid, cwd: Shared<AbsName>)
     requires from { 0 < pid }
     requires to { pid ≤ length rows.old }
     ensures counts { counts_of rows.new ≡ counts_of rows.old }

@@ -136,7 +136,7 @@ fn append_judged(text: &mut Text, copies: &Snapshot) -> Result<(), AllocError>
     append_numbered(text, b" pid", &[u64::from(copies.pid)])?;
     append_ids(text, b" ids", copies.ids)?;
     text.append(b" policy")?;
-    append_text(text, copies.policy.bytes())
+    append_text(text, copies.policy.get().bytes())
 }
 
 // Appends the call that is held, by its copies.

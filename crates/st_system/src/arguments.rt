@@ -37,7 +37,7 @@ impl System {
             rule: Rule::of(call, regs, aliasing),
             call,
             regs: *regs,
-            cwd: self.procs.cwd(pid),
+            cwd: self.procs.cwd(pid).get(),
         };
         arguments_in(
             alloc,

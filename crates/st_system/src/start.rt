@@ -14,7 +14,7 @@ ghost use Rattle.st_law.specs.Threads.{first_owner};
 ghost use Rattle.st_procs.specs.Laws.{AreOrdered};
 ghost use Rattle.st_system.specs.Start.{first_thread_of, AreFirst, CanStand, HaveStarted};
 
-use st_base::{Ids, Pid, Tid};
+use st_base::{Ids, Pid, Shared, Tid};
 use st_fds::Fds;
 use st_law::Input;
 use st_memory::Spaces;
@@ -87,9 +87,9 @@ fn add_process(
     let space = spaces.make(alloc)?;
     let pid = procs.start(ProcRow {
         traced: row.traced,
-        binary: row.binary.copy(alloc)?,
+        binary: Shared::new(alloc, row.binary.copy(alloc)?)?,
         ids,
-        cwd: row.cwd.copy(alloc)?,
+        cwd: Shared::new(alloc, row.cwd.copy(alloc)?)?,
         space,
     })?;
     fds.start(pid)

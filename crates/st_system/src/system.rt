@@ -18,7 +18,7 @@ ghost use Rattle.st_system.specs.Start.{CanStart};
 ghost use Rattle.st_system.specs.System.{IsSystem};
 
 use crate::start::{begin_threads, processes_of, tree_of};
-use st_base::{Ids, Pid, Text, Tid};
+use st_base::{Ids, Pid, Shared, Text, Tid};
 use st_fds::Fds;
 use st_law::Input;
 use st_memory::Spaces;
@@ -110,7 +110,7 @@ impl System {
     }
 
     /// Where a process's names begin that aren't absolute: a name of at most 1,024 bytes.
-    pub fn cwd(&self, pid: Pid) -> &AbsName
+    pub fn cwd(&self, pid: Pid) -> &Shared<AbsName>
         requires { IsPid self.now.processes pid }
         ensures cwd { result.now ≡ (process_at self.now.processes pid).cwd }
         ensures short { length (printed_name result.now) ≤ LONGEST_NAME }
@@ -119,7 +119,7 @@ impl System {
     }
 
     /// The binary whose policy applies to a process.
-    pub fn policy(&self, pid: Pid) -> &Text
+    pub fn policy(&self, pid: Pid) -> &Shared<Text>
         requires { IsPid self.now.processes pid }
         ensures { result.now ≡ (process_at self.now.processes pid).policy }
     {

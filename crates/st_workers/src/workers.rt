@@ -324,7 +324,7 @@ impl Workers {
 
     /// Ends a live number, as `cancel` does, and posts its call again under the next one, which it gives, with these ids and this
     /// directory. Nothing that was copied or seen is kept. It takes no memory.
-    pub fn renew(&mut self, seq: Seq, ids: Ids, cwd: AbsName) -> Seq
+    pub fn renew(&mut self, seq: Seq, ids: Ids, cwd: Shared<AbsName>) -> Seq
         requires live { is_live self.old.calls seq ≡ true }
         requires room { self.old.calls.next < 2 ^ 64 - 1 }
         requires short { IsShort cwd }

@@ -15,7 +15,7 @@ returns-then-holds c =
     here_first c.args.self.now.filters (decides c.args.copies.now) c.places_asking-place-items.result.now c.loop-place.place-index c.loop-place-test.true
     (ap (is_there (decides c.args.copies.now)) c.kept-kept.ensures
     ∙ both_of (is_kept_for c.args.copies.now.policy c.args.copies.now.rule c.kept-kept.result.now) (holds c.kept-kept.result.now.filter c.args.copies.now)
-    (sym (c.if-is_for.ensures ∙ ap (λ policy. is_kept_for policy c.args.copies.now.rule c.kept-kept.result.now) c.bytes.ensures))
+    (sym (c.if-is_for.ensures ∙ ap (λ policy. is_kept_for policy c.args.copies.now.rule c.kept-kept.result.now) (c.bytes-policy.ensures ∙ c.get.ensures)))
     (sym (c.if-holds.ensures ∙ ap (λ filter. holds filter c.args.copies.now) c.filter.ensures)))
     ∙ c.loop-place.invariant.same ∙ first_found c.args.self.now.filters (asks_first c.args.text.now) (decides c.args.copies.now) c.places_asking-place-items.result.now c.places_asking-place-items.ensures
 

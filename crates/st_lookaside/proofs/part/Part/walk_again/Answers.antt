@@ -1,4 +1,4 @@
-use Rattle.std.proofs.Common.{◌≡◌, ◌<◌, ◌∙◌, ◌+◌, ◌++◌, ◌∷◌, [], ℕ, Bool, List, length, take, get_or, ap, sym, subst, arith}
+use Rattle.std.proofs.Common.{◌≡◌, ◌<◌, ◌∙◌, ◌+◌, ◌++◌, ◌∷◌, [], ℕ, List, length, take, get_or, ap, sym, subst, arith}
 use Rattle.std.proofs.lemmas.List.{take_more}
 use Rattle.std.proofs.Math.Seq.{take-length}
 use Rattle.st_names.specs.declared.seen.SeenText.{SeenText}
@@ -12,7 +12,7 @@ use Rattle.st_lookaside.proofs.part.Part.walk_again.Goals as goal
 pub loop-seen-init : goal.loop-seen-init
 loop-seen-init c =
     walk_first (request_of c.args.head.now) c.args.self.now.spec c.args.self.now.copying c.in-Some.copying [] c.text.result.now c.in-Ok.walk c.in-Some.is c.requires.part.copied c.requires.name c.text.ensures
-    (λ l. c.in-Ok.ensures.walk l ∙ ap (λ (follow : Bool). start_walk c.text.result.now c.args.head.now.cwd follow l) c.follows-follow.ensures) (λ k. [])
+    (λ l. c.in-Ok.ensures.walk l ∙ (λ k. start_walk c.text.result.now (c.get.ensures k) (c.follows-follow.ensures k) l)) (λ k. [])
 
 pub advance-requires : goal.advance-requires
 advance-requires c =

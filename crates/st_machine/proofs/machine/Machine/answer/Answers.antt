@@ -17,8 +17,8 @@ returns c =
     let policy : List ℕ = c.bytes-policy.result.now in
     let rule = c.of-rule.result in
     let answer : IsAnswerOf m c.args.pid c.args.call c.args.regs.now c.unwrap_or.result = λ st is.
-    let its : (st.processes c.args.pid).policy ≡ policy = ap (λ (p : Process). p.policy) (is.system.processes c.args.pid) ∙ sym (c.bytes-policy.ensures ∙ c.policy.ensures) in
+    let its : (st.processes c.args.pid).policy ≡ policy = ap (λ (p : Process). p.policy) (is.system.processes c.args.pid) ∙ sym (c.bytes-policy.ensures ∙ c.get.ensures ∙ c.policy.ensures) in
     (λ k. fast (read_filters m.input.policies (its k) (sym c.of-rule.ensures k) ++ session_filters (is.operator.session k) (its k) (sym c.of-rule.ensures k)))
     ∙ sym (fast_of_both (read_filters m.input.policies policy rule) (session_filters m.operator.filters policy rule))
-    ∙ sym (c.unwrap_or.ensures ∙ ap (λ o. unwrap_or o Ask) (c.or.ensures ∙ (λ k. option_or (c.get.ensures m.input.policies is.answers k) (c.first_answer.ensures k)))) in
+    ∙ sym (c.unwrap_or.ensures ∙ ap (λ o. unwrap_or o Ask) (c.or.ensures ∙ (λ k. option_or (c.get-2.ensures m.input.policies is.answers k) (c.first_answer.ensures k)))) in
     subst (λ (k : Running). IsAnswerOf k c.args.pid c.args.call c.args.regs.now c.unwrap_or.result) c.self.view_is answer

@@ -24,7 +24,7 @@ judged c =
     let copies : Snapshot = c.copies-copies.result.now in
     let same : copies ≡ c.answer-snapshot.result.0 = same_copies c.self.inside.workers c.args.worker copies c.answer-snapshot.result.0 c.copies-copies.ensures c.answer-snapshot.ensures.copies in
     c.decide-verdict.ensures
-    ∙ ap (λ (filters : List FilterValue). verdict (filters_of copies.rule filters) copies) (c.get.ensures.is ∙ ap (policy_of policies) c.bytes.ensures)
+    ∙ ap (λ (filters : List FilterValue). verdict (filters_of copies.rule filters) copies) (c.get-2.ensures.is ∙ ap (policy_of policies) (c.bytes.ensures ∙ c.get.ensures))
     ∙ ap (λ (s : Snapshot). verdict (filters_of s.rule (policy_of policies s.policy)) s) same
 
 step : (c : goal.Joined-added) → IsStep (old c) (choice.Worker c.args.worker) (Some (entry.Answered c.args.worker c.answer-snapshot.result.0 c.decide-verdict.result c.is_applied.result)) (with_workers (old c) c.answer-snapshot.new.self)

@@ -14,7 +14,8 @@ returns-clause-law c = λ st is copies.
     let added = c.args.self.now in
     let reply = c.index-self-place.result in
     let place = get_or c.of.result.now c.args.index 0 in
-    let read : c.of.result.now ≡ places_in added.left s.policy = c.of.ensures ∙ (λ k. places_in (c.self.view_is k).left (c.bytes-policy.ensures k)) in
+    let policy : c.bytes-policy.result.now ≡ s.policy = c.bytes-policy.ensures ∙ c.get.ensures in
+    let read : c.of.result.now ≡ places_in added.left s.policy = c.of.ensures ∙ (λ k. places_in (c.self.view_is k).left (policy k)) in
     let at : get_or (places_in added.left s.policy) c.args.index 0 ≡ place = ap (λ (places : List ℕ). get_or places c.args.index 0) (sym read) in
     let replies : c.self.inside.replies.now ≡ added.replies = ap (λ (a : Added). a.replies) c.self.view_is in
     let within : place < length added.replies = subst (λ (n : ℕ). n < length added.replies) at (place_within added s.policy s.rule c.args.index c.requires) in
@@ -25,4 +26,4 @@ returns-clause-law c = λ st is copies.
     (ap (λ (a : Added). a.filters) c.self-2.view_is ∙ c.in_ok-number.ensures.filters ∙ ap (λ (f : FilterValue). added.filters ++ kept_for f s ∷ []) (c.in_ok-filter.ensures ∙ ap (λ (r : Reply). r.filter) (sym c.index-self-place.is)))
     (ap (λ (a : Added). a.replies) c.self-2.view_is ∙ c.in_ok-number.ensures.replies)
     (subst (λ (rows : List PolicyPlaces). LosesPlace rows s.policy c.args.index c.take_out.new.self) left
-    (subst (λ (policy : List ℕ). LosesPlace c.self-2.inside.left policy c.args.index c.take_out.new.self) c.bytes-policy.ensures c.take_out.ensures))
+    (subst (λ (binary : List ℕ). LosesPlace c.self-2.inside.left binary c.args.index c.take_out.new.self) policy c.take_out.ensures))
