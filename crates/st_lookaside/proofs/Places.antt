@@ -10,8 +10,7 @@ use Rattle.std.proofs.lemmas.List.{get_or-set_other, get_or-set_same, length-set
 use Rattle.std.proofs.lemmas.List.Edits.{get_or-insert_above, get_or-insert_at, get_or-insert_below, get_or-remove_above, get_or-remove_below, length-insert, length-remove}
 use Rattle.std.proofs.lemmas.List.Quantifiers.{all_pairs_remove}
 use Rattle.std.proofs.lemmas.Option.{none-some, same_Some}
-use Rattle.st_effects.specs.Progress.{Progress, Word, Look, Stuck, Ready}
-use Rattle.st_lookaside.specs.Slot.{Slot, after_begin, begun_at, progress_of}
+use Rattle.st_lookaside.specs.Slot.{Slot}
 use Rattle.st_lookaside.specs.Slots.{has_number, slot_at, AreAscending, ChangesSlot, IsAt, IsGap, RenewsSlot}
 
 -- ---- finding in a list
@@ -294,12 +293,3 @@ still_free now middle seq fresh out free = out fresh ∙ by (fresh == seq) where
   by : (b : Bool) → cond b None (slot_at now fresh) ≡ None
   by true = refl
   by false = free
-
--- readying keeps the number
-pub begun_number : (slot : Slot) → (after_begin slot).head.seq ≡ slot.head.seq
-begun_number slot = by (progress_of slot) where
-  by : (p : Progress) → (begun_at p slot).head.seq ≡ slot.head.seq
-  by (Word part place) = refl
-  by (Look part name) = refl
-  by (Stuck errno) = refl
-  by (Ready args) = refl

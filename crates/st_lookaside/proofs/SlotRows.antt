@@ -1,5 +1,5 @@
 -- The way of one message, computed: what it needs next, what each word, look, renewal and seal leaves, and what each number has.
-use Rattle.std.proofs.Common.{◌≡◌, ◌≤◌, ℕ, true, false, List, [], ◌∷◌, ◌++◌, length, map, Some, None, refl, sym, subst, arith, codes, replicate}
+use Rattle.std.proofs.Common.{◌≡◌, ◌≤◌, ℕ, List, [], ◌∷◌, ◌++◌, length, map, Some, None, refl, sym, subst, arith, codes, replicate}
 use Rattle.std.proofs.lemmas.Option.{none-some}
 use Rattle.st_base.specs.Ids.{identity}
 use Rattle.st_base.specs.declared.errno.Errno.TheVariants.{EFAULT}
@@ -13,7 +13,7 @@ use Rattle.st_names.specs.Name.{Components, components_of, printed_name}
 use Rattle.st_names.specs.declared.seen.SeenText.TheVariants as seen
 use Rattle.st_effects.specs.Progress.{Ready, Stuck}
 use Rattle.st_lookaside.specs.Need.{IsShort}
-use Rattle.st_lookaside.specs.Slot.{Slot, after_begin, after_look, after_word, is_readied, new_slot, next_of, progress_of, renewed, snapshot_with, unreadied}
+use Rattle.st_lookaside.specs.Slot.{Slot, after_look, after_word, new_slot, next_of, progress_of, renewed, snapshot_with}
 use Rattle.st_lookaside.specs.Slots.{slot_at, ChangesSlot, RenewsSlot}
 use Rattle.st_lookaside.specs.declared.head.Head.{Head}
 use Rattle.st_lookaside.specs.declared.slot.Next.TheVariants as next
@@ -41,34 +41,22 @@ begun = new_slot head
 abbrev copied : Slot
 copied = after_word begun 97
 
-abbrev readied : Slot
-readied = after_begin copied
-
 abbrev looked : Slot
-looked = after_look readied seen.File
+looked = after_look copied seen.File
 
 abbrev copied_both : Slot
 copied_both = after_word looked 98
 
 abbrev done : Slot
-done = after_look (after_begin copied_both) seen.Missing
+done = after_look copied_both seen.Missing
 
-needed : map (λ slot. next_of (progress_of slot)) (begun ∷ copied ∷ readied ∷ looked ∷ copied_both ∷ done ∷ [])
-    ≡ next.Word 0 0 ∷ next.Look 0 ∷ next.Look 0 ∷ next.Word 1 1 ∷ next.Look 1 ∷ next.Ready ∷ []
+needed : map (λ slot. next_of (progress_of slot)) (begun ∷ copied ∷ looked ∷ copied_both ∷ done ∷ [])
+    ≡ next.Word 0 0 ∷ next.Look 0 ∷ next.Word 1 1 ∷ next.Look 1 ∷ next.Ready ∷ []
 needed = refl
 
--- a walk is readied for one look, of one argument
-walks_readied : map is_readied (begun ∷ copied ∷ readied ∷ looked ∷ copied_both ∷ after_begin copied_both ∷ [])
-    ≡ false ∷ false ∷ true ∷ false ∷ false ∷ true ∷ []
-walks_readied = refl
-
-filled : done.parts ≡ record { words = 97 ∷ []; lookups = seen.File ∷ []; walking = true } ∷
-    record { words = 98 ∷ []; lookups = seen.Missing ∷ []; walking = true } ∷ []
+filled : done.parts ≡ record { words = 97 ∷ []; lookups = seen.File ∷ [] } ∷
+    record { words = 98 ∷ []; lookups = seen.Missing ∷ [] } ∷ []
 filled = refl
-
--- where no walk is readied, nothing is to be undone; where one is, it goes alone
-taken_back : unreadied copied ∷ unreadied readied ∷ [] ≡ copied ∷ copied ∷ []
-taken_back = refl
 
 abbrev name : ℕ → List ℕ → ArgText
 name index text = record { label = Filename; index = index; text = text }
@@ -83,7 +71,7 @@ outside = refl
 -- the number, ids and directory of a renewal are new, all else of the message stays, and nothing is copied or seen
 begun_anew : renewed done 9 (identity 7 8) (components_of (codes "/v")) ≡ record {
   head = record head { seq = 9; ids = identity 7 8; cwd = components_of (codes "/v") };
-  parts = record { words = []; lookups = []; walking = false } ∷ record { words = []; lookups = []; walking = false } ∷ [];
+  parts = record { words = []; lookups = [] } ∷ record { words = []; lookups = [] } ∷ [];
 }
 begun_anew = refl
 

@@ -1,6 +1,6 @@
 -- What a change of one argument makes of a message.
 use Rattle.std.proofs.Common.{◌≡◌, ◌<◌, ◌≤◌, ◌+◌, ℕ, zero, suc, nat_lt, not, Bool, true, false, cond, List, [], ◌∷◌, length, ◌++◌, map, take, drop, get_or, set, append-nil, inl, inr, refl, ap, sym, ◌∙◌, subst, arith, Fits, w32}
-use Rattle.std.specs.Prelude.{All, Option, Some, None, is_some, Result, Ok, Err, IsSome, OnOk, OnErr}
+use Rattle.std.specs.Prelude.{All, Some, None, Result, Ok, Err, OnOk, OnErr}
 use Rattle.st_effects.specs.Progress.{Progress, Word, Look, Stuck, Ready, progress}
 use Rattle.st_names.specs.Name.{Components}
 use Rattle.std.specs.List.{position, position_or_len}
@@ -16,9 +16,9 @@ use Rattle.st_calls.specs.declared.call.SysCall.TheVariants as call
 use Rattle.st_calls.specs.declared.rule.Rule.{Rule}
 use Rattle.st_calls.specs.declared.rule.Rule.TheVariants as rule
 use Rattle.st_lookaside.specs.Head.{request_of}
-use Rattle.st_lookaside.specs.Need.{is_finished, need_of, IsWord}
-use Rattle.st_lookaside.specs.Part.{Filled, filled_of, nothing_filled, with_walk, IsPart}
-use Rattle.st_lookaside.specs.Slot.{Slot, after_begin, begun_at, is_readied, new_slot, next_of, part_at, part_next, progress_of, with_part, AreInOrder, IsDue, IsInOrder, IsLookNext, IsSlot, IsWordNext}
+use Rattle.st_lookaside.specs.Need.{is_finished, IsWord}
+use Rattle.st_lookaside.specs.Part.{Filled, filled_of, nothing_filled, IsPart}
+use Rattle.st_lookaside.specs.Slot.{Slot, new_slot, next_of, part_at, part_next, progress_of, with_part, AreInOrder, IsDue, IsInOrder, IsLookNext, IsSlot, IsWordNext}
 use Rattle.st_lookaside.specs.declared.head.Head.{Head}
 use Rattle.st_lookaside.specs.declared.need.Need.{Need}
 use Rattle.st_lookaside.specs.declared.need.Need.TheVariants as need
@@ -63,10 +63,6 @@ view_with head parts now j after filled view is =
     ∙ ap (λ (f : Filled). record { head = head; parts = set (map filled_of parts) j f }) is
     ∙ ap (λ (s : Slot). with_part s j filled) view
 
-some_is : {A : Type 0} (o : Option A) → is_some o ≡ true → IsSome o
-some_is None is = cc
-some_is (Some x) is = refl
-
 pub on_ok : {T E : Type 0} (r : Result T E) (P Q : Type 0) → (P → Q) → OnOk r P → OnOk r Q
 on_ok (Ok x) P Q f p = f p
 on_ok (Err e) P Q f p = p
@@ -78,6 +74,10 @@ both_ok (Err e) P Q p q = p
 pub on_err : {T E : Type 0} (r : Result T E) (P Q : Type 0) → (P → Q) → OnErr r P → OnErr r Q
 on_err (Ok x) P Q f p = p
 on_err (Err e) P Q f p = f p
+
+pub on_err_by : {T E : Type 0} (r : Result T E) (P : Type 0) → P → OnErr r P
+on_err_by (Ok x) P p = tt
+on_err_by (Err e) P p = p
 
 pub word_is_due : (p : Progress) → IsWordNext p → IsDue p
 word_is_due (Word part place) is = tt
@@ -99,48 +99,6 @@ few_specs : (rule : Rule) → length (args_of rule) ≤ 3
 few_specs (rule.Call call) = few_of_call call
 few_specs rule.FsRead = omega arith
 few_specs rule.FsWrite = omega arith
-
-look_in_front : (j : ℕ) (p : Progress) → need_of p ≡ need.Look → IsLookNext (in_front j p (Ready []))
-look_in_front j (Word part place) is = cc
-look_in_front j (Look part name) is = tt
-look_in_front j (Stuck errno) is = cc
-look_in_front j (Ready args) is = cc
-
-begun_look : (p : Progress) (s : Slot) → IsLookNext p → begun_at p s ≡ with_part s (part_next p) (with_walk (part_at s.parts (part_next p)))
-begun_look (Word part place) s is = absurd is
-begun_look (Look part name) s is = refl
-begun_look (Stuck errno) s is = absurd is
-begun_look (Ready args) s is = absurd is
-
-begun_none : (p : Progress) (s : Slot) → (IsLookNext p → ⊥) → begun_at p s ≡ s
-begun_none (Word part place) s is = refl
-begun_none (Look part name) s is = absurd (is tt)
-begun_none (Stuck errno) s is = refl
-begun_none (Ready args) s is = refl
-
-same_words : (parts : List Filled) (i j : ℕ) → (part_at (set parts i (with_walk (part_at parts i))) j).words ≡ (part_at parts j).words
-same_words [] i j = refl
-same_words (f ∷ parts) zero zero = refl
-same_words (f ∷ parts) zero (suc j) = refl
-same_words (f ∷ parts) (suc i) zero = refl
-same_words (f ∷ parts) (suc i) (suc j) = same_words parts i j
-
-same_lookups : (parts : List Filled) (i j : ℕ) → (part_at (set parts i (with_walk (part_at parts i))) j).lookups ≡ (part_at parts j).lookups
-same_lookups [] i j = refl
-same_lookups (f ∷ parts) zero zero = refl
-same_lookups (f ∷ parts) zero (suc j) = refl
-same_lookups (f ∷ parts) (suc i) zero = refl
-same_lookups (f ∷ parts) (suc i) (suc j) = same_lookups parts i j
-
-begun_same : (p : Progress) (s : Slot) → progress_of (begun_at p s) ≡ progress_of s
-begun_same (Word part place) s = refl
-begun_same (Look part name) s = λ k. progress (request_of s.head) (λ j. same_words s.parts part j k) (λ j. same_lookups s.parts part j k)
-begun_same (Stuck errno) s = refl
-begun_same (Ready args) s = refl
-
--- readying changes nothing that is needed or there
-pub same_progress : (s : Slot) → progress_of (after_begin s) ≡ progress_of s
-same_progress s = begun_same (progress_of s) s
 
 -- ---- a message that begins
 
@@ -205,11 +163,6 @@ module _ (head : Head) (parts : List Part) (now : Slot) (j : ℕ) (part : Part) 
       view_with head parts now j after (change (part_at now.parts j)) view (is ∙ ap change (sym here_filled))
       ∙ ap (λ (k : ℕ). with_part now k (change (part_at now.parts k))) (sym (here_due due))
 
-  -- its walk is readied
-  pub here_readied : IsDue (progress_of now) → is_readied now ≡ true → IsSome part.walk
-  here_readied due is =
-      some_is part.walk (sym (ap (λ (f : Filled). f.walking) here_filled) ∙ sym (ap (λ (k : ℕ). (part_at now.parts k).walking) (here_due due)) ∙ is)
-
   -- the name that it looks at
   pub look_found : (name : Components) → progress_of_part (request_of head) part ≡ Look 0 name → progress_of now ≡ Look (part_next (progress_of now)) name
   look_found name is =
@@ -220,31 +173,9 @@ module _ (head : Head) (parts : List Part) (now : Slot) (j : ℕ) (part : Part) 
   pub here_same : (after : Part) → filled_of after ≡ filled_of part → record { head = head; parts = map filled_of (set parts j after) } ≡ now
   here_same after is = ap (λ (all : List Filled). record { head = head; parts = all }) (map-set_same filled_of parts j after part (is ∙ ap filled_of at.here)) ∙ view
 
-  pub look_here : part.need ≡ need.Look → IsLookNext (progress_of now)
-  look_here is = subst IsLookNext (sym at.progress ∙ ap progress_of view) (look_in_front j (progress_of_part (request_of head) part) (sym at.is_part.need ∙ is))
-
-  -- readying the walk of that argument, and readying nothing where it needs a word
-  pub begun_here : (after : Part) → part.need ≡ need.Look → filled_of after ≡ with_walk (filled_of part) → record { head = head; parts = map filled_of (set parts j after) } ≡ after_begin now
-  begun_here after look is =
-      here_changed with_walk after (look_is_due _ (look_here look)) is ∙ sym (begun_look (progress_of now) now (look_here look))
-
-  pub nothing_begun : (part.need ≡ need.Look → ⊥) → now ≡ after_begin now
-  nothing_begun no_look = sym (begun_none (progress_of now) now (λ is. no_look (here_look is)))
-
   -- an argument's place is a small number
   pub few_args : Fits w32 j
   few_args = let few = few_specs head.rule in let len = ap length slot.specs in let same = length-map parts (λ (p : Part). p.spec) in let within = at.within in omega (arith, few, len, same, within)
-
-  -- the walk of a name that is looked up is readied then
-  pub begun_readied : IsLookNext (progress_of now) → is_readied (after_begin now) ≡ true
-  begun_readied look =
-      let due = look_is_due _ look in
-      let long = ap (λ (s : Slot). length s.parts) view in
-      let within : j < length now.parts = let inside = at.within in omega (arith, long, inside, length-map parts filled_of) in
-      ap (λ (p : Progress). (part_at (after_begin now).parts (part_next p)).walking) (same_progress now)
-      ∙ ap (λ (s : Slot). (part_at s.parts (part_next (progress_of now))).walking) (begun_look (progress_of now) now look)
-      ∙ ap (λ (k : ℕ). (part_at (set now.parts k (with_walk (part_at now.parts k))) k).walking) (here_due due)
-      ∙ ap (λ (f : Filled). f.walking) (get_or-set_same now.parts j (with_walk (part_at now.parts j)) nothing_filled within)
 
 -- ---- an argument that isn't finished yet once it has changed
 

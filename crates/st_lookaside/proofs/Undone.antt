@@ -1,7 +1,7 @@
 -- Which argument the last word or look was for.
-use Rattle.std.proofs.Common.{◌≡◌, ◌<◌, ℕ, ◌+◌, ◌/◌, Bool, true, false, cond, nat_lt, nat_le, List, [], ◌∷◌, length, map, take, get_or, set, Option, Some, None, is_some, ◌⊎◌, inl, inr, refl, ap, sym, ◌∙◌, subst, arith, length-append}
+use Rattle.std.proofs.Common.{◌≡◌, ◌<◌, ℕ, ◌+◌, ◌/◌, Bool, true, false, cond, nat_lt, nat_le, List, [], ◌∷◌, length, map, take, get_or, set, ◌⊎◌, inl, inr, refl, ap, sym, ◌∙◌, subst, arith, length-append}
 use Rattle.std.proofs.lemmas.Bool.{cases_eq, cases_lt, ltb-false, true≢false}
-use Rattle.std.proofs.lemmas.List.{get_or-map, get_or-set_other, get_or-set_same, length-map, length-set}
+use Rattle.std.proofs.lemmas.List.{get_or-map, get_or-set_other, get_or-set_same, length-map, length-set, set-get_or}
 use Rattle.std.proofs.Math.Seq.{set-set}
 use Rattle.std.specs.List.{position}
 use Rattle.st_base.specs.declared.errno.Errno.TheVariants.{EFAULT}
@@ -12,7 +12,7 @@ use Rattle.st_calls.specs.declared.argument.PartKind.TheVariants as kind
 use Rattle.st_effects.specs.Progress.{ArgRequest, Progress, Word, Look, Stuck, Ready, progress_from, progress_of_text, with_arg}
 use Rattle.st_lookaside.specs.Head.{request_of}
 use Rattle.st_lookaside.specs.Need.{need_of, progress_alone}
-use Rattle.st_lookaside.specs.Part.{Filled, filled_of, is_begun, is_followed, nothing_filled, with_lookup, with_word, spelled_of, words_in, AreAskedLooks, IsPart, IsWalkOf}
+use Rattle.st_lookaside.specs.Part.{Filled, filled_of, is_begun, is_followed, nothing_filled, with_lookup, with_word, spelled_of, words_in, AreAskedLooks, IsPart}
 use Rattle.st_lookaside.specs.Slot.{Slot, part_at, part_next, progress_of, with_part, AreNotBegun, IsDue, IsInOrder, IsLastBegun, IsSlot}
 use Rattle.st_lookaside.specs.declared.head.Head.{Head}
 use Rattle.st_lookaside.specs.declared.need.Need.{Need}
@@ -25,7 +25,6 @@ use Rattle.st_model.specs.declared.limits.TheConstants.{SPACE_WORDS}
 use Rattle.st_names.specs.Name.{Components}
 use Rattle.st_names.specs.declared.limits.TheConstants.{LONGEST_NAME}
 use Rattle.st_names.specs.declared.seen.SeenText.{SeenText}
-use Rattle.st_resolve.specs.Walk.{Walk}
 use Rattle.st_translate.proofs.Letters.{bytes_of_none}
 
 -- ---- of an argument of which no word is copied nothing is seen
@@ -65,10 +64,6 @@ no_lookups asked spec words (s ∷ lookups) none seen =
     let name = look_is_name spec asked.cwd (is_followed asked spec) [] (spelled_of asked spec words) (seen 0 (omega arith)) in
     absurd (no_text asked spec words name.0 none name.2 name.1)
 
-no_walk : (asked : ArgRequest) (spec : ArgSpec) (words : List ℕ) (lookups : List SeenText) (walk : Option Walk) → words ≡ [] → IsWalkOf asked spec words lookups walk → walk ≡ None
-no_walk asked spec words lookups None none is = refl
-no_walk asked spec words lookups (Some walk) none is = absurd (no_text asked spec words is.text none is.is_name is.text_is)
-
 empty_by : (words : List ℕ) → nat_lt 0 (length words) ≡ false → words ≡ []
 empty_by [] e = refl
 empty_by (word ∷ words) e = absurd (let few = ltb-false 0 (length (word ∷ words)) e in omega (arith, few))
@@ -77,8 +72,7 @@ pub not_begun : (asked : ArgRequest) (part : Part) → IsPart asked part → is_
 not_begun asked part is e =
     let words : words_in part.copying ≡ [] = empty_by (words_in part.copying) e in
     let lookups = no_lookups asked part.spec (words_in part.copying) part.lookups.items words is.seen in
-    let walk = no_walk asked part.spec (words_in part.copying) part.lookups.items part.walk words is.walk in
-    λ k. record { words = words k; lookups = lookups k; walking = is_some (walk k) }
+    λ k. record { words = words k; lookups = lookups k }
 
 -- ---- the last argument of which a word is copied has its turn
 
@@ -180,8 +174,9 @@ module _ (head : Head) (parts : List Part) (now before : Slot) (filled : Filled)
   changed_begun none = let d = item_of parts (part_next (progress_of before)) changed_within in true≢false (sym (begun_by d _ refl) ∙ none (part_next (progress_of before)) d (omega arith) changed_within)
 
   -- undoing that change
-  pub undone : (j : ℕ) (filled_before : Filled) → part_next (progress_of before) ≡ j → with_part now j filled_before ≡ with_part before (part_next (progress_of before)) filled_before
-  undone j filled_before e =
-      ap (λ (n : ℕ). with_part now n filled_before) (sym e)
-      ∙ ap (λ (s : Slot). with_part s (part_next (progress_of before)) filled_before) is
-      ∙ ap (λ (l : List Filled). record { head = before.head; parts = l }) (set-set before.parts (part_next (progress_of before)) filled filled_before)
+  pub undone : (j : ℕ) → part_next (progress_of before) ≡ j → with_part now j (part_at before.parts (part_next (progress_of before))) ≡ before
+  undone j e =
+      let was : Filled = part_at before.parts (part_next (progress_of before)) in
+      ap (λ (n : ℕ). with_part now n was) (sym e)
+      ∙ ap (λ (s : Slot). with_part s (part_next (progress_of before)) was) is
+      ∙ ap (λ (l : List Filled). record { head = before.head; parts = l }) (set-set before.parts (part_next (progress_of before)) filled was ∙ set-get_or before.parts (part_next (progress_of before)) nothing_filled)

@@ -1,5 +1,5 @@
 -- What is copied and seen of an argument, and what is kept of it.
-use Rattle.std.specs.Prelude.{◌≡◌, ◌<◌, ℕ, Bool, true, false, List, [], ◌∷◌, ◌++◌, length, take, slice_index_or, Option, Some, None, is_some, nat_lt}
+use Rattle.std.specs.Prelude.{◌≡◌, ◌<◌, ℕ, Bool, false, List, [], ◌∷◌, ◌++◌, length, take, slice_index_or, Option, Some, None, nat_lt}
 use Rattle.st_calls.specs.Call.{follows}
 use Rattle.st_calls.specs.declared.argument.ArgSpec.{ArgSpec}
 use Rattle.st_calls.specs.declared.argument.PartKind.TheVariants as kind
@@ -13,15 +13,14 @@ use Rattle.st_names.specs.declared.seen.SeenText.{SeenText}
 use Rattle.st_resolve.specs.Walk.{Walk, walk_from}
 use Rattle.st_translate.specs.Copied.{Copied, lies_in_memory}
 
--- what was copied and seen of an argument, and whether the walk of its name is readied
+-- what was copied and seen of an argument
 pub record Filled : Type 0 where
   pub words : List ℕ
   pub lookups : List SeenText
-  pub walking : Bool
 
 -- nothing yet
 abbrev pub nothing_filled : Filled
-nothing_filled = record { words = []; lookups = []; walking = false }
+nothing_filled = record { words = []; lookups = [] }
 
 -- whether a word was copied
 abbrev pub is_begun : Filled → Bool
@@ -29,19 +28,11 @@ is_begun filled = nat_lt 0 (length filled.words)
 
 -- the same with one more word
 abbrev pub with_word : Filled → ℕ → Filled
-with_word filled word = record { words = filled.words ++ word ∷ []; lookups = filled.lookups; walking = filled.walking }
+with_word filled word = record { words = filled.words ++ word ∷ []; lookups = filled.lookups }
 
 -- the same with one more answer to a look
 abbrev pub with_lookup : Filled → SeenText → Filled
-with_lookup filled seen = record { words = filled.words; lookups = filled.lookups ++ seen ∷ []; walking = filled.walking }
-
--- the same with the walk readied
-abbrev pub with_walk : Filled → Filled
-with_walk filled = record { words = filled.words; lookups = filled.lookups; walking = true }
-
--- the same with nothing readied
-abbrev pub without_walk : Filled → Filled
-without_walk filled = record { words = filled.words; lookups = filled.lookups; walking = false }
+with_lookup filled seen = record { words = filled.words; lookups = filled.lookups ++ seen ∷ [] }
 
 -- ---- how far an argument has come
 
@@ -69,7 +60,7 @@ words_in None = []
 words_in (Some copied) = copied.words
 
 abbrev pub filled_of : Part → Filled
-filled_of part = record { words = words_in part.copying; lookups = part.lookups.items; walking = is_some part.walk }
+filled_of part = record { words = words_in part.copying; lookups = part.lookups.items }
 
 -- an argument is copied exactly where it lies in memory
 abbrev pub IsCopyOf : ArgRequest → ArgSpec → Option Copied → Type 0

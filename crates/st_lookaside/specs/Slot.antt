@@ -1,5 +1,5 @@
 -- A message under way: what was copied and seen for each of its arguments.
-use Rattle.std.specs.Prelude.{◌≡◌, ◌<◌, ◌≤◌, ◌+◌, ℕ, Bool, true, false, List, [], All, map, get_or, Option, IfSome, slice_index_or, slice_set, length}
+use Rattle.std.specs.Prelude.{◌≡◌, ◌<◌, ◌≤◌, ◌+◌, ℕ, true, false, List, [], All, map, get_or, Option, IfSome, slice_index_or, slice_set, length}
 use Rattle.st_base.specs.declared.ids.Ids.{Ids}
 use Rattle.st_calls.specs.Argument.{args_of}
 use Rattle.st_calls.specs.declared.argument.ArgText.{ArgText}
@@ -7,7 +7,7 @@ use Rattle.st_calls.specs.declared.judged.Snapshot.{Snapshot}
 use Rattle.st_effects.specs.Progress.{Progress, Word, Look, Stuck, Ready, progress}
 use Rattle.st_lookaside.specs.Head.{request_of}
 use Rattle.st_lookaside.specs.Need.{IsShort}
-use Rattle.st_lookaside.specs.Part.{Filled, filled_of, is_begun, nothing_filled, with_lookup, with_walk, with_word, without_walk, IsPart}
+use Rattle.st_lookaside.specs.Part.{Filled, filled_of, is_begun, nothing_filled, with_lookup, with_word, IsPart}
 use Rattle.st_lookaside.specs.declared.head.Head.{Head}
 use Rattle.st_lookaside.specs.declared.need.Need.TheVariants as need
 use Rattle.st_lookaside.specs.declared.part.Part.{Part}
@@ -81,10 +81,6 @@ IsReady (Look part name) = ⊥
 IsReady (Stuck errno) = ⊥
 IsReady (Ready args) = Unit {0}
 
--- whether the walk is readied of the argument that isn't finished
-abbrev pub is_readied : Slot → Bool
-is_readied slot = (part_at slot.parts (part_next (progress_of slot))).walking
-
 -- a word that is needed lies in memory
 abbrev pub IsInside : Next → Type 0
 IsInside (next.Word part place) = place < SPACE_WORDS
@@ -105,20 +101,6 @@ after_word slot word = let j = part_next (progress_of slot) in with_part slot j 
 -- its walk has one more answer
 abbrev pub after_look : Slot → SeenText → Slot
 after_look slot seen = let j = part_next (progress_of slot) in with_part slot j (with_lookup (part_at slot.parts j) seen)
-
--- what is needed next is readied: the walk of a name, where the room for words is there already
-abbrev pub begun_at : Progress → Slot → Slot
-begun_at (Word part place) slot = slot
-begun_at (Look part name) slot = with_part slot part (with_walk (part_at slot.parts part))
-begun_at (Stuck errno) slot = slot
-begun_at (Ready args) slot = slot
-
-abbrev pub after_begin : Slot → Slot
-after_begin slot = begun_at (progress_of slot) slot
-
--- its walk isn't readied
-abbrev pub unreadied : Slot → Slot
-unreadied slot = let j = part_next (progress_of slot) in with_part slot j (without_walk (part_at slot.parts j))
 
 -- the message begins anew under this number, with these ids and this directory
 abbrev pub renewed : Slot → ℕ → Ids → Components → Slot

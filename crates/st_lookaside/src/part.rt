@@ -1,5 +1,5 @@
 // An argument of a message on its way: what is copied and seen of it.
-ghost use Rattle.std.specs.Prelude.{◌≡◌, ◌↔◌, ◌<◌, IsTrue, ℕ, Bool, true, false, List, [], ◌∷◌, ◌++◌, length, slice_index_or, Option, Some, None, is_some, IsSome, IfOk, OnOk, OnErr};
+ghost use Rattle.std.specs.Prelude.{◌≡◌, ◌<◌, ℕ, Bool, true, false, List, [], ◌∷◌, ◌++◌, length, slice_index_or, Option, Some, None, is_some, IsSome, IfOk, OnOk, OnErr};
 ghost use Rattle.st_calls.specs.Call.{follows};
 ghost use Rattle.st_calls.specs.declared.argument.ArgText.{ArgText};
 ghost use Rattle.st_calls.specs.declared.argument.PartKind.TheVariants as kind;
@@ -27,7 +27,7 @@ pub struct Part {
     pub copying: Option<Copying>,
     // What was seen on the walk of its name.
     pub lookups: Vec<SeenText>,
-    // That walk, while it is readied.
+    // That walk, once it is readied. It says nothing that isn't copied or seen, and saves walking again.
     pub walk: Option<Walk>,
     // What the argument needs next, whether the walk is readied or not.
     pub need: Need,
@@ -63,7 +63,7 @@ fn seen_of(seen: &SeenText) -> Seen<'_>
 }
 
 impl Part {
-    ghost use Rattle.st_lookaside.specs.Part.{Filled, filled_of, is_begun, nothing_filled, progress_of_arg, spelled_of, with_word, with_lookup, without_walk, with_walk, words_in, IsCopyOf, IsPart, IsWalk};
+    ghost use Rattle.st_lookaside.specs.Part.{Filled, filled_of, is_begun, nothing_filled, progress_of_arg, spelled_of, with_word, with_lookup, words_in, IsCopyOf, IsPart, IsWalk};
 
     /// An argument of which nothing is copied or seen, with room for every word.
     pub fn begin(alloc: Global, head: &Head, spec: ArgSpec) -> Result<Self, AllocError>
@@ -120,27 +120,6 @@ impl Part {
         self.note_need(head);
     }
 
-    /// Takes what was seen of the name that is looked at next, where the walk is readied.
-    pub fn saw(&mut self, alloc: Global, head: &Head, seen: Seen<'_>) -> Result<(), AllocError>
-        requires part { IsPart (request_of head.now) self.old }
-        requires need { self.old.need ≡ need.Look }
-        requires walk { IsSome self.old.walk }
-        ensures part { IsPart (request_of head.now) self.new }
-        ensures spec { self.new.spec ≡ self.old.spec }
-        ensures ok { OnOk result (filled_of self.new ≡ with_lookup (filled_of self.old) (seen_text seen.entry)) }
-        ensures err { OnErr result (filled_of self.new ≡ filled_of self.old) }
-    {
-        let Some(walk) = &mut self.walk else {
-            unreachable!()
-        };
-        let kept = seen.copy(alloc)?;
-        self.lookups.reserve(1)?;
-        let step = walk.advance(alloc, seen)?;
-        self.lookups.push_reserved(kept);
-        self.need = Need::of_step(step);
-        Ok(())
-    }
-
     // The walk of the name that was copied, behind what was seen.
     fn walk_again(&self, alloc: Global, head: &Head) -> Result<Walk, AllocError>
         requires part { IsPart (request_of head.now) self.now }
@@ -162,13 +141,15 @@ impl Part {
         Ok(walk)
     }
 
-    /// Readies the walk of the name that is looked up.
-    pub fn begin_walk(&mut self, alloc: Global, head: &Head) -> Result<(), AllocError>
+    // Readies the walk of the name that is looked up. Without memory nothing changes.
+    fn begin_walk(&mut self, alloc: Global, head: &Head) -> Result<(), AllocError>
         requires part { IsPart (request_of head.now) self.old }
         requires need { self.old.need ≡ need.Look }
         ensures part { IsPart (request_of head.now) self.new }
         ensures spec { self.new.spec ≡ self.old.spec }
-        ensures ok { OnOk result (filled_of self.new ≡ with_walk (filled_of self.old)) }
+        ensures need { self.new.need ≡ need.Look }
+        ensures filled { filled_of self.new ≡ filled_of self.old }
+        ensures ok { OnOk result (IsSome self.new.walk) }
         ensures err { OnErr result (self.new ≡ self.old) }
     {
         if self.walk.is_none() {
@@ -177,13 +158,16 @@ impl Part {
         Ok(())
     }
 
-    /// The name that is looked at next, where the walk is readied.
-    pub fn look_name(&self, alloc: Global, head: &Head) -> Result<AbsName, AllocError>
-        requires part { IsPart (request_of head.now) self.now }
-        requires need { self.now.need ≡ need.Look }
-        requires walk { IsSome self.now.walk }
-        ensures { IfOk result (λ name. progress_of_arg (request_of head.now) self.now.spec (words_in self.now.copying) self.now.lookups.items ≡ Look 0 name) }
+    /// The name that is looked at next. Its walk is readied, and nothing that is copied or seen changes.
+    pub fn next_name(&mut self, alloc: Global, head: &Head) -> Result<AbsName, AllocError>
+        requires part { IsPart (request_of head.now) self.old }
+        requires need { self.old.need ≡ need.Look }
+        ensures part { IsPart (request_of head.now) self.new }
+        ensures spec { self.new.spec ≡ self.old.spec }
+        ensures filled { filled_of self.new ≡ filled_of self.old }
+        ensures name { IfOk result (λ name. progress_of_arg (request_of head.now) self.new.spec (words_in self.new.copying) self.new.lookups.items ≡ Look 0 name) }
     {
+        self.begin_walk(alloc, head)?;
         let Some(walk) = &self.walk else {
             unreachable!()
         };
@@ -191,6 +175,32 @@ impl Part {
             unreachable!()
         };
         Ok(name)
+    }
+
+    /// Takes what was seen of the name that is looked at next, whose walk is readied then. Without memory nothing is taken.
+    pub fn take_look(
+        &mut self,
+        alloc: Global,
+        head: &Head,
+        seen: Seen<'_>,
+    ) -> Result<(), AllocError>
+        requires part { IsPart (request_of head.now) self.old }
+        requires need { self.old.need ≡ need.Look }
+        ensures part { IsPart (request_of head.now) self.new }
+        ensures spec { self.new.spec ≡ self.old.spec }
+        ensures ok { OnOk result (filled_of self.new ≡ with_lookup (filled_of self.old) (seen_text seen.entry)) }
+        ensures err { OnErr result (filled_of self.new ≡ filled_of self.old) }
+    {
+        self.begin_walk(alloc, head)?;
+        let Some(walk) = &mut self.walk else {
+            unreachable!()
+        };
+        let kept = seen.copy(alloc)?;
+        self.lookups.reserve(1)?;
+        let step = walk.advance(alloc, seen)?;
+        self.lookups.push_reserved(kept);
+        self.need = Need::of_step(step);
+        Ok(())
     }
 
     // The name that was found, as it is printed.
@@ -234,13 +244,6 @@ impl Part {
         })
     }
 
-    /// Whether a look is needed.
-    pub fn needs_look(&self) -> bool
-        ensures { IsTrue result ↔ (self.now.need ≡ need.Look) }
-    {
-        matches!(self.need, Need::Look)
-    }
-
     /// Whether it is all there.
     pub fn is_finished(&self) -> bool
         ensures { result ≡ is_finished self.now.need }
@@ -258,15 +261,15 @@ impl Part {
         }
     }
 
-    /// Undoes the last `fill` or `saw`, at the cost of what was copied before; the walk is readied no more.
+    /// Undoes the last `fill` or `take_look`, at the cost of what was copied before; the walk is readied no more.
     pub fn take_back(&mut self, head: &Head)
         requires part { IsPart (request_of head.now) self.old }
         requires some { is_begun (filled_of self.old) ≡ true }
         requires short { IsShort head.now.cwd }
         ensures part { IsPart (request_of head.now) self.new }
         ensures spec { self.new.spec ≡ self.old.spec }
-        ensures seen { (before : Filled) (seen : SeenText) → filled_of self.old ≡ with_lookup before seen → filled_of self.new ≡ without_walk before }
-        ensures word { (before : Filled) (word : ℕ) → before.lookups ≡ [] → filled_of self.old ≡ with_word before word → filled_of self.new ≡ without_walk before }
+        ensures seen { (before : Filled) (seen : SeenText) → filled_of self.old ≡ with_lookup before seen → filled_of self.new ≡ before }
+        ensures word { (before : Filled) (word : ℕ) → before.lookups ≡ [] → filled_of self.old ≡ with_word before word → filled_of self.new ≡ before }
     {
         self.walk = None;
         if self.lookups.pop().is_some() {

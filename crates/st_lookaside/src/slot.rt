@@ -1,4 +1,4 @@
-ghost use Rattle.std.specs.Prelude.{◌≡◌, ◌<◌, ℕ, true, false, not, All, map, get_or, length, position, Option, Some, None, IfSome, IsNone, IfOk, OnOk, OnErr};
+ghost use Rattle.std.specs.Prelude.{◌≡◌, ◌<◌, ℕ, false, not, All, map, get_or, length, position, Option, Some, None, IfSome, IsNone, IfOk, OnOk, OnErr};
 ghost use Rattle.st_calls.specs.Argument.{args_of};
 ghost use Rattle.st_lookaside.specs.Head.{request_of};
 ghost use Rattle.st_lookaside.specs.Need.{is_finished, IsShort};
@@ -92,7 +92,7 @@ fn restart(parts: &mut [Part], head: &Head)
 
 impl Slot {
     ghost use Rattle.st_lookaside.specs.Slot as slot;
-    ghost use Rattle.st_lookaside.specs.Slot.{after_begin, after_look, after_word, is_readied, new_slot, next_of, part_next, progress_of, renewed, snapshot_with, unreadied, IsDue, IsInOrder, IsInside, IsLookNext, IsReady, IsWordNext};
+    ghost use Rattle.st_lookaside.specs.Slot.{after_look, after_word, new_slot, next_of, part_next, progress_of, renewed, snapshot_with, IsInOrder, IsInside, IsLookNext, IsReady, IsWordNext};
 
     /// A message of which nothing is copied or seen, with room for every word.
     pub fn new(alloc: Global, head: Head) -> Result<Self, AllocError>
@@ -133,25 +133,6 @@ impl Slot {
         }
     }
 
-    /// Readies what is needed next, which changes nothing that is copied or seen. Without memory nothing changes.
-    pub fn begin_part(&mut self, alloc: Global) -> Result<(), AllocError>
-        requires { IsDue (progress_of self.old) }
-        ensures ok { OnOk result (self.new ≡ after_begin self.old) }
-        ensures same { OnOk result (progress_of self.new ≡ progress_of self.old) }
-        ensures readied { OnOk result (IsLookNext (progress_of self.old) → is_readied self.new ≡ true) }
-        ensures head { self.new.head ≡ self.old.head }
-        ensures err { OnErr result (self.new ≡ self.old) }
-    {
-        let Some(j) = unfinished(&self.parts) else {
-            unreachable!()
-        };
-        let part = &mut self.parts[j];
-        if !part.needs_look() {
-            return Ok(());
-        }
-        part.begin_walk(alloc, &self.head)
-    }
-
     /// Takes the word that is needed next, without memory, and gives what is needed behind it.
     pub fn fill(&mut self, word: u64) -> Next
         requires { IsWordNext (progress_of self.old) }
@@ -171,23 +152,24 @@ impl Slot {
         self.next()
     }
 
-    /// The name that is looked at next, where its walk is readied.
-    pub fn look_name(&self, alloc: Global) -> Result<AbsName, AllocError>
-        requires next { IsLookNext (progress_of self.now) }
-        requires readied { is_readied self.now ≡ true }
-        ensures { IfOk result (λ name. progress_of self.now ≡ Look (part_next (progress_of self.now)) name) }
+    /// The name that is looked at next. Its walk is readied, and nothing that is copied or seen changes.
+    pub fn next_name(&mut self, alloc: Global) -> Result<AbsName, AllocError>
+        requires { IsLookNext (progress_of self.old) }
+        ensures same { self.new ≡ self.old }
+        ensures name { IfOk result (λ name. progress_of self.old ≡ Look (part_next (progress_of self.old)) name) }
     {
         let Some(j) = unfinished(&self.parts) else {
             unreachable!()
         };
-        self.parts[j].look_name(alloc, &self.head)
+        let part = &mut self.parts[j];
+        part.next_name(alloc, &self.head)
     }
 
-    /// Takes what was seen of the name that is looked at next, where its walk is readied. Without memory nothing changes.
-    pub fn saw(&mut self, alloc: Global, seen: Seen<'_>) -> Result<(), AllocError>
-        requires next { IsLookNext (progress_of self.old) }
-        requires readied { is_readied self.old ≡ true }
-        ensures ok { OnOk result (self.new ≡ after_look self.old (seen_text seen.entry)) }
+    /// Takes what was seen of the name that is looked at next, and gives what is needed behind it. Without memory nothing is taken.
+    pub fn take_look(&mut self, alloc: Global, seen: Seen<'_>) -> Result<Next, AllocError>
+        requires { IsLookNext (progress_of self.old) }
+        ensures slot { OnOk result (self.new ≡ after_look self.old (seen_text seen.entry)) }
+        ensures next { IfOk result (λ next. next ≡ next_of (progress_of (after_look self.old (seen_text seen.entry)))) }
         ensures head { self.new.head ≡ self.old.head }
         ensures order { IsInOrder self.old }
         ensures err { OnErr result (self.new ≡ self.old) }
@@ -196,14 +178,19 @@ impl Slot {
             unreachable!()
         };
         let part = &mut self.parts[j];
-        part.saw(alloc, &self.head, seen)
+        part.take_look(alloc, &self.head, seen)?;
+        // Mostly it needs one more look, and then the others need not be looked at.
+        if let Need::Look = part.need {
+            return Ok(Next::Look(j as u32));
+        }
+        Ok(self.next())
     }
 
-    /// Undoes the last `fill` or `saw`, at the cost of what was copied or seen before it; nothing is readied then.
+    /// Undoes the last `fill` or `take_look`, at the cost of what was copied or seen before it; nothing is readied then.
     pub fn take_back(&mut self)
         ensures head { self.new.head ≡ self.old.head }
-        ensures word { (before : slot.Slot) (word : ℕ) → IsInOrder before → IsWordNext (progress_of before) → self.old ≡ after_word before word → self.new ≡ unreadied before }
-        ensures look { (before : slot.Slot) (seen : SeenText) → IsInOrder before → IsLookNext (progress_of before) → self.old ≡ after_look before seen → self.new ≡ unreadied before }
+        ensures word { (before : slot.Slot) (word : ℕ) → IsInOrder before → IsWordNext (progress_of before) → self.old ≡ after_word before word → self.new ≡ before }
+        ensures look { (before : slot.Slot) (seen : SeenText) → IsInOrder before → IsLookNext (progress_of before) → self.old ≡ after_look before seen → self.new ≡ before }
     {
         self.sealed = None;
         if let Some(j) = last_begun(&self.parts) {

@@ -1,9 +1,9 @@
-ghost use Rattle.std.specs.Prelude.{◌≡◌, ◌<◌, ℕ, true, [], Some, None, IsSome, IfSome, IfOk, IfErr, OnOk, OnErr, length, slice_index_or, remove};
+ghost use Rattle.std.specs.Prelude.{◌≡◌, ◌<◌, ℕ, [], Some, None, IsSome, IfSome, IfOk, IfErr, OnOk, OnErr, length, slice_index_or, remove};
 ghost use Rattle.std.specs.VecDeque.{deque_capacity};
 ghost use Rattle.st_effects.specs.Progress.{Look, Ready};
 ghost use Rattle.st_lookaside.specs.Need.{IsShort};
 ghost use Rattle.st_lookaside.specs.Slot as slot;
-ghost use Rattle.st_lookaside.specs.Slot.{after_begin, after_look, after_word, is_readied, new_slot, next_of, part_next, progress_of, renewed, snapshot_with, unreadied, IsDue, IsInOrder, IsInside, IsLookNext, IsReady, IsWordNext};
+ghost use Rattle.st_lookaside.specs.Slot.{after_look, after_word, new_slot, next_of, part_next, progress_of, renewed, snapshot_with, IsInOrder, IsInside, IsLookNext, IsReady, IsWordNext};
 ghost use Rattle.st_lookaside.specs.Slots.{slot_at, AreAscending, ChangesSlot, IsAt, IsGap, RenewsSlot};
 ghost use Rattle.st_names.specs.Seen.{seen_text};
 ghost use Rattle.st_names.specs.declared.seen.SeenText.{SeenText};
@@ -137,22 +137,6 @@ impl Slots {
         self.slot(seq).next()
     }
 
-    /// Readies what a message needs next, which changes nothing that is copied or seen. Without memory nothing changes.
-    pub fn begin_part(&mut self, alloc: Global, seq: Seq) -> Result<(), AllocError>
-        requires slot { IsSome (slot_at self.old seq) }
-        requires due { IfSome (slot_at self.old seq) (λ slot. IsDue (progress_of slot)) }
-        ensures ok { OnOk result (IfSome (slot_at self.old seq) (λ slot. ChangesSlot self.old seq (Some (after_begin slot)) self.new)) }
-        ensures same { IfSome (slot_at self.old seq) (λ slot. progress_of (after_begin slot) ≡ progress_of slot) }
-        ensures readied { OnOk result (IfSome (slot_at self.old seq) (λ slot. IsLookNext (progress_of slot) → is_readied (after_begin slot) ≡ true)) }
-        ensures err { OnErr result (self.new ≡ self.old) }
-    {
-        let Ok(place) = place_of(&self.slots, seq) else {
-            unreachable!()
-        };
-        let slot = &mut self.slots[place];
-        slot.begin_part(alloc)
-    }
-
     /// Takes the word that a message needs next, without memory, and gives what it needs behind it.
     pub fn fill(&mut self, seq: Seq, word: u64) -> Next
         requires slot { IsSome (slot_at self.old seq) }
@@ -168,22 +152,26 @@ impl Slots {
         slot.fill(word)
     }
 
-    /// The name that a message looks at next, where its walk is readied.
-    pub fn look_name(&self, alloc: Global, seq: Seq) -> Result<AbsName, AllocError>
-        requires slot { IsSome (slot_at self.now seq) }
-        requires next { IfSome (slot_at self.now seq) (λ slot. IsLookNext (progress_of slot)) }
-        requires readied { IfSome (slot_at self.now seq) (λ slot. is_readied slot ≡ true) }
-        ensures { IfOk result (λ name. IfSome (slot_at self.now seq) (λ slot. progress_of slot ≡ Look (part_next (progress_of slot)) name)) }
-    {
-        self.slot(seq).look_name(alloc)
-    }
-
-    /// Takes what was seen of the name that a message looks at next, where its walk is readied. Without memory nothing changes.
-    pub fn saw(&mut self, alloc: Global, seq: Seq, seen: Seen<'_>) -> Result<(), AllocError>
+    /// The name that a message looks at next. Its walk is readied, and nothing that is copied or seen changes.
+    pub fn next_name(&mut self, alloc: Global, seq: Seq) -> Result<AbsName, AllocError>
         requires slot { IsSome (slot_at self.old seq) }
         requires next { IfSome (slot_at self.old seq) (λ slot. IsLookNext (progress_of slot)) }
-        requires readied { IfSome (slot_at self.old seq) (λ slot. is_readied slot ≡ true) }
-        ensures ok { OnOk result (IfSome (slot_at self.old seq) (λ slot. ChangesSlot self.old seq (Some (after_look slot (seen_text seen.entry))) self.new)) }
+        ensures same { self.new ≡ self.old }
+        ensures name { IfOk result (λ name. IfSome (slot_at self.old seq) (λ slot. progress_of slot ≡ Look (part_next (progress_of slot)) name)) }
+    {
+        let Ok(place) = place_of(&self.slots, seq) else {
+            unreachable!()
+        };
+        let slot = &mut self.slots[place];
+        slot.next_name(alloc)
+    }
+
+    /// Takes what was seen of the name that a message looks at next, and gives what it needs behind it. Without memory nothing is taken.
+    pub fn take_look(&mut self, alloc: Global, seq: Seq, seen: Seen<'_>) -> Result<Next, AllocError>
+        requires slot { IsSome (slot_at self.old seq) }
+        requires next { IfSome (slot_at self.old seq) (λ slot. IsLookNext (progress_of slot)) }
+        ensures slot { OnOk result (IfSome (slot_at self.old seq) (λ slot. ChangesSlot self.old seq (Some (after_look slot (seen_text seen.entry))) self.new)) }
+        ensures next { IfOk result (λ next. IfSome (slot_at self.old seq) (λ slot. next ≡ next_of (progress_of (after_look slot (seen_text seen.entry))))) }
         ensures order { IfSome (slot_at self.old seq) IsInOrder }
         ensures err { OnErr result (self.new ≡ self.old) }
     {
@@ -191,7 +179,7 @@ impl Slots {
             unreachable!()
         };
         let slot = &mut self.slots[place];
-        slot.saw(alloc, seen)
+        slot.take_look(alloc, seen)
     }
 
     /// A message with the texts of its arguments, as they were copied and looked up. They are made only where it wasn't sealed.
@@ -219,11 +207,11 @@ impl Slots {
         slot.seal(alloc)
     }
 
-    /// Undoes the last `fill` or `saw` of a message; nothing is readied then. It takes no memory.
+    /// Undoes the last `fill` or `take_look` of a message; nothing is readied then. It takes no memory.
     pub fn take_back(&mut self, seq: Seq)
         requires { IsSome (slot_at self.old seq) }
-        ensures word { (before : slot.Slot) (word : ℕ) → IsInOrder before → IsWordNext (progress_of before) → slot_at self.old seq ≡ Some (after_word before word) → ChangesSlot self.old seq (Some (unreadied before)) self.new }
-        ensures look { (before : slot.Slot) (seen : SeenText) → IsInOrder before → IsLookNext (progress_of before) → slot_at self.old seq ≡ Some (after_look before seen) → ChangesSlot self.old seq (Some (unreadied before)) self.new }
+        ensures word { (before : slot.Slot) (word : ℕ) → IsInOrder before → IsWordNext (progress_of before) → slot_at self.old seq ≡ Some (after_word before word) → ChangesSlot self.old seq (Some before) self.new }
+        ensures look { (before : slot.Slot) (seen : SeenText) → IsInOrder before → IsLookNext (progress_of before) → slot_at self.old seq ≡ Some (after_look before seen) → ChangesSlot self.old seq (Some before) self.new }
     {
         let Ok(place) = place_of(&self.slots, seq) else {
             unreachable!()

@@ -123,7 +123,9 @@ impl<'a> Operator<'a> {
         match input.options.mode {
             Mode::Enforce => false,
             Mode::Learn => true,
-            Mode::AskText => self.next_left(copies.policy.get().bytes(), copies.rule).is_some(),
+            Mode::AskText => self
+                .next_left(copies.policy.get().bytes(), copies.rule)
+                .is_some(),
         }
     }
 

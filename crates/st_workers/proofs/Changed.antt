@@ -1,11 +1,10 @@
 -- What agrees agrees on where one number, and the turn of one worker, change.
 use Rattle.std.proofs.Common.{◌≡◌, ◌≢◌, ◌<◌, ◌≤◌, ℕ, suc, ◌||◌, Bool, true, false, cond, Option, Some, None, ◌⊎◌, inl, inr, ap, sym, ◌∙◌, subst, arith}
 use Rattle.std.proofs.lemmas.Bool.{cases_eq}
-use Rattle.st_lookaside.specs.Slot.{Slot}
 use Rattle.st_messages.specs.declared.message.MsgState.{MsgState}
 use Rattle.st_messages.specs.declared.message.MsgState.TheVariants.{Waiting, Claimed, Answered, Faulted}
 use Rattle.st_law.specs.State.{Message, is_ready, progress_of_message, snapshot_of_message}
-use Rattle.st_workers.specs.Kept.{Agrees, HasCome, IsDead, IsLive, IsSlotOf, IsState, IsTurn, IsUntouched}
+use Rattle.st_workers.specs.Kept.{Agrees, HasCome, IsDead, IsLive, IsState, IsTurn, IsUntouched}
 use Rattle.st_workers.specs.UnderWay.{Found}
 use Rattle.st_workers.specs.declared.turn.Turn.{Turn}
 use Rattle.st_workers.specs.declared.turn.Turn.TheVariants.{Idle, Working, Ready}
@@ -142,19 +141,14 @@ module _ (messages after : ℕ → Message) (turns turned : ℕ → Option ℕ) 
     workers = turns_still;
   }
 
--- ---- nothing changes but what is readied
+-- ---- nothing changes
 
--- a slot with the same head, words and lookups
-pub record AreAlike (a b : Slot) : Type 0 where
-  pub slot : (message : Message) (tid : ℕ) → IsSlotOf message tid a → IsSlotOf message tid b
-
--- all is found as it was, but for what is readied
+-- all is found as it was
 pub record IsSame (old new : Found) : Type 0 where
   pub next : new.next ≡ old.next
   pub state : (q : ℕ) → new.state q ≡ old.state q
   pub thread : (q : ℕ) → new.thread q ≡ old.thread q
-  pub slot : (q : ℕ) (a : Slot) → old.slot q ≡ Some a → (b : Slot) × (new.slot q ≡ Some b) × AreAlike a b
-  pub none : (q : ℕ) → old.slot q ≡ None → new.slot q ≡ None
+  pub slot : (q : ℕ) → new.slot q ≡ old.slot q
   pub turn : (w : ℕ) → new.turn w ≡ old.turn w
 
 pub unchanged : (messages : ℕ → Message) (turns : ℕ → Option ℕ) (alive : ℕ → Bool) (posted : ℕ) (old new : Found) → IsSame old new → Agrees messages turns alive posted old → Agrees messages turns alive posted new
@@ -162,20 +156,19 @@ unchanged messages turns alive posted old new same agrees = record {
   next = same.next ∙ agrees.next;
   live = λ q is.
       let was : IsLive turns q (messages q) old = agrees.live q is in
-      let now = same.slot q was.slot was.slot_is in
       record {
         state = was.state;
         tid = was.tid;
-        slot = now.0;
+        slot = was.slot;
         state_is = same.state q ∙ was.state_is;
         thread_is = same.thread q ∙ was.thread_is;
-        slot_is = now.1;
+        slot_is = same.slot q ∙ was.slot_is;
         is_state = was.is_state;
-        is_slot = now.2.slot (messages q) was.tid was.is_slot;
+        is_slot = was.is_slot;
       };
   dead = λ q is.
       let was : IsDead q old = agrees.dead q is in
-      record { state = same.state q ∙ was.state; thread = same.thread q ∙ was.thread; slot = same.none q was.slot };
+      record { state = same.state q ∙ was.state; thread = same.thread q ∙ was.thread; slot = same.slot q ∙ was.slot };
   given = agrees.given;
   later = agrees.later;
   turned = agrees.turned;

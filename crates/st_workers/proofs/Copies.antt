@@ -124,18 +124,3 @@ module _ (message : Message) (tid : ℕ) (slot : Slot) (is : IsSlotOf message ti
       | inr ne ↦ rw (ne_eqb part j ne) (is.lookups j ∙ sym (ap (λ (f : Filled). f.lookups) (other filled j ne)))
     ];
   }
-
-  -- what is readied of it, or not
-  readied_kept : (filled : Filled) → filled.words ≡ (part_at slot.parts part).words → filled.lookups ≡ (part_at slot.parts part).lookups → IsSlotOf message tid (with_part slot part filled)
-  readied_kept filled words lookups = record {
-    head = is.head;
-    count = count_with filled;
-    words = λ j. elim (cases_eq part j) [
-      | inl e ↦ is.words j ∙ ap (λ (n : ℕ). (part_at slot.parts n).words) (sym e) ∙ sym words ∙ sym (ap (λ (n : ℕ). (part_at (set slot.parts part filled) n).words) (sym e) ∙ ap (λ (f : Filled). f.words) (here filled))
-      | inr ne ↦ is.words j ∙ sym (ap (λ (f : Filled). f.words) (other filled j ne))
-    ];
-    lookups = λ j. elim (cases_eq part j) [
-      | inl e ↦ is.lookups j ∙ ap (λ (n : ℕ). (part_at slot.parts n).lookups) (sym e) ∙ sym lookups ∙ sym (ap (λ (n : ℕ). (part_at (set slot.parts part filled) n).lookups) (sym e) ∙ ap (λ (f : Filled). f.lookups) (here filled))
-      | inr ne ↦ is.lookups j ∙ sym (ap (λ (f : Filled). f.lookups) (other filled j ne))
-    ];
-  }

@@ -1,39 +1,16 @@
--- What is kept is as good as before where nothing changes but what is readied.
-use Rattle.std.proofs.Common.{◌≡◌, ℕ, ◌==◌, Bool, true, false, cond, List, length, Option, Some, None, refl, ap, sym, ◌∙◌, subst, arith}
+-- What is kept is as good as before where nothing changes.
+use Rattle.std.proofs.Common.{◌≡◌, ℕ, ◌==◌, Bool, true, false, cond, List, length, Some, None, refl, ap, sym, ◌∙◌, arith}
 use Rattle.std.proofs.lemmas.Bool.{eqb-true}
-use Rattle.std.proofs.lemmas.Option.{none-some, same_Some}
 use Rattle.st_base.specs.Numbered.{item_at_number}
-use Rattle.st_calls.specs.Argument.{args_of}
 use Rattle.st_lookaside.specs.Slot.{Slot}
 use Rattle.st_lookaside.specs.Slots.{slot_at, ChangesSlot}
-use Rattle.st_lookaside.specs.declared.head.Head as kept
 use Rattle.st_messages.specs.Messages.{HeldCalls, state_at, thread_at}
-use Rattle.st_workers.specs.Filling.{AreSame, HasSame, IsSameSlot}
-use Rattle.st_workers.specs.Kept.{head_of, IsWhole, Stands}
+use Rattle.st_workers.specs.Filling.{AreSame}
+use Rattle.st_workers.specs.Kept.{IsWhole, Stands}
 use Rattle.st_workers.specs.UnderWay.{UnderWay, found_in}
 use Rattle.st_workers.specs.declared.turn.Turn.{Turn}
-use Rattle.st_workers.proofs.Changed.{unchanged, AreAlike, IsSame}
-use Rattle.st_workers.proofs.Filled.{last_change, slot_same-by}
-
-pub alike : (a b : Slot) → HasSame a b → AreAlike a b
-alike a b same = record {
-  slot = λ message tid is. record {
-    head = is.head ∙ ap (λ (h : kept.Head). Some (head_of tid h)) (sym same.head);
-    count = same.count ∙ is.count ∙ ap (λ (h : kept.Head). length (args_of h.rule)) (sym same.head);
-    words = λ j. is.words j ∙ sym (same.words j);
-    lookups = λ j. is.lookups j ∙ sym (same.lookups j);
-  };
-}
-
-same_some : (o n : Option Slot) (a : Slot) → IsSameSlot o n → o ≡ Some a → (b : Slot) × (n ≡ Some b) × AreAlike a b
-same_some None n a same is = absurd (none-some a is)
-same_some (Some x) None a same is = absurd same
-same_some (Some x) (Some b) a same is = (b, refl, alike a b (subst (λ (s : Slot). HasSame s b) (same_Some x a is) same))
-
-same_none : (o n : Option Slot) → IsSameSlot o n → o ≡ None → n ≡ None
-same_none None None same is = refl
-same_none None (Some b) same is = absurd same
-same_none (Some x) n same is = absurd (none-some x (sym is))
+use Rattle.st_workers.proofs.Changed.{unchanged, IsSame}
+use Rattle.st_workers.proofs.Filled.{last_change}
 
 module _ (old new : UnderWay) (calls : new.calls ≡ old.calls) (slots : AreSame old.slots new.slots) (turns_same : new.turns ≡ old.turns) where
   is_same : IsSame (found_in old) (found_in new)
@@ -41,8 +18,7 @@ module _ (old new : UnderWay) (calls : new.calls ≡ old.calls) (slots : AreSame
     next = ap (λ (c : HeldCalls). c.next) calls;
     state = λ q. ap (λ (c : HeldCalls). state_at c q) calls;
     thread = λ q. ap (λ (c : HeldCalls). thread_at c q) calls;
-    slot = λ q a. same_some (slot_at old.slots q) (slot_at new.slots q) a (slots q);
-    none = λ q. same_none (slot_at old.slots q) (slot_at new.slots q) (slots q);
+    slot = slots;
     turn = λ w. ap (λ (ts : List Turn). item_at_number ts w) turns_same;
   }
 
@@ -80,4 +56,4 @@ none_still old seq other false is free = refl
 pub none_then : (old mid new : List Slot) (seq : ℕ) (slot : Slot) → slot_at old seq ≡ None → ChangesSlot old seq (Some slot) mid → ChangesSlot mid seq None new → AreSame old new
 none_then old mid new seq slot free first second other =
     let both : ChangesSlot old seq None new = last_change old mid new seq (Some slot) None first second in
-    slot_same-by (slot_at old other) (slot_at new other) (both other ∙ none_still old seq other (other == seq) refl free)
+    both other ∙ none_still old seq other (other == seq) refl free

@@ -6,10 +6,8 @@ use Rattle.std.proofs.lemmas.Option.{same_Some}
 use Rattle.st_calls.specs.declared.judged.Verdict.{Verdict}
 use Rattle.st_effects.specs.Progress.{Look, Progress, Word}
 use Rattle.st_lookaside.specs.Part.{with_lookup, with_word}
-use Rattle.st_lookaside.specs.Slot.{after_begin, after_look, after_word, part_at, part_next, progress_of, with_part, Slot}
+use Rattle.st_lookaside.specs.Slot.{after_look, after_word, part_at, part_next, progress_of, with_part, Slot}
 use Rattle.st_lookaside.specs.Slots.{slot_at, ChangesSlot}
-use Rattle.st_lookaside.specs.declared.head.Head as kept
-use Rattle.st_lookaside.proofs.Turns.{same_progress}
 use Rattle.st_messages.specs.declared.message.MsgState.TheVariants.{Answered, Claimed}
 use Rattle.st_messages.specs.Messages.{state_at, thread_at, HeldCalls}
 use Rattle.st_names.specs.Name.{Components}
@@ -25,8 +23,7 @@ use Rattle.st_workers.specs.UnderWay.{found_in, turn_at, UnderWay}
 use Rattle.st_workers.specs.declared.turn.Turn.{Turn}
 use Rattle.st_workers.specs.declared.turn.Turn.TheVariants.{Working}
 use Rattle.st_workers.proofs.Copies.{asked_inside, look_kept, slot_number, word_kept, IsBelow}
-use Rattle.st_workers.proofs.Filled.{changed_to, readied_same}
-use Rattle.st_workers.proofs.Same.{alike}
+use Rattle.st_workers.proofs.Filled.{changed_to}
 use Rattle.st_workers.proofs.Steps.{all_turned, all_worked, count_kept, message_worked, stepped, turn_is, turned_state, verdicts_kept, IsStep}
 use Rattle.st_workers.proofs.Turns.{number_within}
 
@@ -163,21 +160,17 @@ looked_here p part name seen m =
     λ k. record { head = m.head; claimed = m.claimed; words = m.words; lookups = λ j. cond (e k && part == j) (m.lookups j ++ seen ∷ []) (m.lookups j); fault = m.fault; answered = m.answered; closed = m.closed }
 
 module _ (p part : ℕ) (at name : Components) (seen : SeenText) (slot : Slot) (asks : progress_of slot ≡ Look part at) where
-  begun_asks : progress_of (after_begin slot) ≡ Look part at
-  begun_asks = same_progress slot ∙ asks
+  filled_look : after_look slot seen ≡ with_part slot part (with_lookup (part_at slot.parts part) seen)
+  filled_look = ap (λ (pr : Progress). with_part slot (part_next pr) (with_lookup (part_at slot.parts (part_next pr)) seen)) asks
 
-  filled_look : after_look (after_begin slot) seen ≡ with_part (after_begin slot) part (with_lookup (part_at (after_begin slot).parts part) seen)
-  filled_look = ap (λ (pr : Progress). with_part (after_begin slot) (part_next pr) (with_lookup (part_at (after_begin slot).parts (part_next pr)) seen)) begun_asks
-
-  pub fills_look : Fills (entry.Looked p part name seen) p slot (after_look (after_begin slot) seen)
+  pub fills_look : Fills (entry.Looked p part name seen) p slot (after_look slot seen)
   fills_look = record {
-    number = ap (λ (h : kept.Head). h.seq) (readied_same slot).head;
+    number = refl;
     other = λ q m ne. looked_other p part name seen q m ne;
     come = λ m is. record { claimed = is.claimed; fault = is.fault; answered = is.answered };
     kept = λ m tid is.
-        let begun : IsSlotOf m tid (after_begin slot) = (alike slot (after_begin slot) (readied_same slot)).slot m tid is in
         subst (λ (s : Slot). IsSlotOf (message_worked (entry.Looked p part name seen) p m) tid s) (sym filled_look)
-        (subst (λ (n : Message). IsSlotOf n tid (with_part (after_begin slot) part (with_lookup (part_at (after_begin slot).parts part) seen))) (sym (looked_here p part name seen m))
-        (look_kept m tid (after_begin slot) begun part (subst (IsBelow (length (after_begin slot).parts)) begun_asks (asked_inside (after_begin slot) begun.count)) seen));
+        (subst (λ (n : Message). IsSlotOf n tid (with_part slot part (with_lookup (part_at slot.parts part) seen))) (sym (looked_here p part name seen m))
+        (look_kept m tid slot is part (subst (IsBelow (length slot.parts)) asks (asked_inside slot is.count)) seen));
     turn = λ v o. refl;
   }

@@ -2,7 +2,7 @@
 use Rattle.std.proofs.Common.{◌≡◌, ◌-◌, ◌∙◌, ℕ, get_or, set, Some, IfSome, OnErr, OnOk, Result, Ok, Err, ap, sym, subst}
 use Rattle.std.proofs.lemmas.List.{set-get_or}
 use Rattle.std.proofs.lemmas.Option.{same_Some}
-use Rattle.st_lookaside.specs.Slot.{after_begin, after_look, after_word, Slot}
+use Rattle.st_lookaside.specs.Slot.{after_look, after_word, Slot}
 use Rattle.st_lookaside.specs.Slots.{slot_at, ChangesSlot}
 use Rattle.st_names.specs.Name.{Components}
 use Rattle.st_names.specs.declared.seen.SeenText.{SeenText}
@@ -59,22 +59,22 @@ module _ (old new : UnderWay) (w seq : ℕ) (t : Turn) (working : turn_at old w 
         served_kept (entry.Copied seq part place word) old new w seq slot.0 (after_word slot.0 word) t working slot.1 calls slots_word put turn_word (fills_word seq part place word slot.0 asked.1) i st.messages st.turns alive st.posted is in
         subst (λ (n : ℕ). Follows old (entry.Copied n part place word) new) asked.0 follows
 
-  module _ (seen : SeenText) (slots : IfSome (slot_at old.slots seq) (λ slot. ChangesSlot old.slots seq (Some (after_look (after_begin slot) seen)) new.slots))
-      (turn : IfSome (slot_at old.slots seq) (λ slot. IsTurnFor seq (after_look (after_begin slot) seen) t)) where
-    slots_look : ChangesSlot old.slots seq (Some (after_look (after_begin slot.0) seen)) new.slots
-    slots_look = told (slot_at old.slots seq) (λ s. ChangesSlot old.slots seq (Some (after_look (after_begin s) seen)) new.slots) slot.0 slot.1 slots
+  module _ (seen : SeenText) (slots : IfSome (slot_at old.slots seq) (λ slot. ChangesSlot old.slots seq (Some (after_look slot seen)) new.slots))
+      (turn : IfSome (slot_at old.slots seq) (λ slot. IsTurnFor seq (after_look slot seen) t)) where
+    slots_look : ChangesSlot old.slots seq (Some (after_look slot.0 seen)) new.slots
+    slots_look = told (slot_at old.slots seq) (λ s. ChangesSlot old.slots seq (Some (after_look s seen)) new.slots) slot.0 slot.1 slots
 
-    turn_look : IsTurnFor seq (after_look (after_begin slot.0) seen) t
-    turn_look = told (slot_at old.slots seq) (λ s. IsTurnFor seq (after_look (after_begin s) seen) t) slot.0 slot.1 turn
+    turn_look : IsTurnFor seq (after_look slot.0 seen) t
+    turn_look = told (slot_at old.slots seq) (λ s. IsTurnFor seq (after_look s seen) t) slot.0 slot.1 turn
 
     pub looked_whole : IsLook (task_of old w) → IsWhole new
     looked_whole is =
         let asked = look_asked old w seq slot.0 working slot.1 is in
-        served_whole (entry.Looked seq asked.0 asked.1 seen) old new w seq slot.0 (after_look (after_begin slot.0) seen) t working slot.1 calls slots_look put turn_look (fills_look seq asked.0 asked.1 asked.1 seen slot.0 asked.2) whole
+        served_whole (entry.Looked seq asked.0 asked.1 seen) old new w seq slot.0 (after_look slot.0 seen) t working slot.1 calls slots_look put turn_look (fills_look seq asked.0 asked.1 asked.1 seen slot.0 asked.2) whole
 
     pub looked_follows : (q part : ℕ) (name : Components) → task_of old w ≡ task.Look q part → Follows old (entry.Looked q part name seen) new
     looked_follows q part name e =
         let asked = look_is old w seq slot.0 working slot.1 q part e in
         let follows : Follows old (entry.Looked seq part name seen) new = λ i st alive is.
-        served_kept (entry.Looked seq part name seen) old new w seq slot.0 (after_look (after_begin slot.0) seen) t working slot.1 calls slots_look put turn_look (fills_look seq part asked.1 name seen slot.0 asked.2) i st.messages st.turns alive st.posted is in
+        served_kept (entry.Looked seq part name seen) old new w seq slot.0 (after_look slot.0 seen) t working slot.1 calls slots_look put turn_look (fills_look seq part asked.1 name seen slot.0 asked.2) i st.messages st.turns alive st.posted is in
         subst (λ (n : ℕ). Follows old (entry.Looked n part name seen) new) asked.0 follows

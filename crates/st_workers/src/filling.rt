@@ -1,7 +1,7 @@
 // One more word or look for a message, and the turn of its worker behind it.
 ghost use Rattle.std.specs.Prelude.{◌≡◌, ℕ, true, Some, IsSome, IfSome, IfOk, OnOk, OnErr};
 ghost use Rattle.st_effects.specs.Progress.{Progress};
-ghost use Rattle.st_lookaside.specs.Slot.{after_begin, after_look, after_word, next_of, progress_of, unreadied, IsInOrder, IsInside, IsLookNext, IsReady, IsWordNext, Slot};
+ghost use Rattle.st_lookaside.specs.Slot.{after_look, after_word, next_of, progress_of, IsInOrder, IsInside, IsLookNext, IsReady, IsWordNext, Slot};
 ghost use Rattle.st_lookaside.specs.Slots.{slot_at, ChangesSlot};
 ghost use Rattle.st_messages.specs.Messages.{is_live, HeldCalls};
 ghost use Rattle.st_names.specs.Seen.{seen_text};
@@ -55,8 +55,8 @@ fn seal_last(slots: &mut Slots, alloc: Global, seq: Seq) -> Result<Shared<Snapsh
     requires ready { IfSome (slot_at slots.old seq) (λ slot. IsReady (progress_of slot)) }
     ensures same { OnOk result (slots.new ≡ slots.old) }
     ensures turn { IfOk result (λ copies. IfSome (slot_at slots.old seq) (λ slot. IsTurnFor seq slot (Ready copies))) }
-    ensures word { OnErr result ((before : Slot) (word : ℕ) → IsInOrder before → IsWordNext (progress_of before) → slot_at slots.old seq ≡ Some (after_word before word) → ChangesSlot slots.old seq (Some (unreadied before)) slots.new) }
-    ensures look { OnErr result ((before : Slot) (seen : SeenText) → IsInOrder before → IsLookNext (progress_of before) → slot_at slots.old seq ≡ Some (after_look before seen) → ChangesSlot slots.old seq (Some (unreadied before)) slots.new) }
+    ensures word { OnErr result ((before : Slot) (word : ℕ) → IsInOrder before → IsWordNext (progress_of before) → slot_at slots.old seq ≡ Some (after_word before word) → ChangesSlot slots.old seq (Some before) slots.new) }
+    ensures look { OnErr result ((before : Slot) (seen : SeenText) → IsInOrder before → IsLookNext (progress_of before) → slot_at slots.old seq ≡ Some (after_look before seen) → ChangesSlot slots.old seq (Some before) slots.new) }
 {
     match slots.seal(alloc, seq) {
         Ok(copies) => Ok(copies),
@@ -102,14 +102,12 @@ pub fn take_look(
     requires slot { IsSome (slot_at slots.old seq) }
     requires next { IfSome (slot_at slots.old seq) (λ slot. IsLookNext (progress_of slot)) }
     requires turn { turn.old ≡ Working seq }
-    ensures slot { OnOk result (IfSome (slot_at slots.old seq) (λ slot. ChangesSlot slots.old seq (Some (after_look (after_begin slot) (seen_text seen.entry))) slots.new)) }
-    ensures turn { OnOk result (IfSome (slot_at slots.old seq) (λ slot. IsTurnFor seq (after_look (after_begin slot) (seen_text seen.entry)) turn.new)) }
+    ensures slot { OnOk result (IfSome (slot_at slots.old seq) (λ slot. ChangesSlot slots.old seq (Some (after_look slot (seen_text seen.entry))) slots.new)) }
+    ensures turn { OnOk result (IfSome (slot_at slots.old seq) (λ slot. IsTurnFor seq (after_look slot (seen_text seen.entry)) turn.new)) }
     ensures err { OnErr result (AreSame slots.old slots.new) }
     ensures stays { OnErr result (turn.new ≡ turn.old) }
 {
-    slots.begin_part(alloc, seq)?;
-    slots.saw(alloc, seq, seen)?;
-    if let Next::Ready = slots.next(seq) {
+    if let Next::Ready = slots.take_look(alloc, seq, seen)? {
         *turn = Turn::Ready(seal_last(slots, alloc, seq)?);
     }
     Ok(())

@@ -251,8 +251,7 @@ impl Workers {
         ensures law { IfOk result (λ name. (i : Input) (st : State) (seq part : ℕ) → IsKept i st (is_live_in st) self.old → task_of self.old worker ≡ LookAt seq part → worker_entry i st worker ≡ Some (entry.Looked seq part name (look st.tree name))) }
     {
         let seq = self.seq_at(worker);
-        self.slots.begin_part(alloc, seq)?;
-        self.slots.look_name(alloc, seq)
+        self.slots.next_name(alloc, seq)
     }
 
     /// A worker takes what is seen of the name that it looks at. Without memory all stands as before.

@@ -1,4 +1,4 @@
-use Rattle.std.proofs.Common.{◌≡◌, ◌∙◌, ◌-◌, ℕ, zero, suc, refl, [], List, take, false, ap, sym}
+use Rattle.std.proofs.Common.{◌≡◌, ◌∙◌, ◌-◌, ℕ, zero, suc, refl, [], List, take, ap, sym}
 use Rattle.std.proofs.lemmas.Bool.{ltb-true}
 use Rattle.st_names.specs.declared.seen.SeenText.{SeenText}
 use Rattle.st_lookaside.specs.Head.{request_of}
@@ -21,4 +21,4 @@ returns-clause-word c = λ before word none is.
     ap (λ (copied : Copied). copied.words) (taken_back c.in-Some.copying c.take_back.new.self before.words word c.take_back.ensures (sym (ap words_in c.in-Some.is) ∙ ap (λ (f : Filled). f.words) is)) in
     let lookups : c.pop.new.self.items ≡ before.lookups =
     c.pop.ensures.rest ∙ ap (λ (l : List SeenText). take (c.args.self.now.lookups.len - 1) l) (ap (λ (f : Filled). f.lookups) is ∙ none) ∙ take_none (c.args.self.now.lookups.len - 1) ∙ sym none in
-    ap filled_of c.note_need.ensures.rest ∙ (λ k. record { words = words k; lookups = lookups k; walking = false })
+    ap filled_of c.note_need.ensures.rest ∙ (λ k. record { words = words k; lookups = lookups k })

@@ -1,9 +1,10 @@
-use Rattle.std.proofs.Common.{◌≡◌, refl}
+use Rattle.std.proofs.Common.{◌≡◌, ap, refl}
 use Rattle.std.proofs.lemmas.Result.{IfOk-weaker}
 use Rattle.st_calls.specs.declared.judged.Snapshot.{Snapshot}
 use Rattle.st_effects.specs.Progress.{Ready}
+use Rattle.st_lookaside.specs.Slot as slot
 use Rattle.st_lookaside.specs.Slot.{progress_of, snapshot_with, IsReady}
-use Rattle.st_lookaside.proofs.Places.{asked_of, gone, told_of}
+use Rattle.st_lookaside.proofs.Places.{asked_of, gone, kept_set, told_of}
 use Rattle.st_lookaside.proofs.slots.Slots.seal.Goals as goal
 
 pub unreachable-requires : goal.unreachable-requires
@@ -11,6 +12,9 @@ unreachable-requires c = gone c.self.inside.slots.items c.args.self.now c.self.i
 
 pub seal-requires : goal.seal-requires
 seal-requires c = asked_of c.self.inside.slots.items c.args.self.now c.self.inside.slots.items c.self.invariant c.self.view_is refl c.args.seq c.in-Ok.place c.in-Ok.ensures.found c.index_mut-slot.result.now c.index_mut-slot.ensures.value (λ s. IsReady (progress_of s)) c.requires.ready
+
+pub invariant_of-self : goal.invariant_of-self
+invariant_of-self c = kept_set c.self.inside.slots.items c.args.self.now c.self.inside.slots.items c.self.invariant c.self.view_is refl c.args.seq c.in-Ok.place c.in-Ok.ensures.found c.index_mut-slot.result.now c.index_mut-slot.ensures.value c.seal.new.self (ap (λ (s : slot.Slot). s.head.seq) c.seal.ensures.same)
 
 pub returns-clause-args : goal.returns-clause-args
 returns-clause-args c = IfOk-weaker c.seal.result _ _ (λ (copies : Snapshot). told_of c.self.inside.slots.items c.args.self.now c.self.inside.slots.items c.self.invariant c.self.view_is refl c.args.seq c.in-Ok.place c.in-Ok.ensures.found c.index_mut-slot.result.now c.index_mut-slot.ensures.value (λ s. progress_of s ≡ Ready copies.parts)) c.seal.ensures.args

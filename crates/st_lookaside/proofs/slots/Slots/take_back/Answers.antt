@@ -1,5 +1,5 @@
 use Rattle.std.proofs.Common.{ap, refl}
-use Rattle.st_lookaside.specs.Slot.{after_look, after_word, unreadied}
+use Rattle.st_lookaside.specs.Slot.{after_look, after_word}
 use Rattle.st_lookaside.specs.declared.head.Head.{Head}
 use Rattle.st_lookaside.proofs.Places.{changed_to, gone, kept_set}
 use Rattle.st_lookaside.proofs.slots.Slots.take_back.Goals as goal
@@ -12,8 +12,8 @@ invariant_of-self c = kept_set c.self.inside.slots.items c.args.self.now c.self.
 
 pub returns-clause-word : goal.returns-clause-word
 returns-clause-word c = λ before word order next found.
-    changed_to c.self.inside.slots.items c.args.self.now c.self.inside.slots.items c.self.invariant c.self.view_is refl c.args.seq c.in-Ok.place c.in-Ok.ensures.found c.index_mut-slot.result.now c.index_mut-slot.ensures.value (after_word before word) (unreadied before) c.take_back.new.self found (c.take_back.ensures.word before word order next) (ap (λ (h : Head). h.seq) c.take_back.ensures.head)
+    changed_to c.self.inside.slots.items c.args.self.now c.self.inside.slots.items c.self.invariant c.self.view_is refl c.args.seq c.in-Ok.place c.in-Ok.ensures.found c.index_mut-slot.result.now c.index_mut-slot.ensures.value (after_word before word) before c.take_back.new.self found (c.take_back.ensures.word before word order next) (ap (λ (h : Head). h.seq) c.take_back.ensures.head)
 
 pub returns-clause-look : goal.returns-clause-look
 returns-clause-look c = λ before seen order next found.
-    changed_to c.self.inside.slots.items c.args.self.now c.self.inside.slots.items c.self.invariant c.self.view_is refl c.args.seq c.in-Ok.place c.in-Ok.ensures.found c.index_mut-slot.result.now c.index_mut-slot.ensures.value (after_look before seen) (unreadied before) c.take_back.new.self found (c.take_back.ensures.look before seen order next) (ap (λ (h : Head). h.seq) c.take_back.ensures.head)
+    changed_to c.self.inside.slots.items c.args.self.now c.self.inside.slots.items c.self.invariant c.self.view_is refl c.args.seq c.in-Ok.place c.in-Ok.ensures.found c.index_mut-slot.result.now c.index_mut-slot.ensures.value (after_look before seen) before c.take_back.new.self found (c.take_back.ensures.look before seen order next) (ap (λ (h : Head). h.seq) c.take_back.ensures.head)
