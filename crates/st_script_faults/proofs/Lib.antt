@@ -1,2 +1,3 @@
 mod FirstFaults
 mod Indexed
+mod RepliesRead

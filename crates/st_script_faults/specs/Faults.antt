@@ -1,5 +1,5 @@
 -- The faults of a script, by line.
-use Rattle.std.specs.Prelude.{ℕ, ◌+◌, Bool, true, false, ◌||◌, ◌&&◌, not, if◌then◌else◌, nat_le, nat_lt, List, [], ◌∷◌, ◌++◌, length, Option, Some, None, is_some, option_map, Ok, Err}
+use Rattle.std.specs.Prelude.{◌≡◌, ℕ, ◌+◌, Bool, true, false, ◌||◌, ◌&&◌, not, if◌then◌else◌, nat_le, nat_lt, List, [], ◌∷◌, ◌++◌, length, Option, Some, None, is_some, IsSomeAnd, option_map, Ok, Err}
 use Rattle.std.specs.List.{list_any}
 use Rattle.st_filter.specs.Formula.{FilterValue}
 use Rattle.st_law.specs.declared.input.Options.{Options}
@@ -58,6 +58,11 @@ abbrev pub reply_said : Env → Option Statement → Option Reply
 reply_said env (Some (says.Reply binary filter)) = reply_in env binary filter
 reply_said env _ = None
 
+-- where a row says a reply, this is one, with the row's binary
+abbrev pub HasBinaryOf : Option Reply → Env → Statement → Type 0
+HasBinaryOf reply env (says.Reply binary filter) = IsSomeAnd reply (λ r. r.binary ≡ unquoted env.dollars binary)
+HasBinaryOf reply env _ = Unit {0}
+
 -- replies, and one more behind them, if it is there
 abbrev pub with_reply : List Reply → Option Reply → List Reply
 with_reply replies None = replies
@@ -111,6 +116,11 @@ abbrev pub is_large : NewKind → Bool
 is_large kind.Dir = false
 is_large (kind.File content) = nat_lt LONGEST_FILE (length content)
 is_large (kind.Link target) = nat_lt LONGEST_TEXT (length target)
+
+-- a reply whose binary is too long
+abbrev pub is_long_reply : Option Reply → Bool
+is_long_reply (Some reply) = is_long reply.binary
+is_long_reply None = false
 
 -- whether so many instructions more are too many
 abbrev pub exceeds : Names → ℕ → Bool

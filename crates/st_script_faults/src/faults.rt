@@ -1,14 +1,12 @@
-ghost use Rattle.std.specs.Prelude.{◌≡◌, ◌^◌, ◌≤◌, List, Some, None, Ok, [], is_some, IfOk, OnOk};
+ghost use Rattle.std.specs.Prelude.{◌≡◌, ◌^◌, ◌≤◌, List, Some, None, Ok, [], IfOk, OnOk};
 ghost use Rattle.std.specs.List.{list_any};
-ghost use Rattle.st_script_faults.specs.Faults.{answer_of, reply_for, reply_in, reply_said, replies_behind, with_reply, is_end, ends_body, expects_other, is_unknown, is_started, is_duplicate, is_large, exceeds, is_too_many, fault_of, fault_by, line_fault, first_fault, with_thread, threads_behind, with_started, started_behind, whole_of};
+ghost use Rattle.st_script_faults.specs.Faults.{answer_of, reply_for, reply_in, reply_said, replies_behind, with_reply, is_end, ends_body, expects_other, is_unknown, is_started, is_duplicate, is_large, is_long_reply, HasBinaryOf, exceeds, is_too_many, fault_of, fault_by, line_fault, first_fault, with_thread, threads_behind, with_started, started_behind, whole_of};
 ghost use Rattle.st_script_faults.specs.FirstFault.{IsFirstFault};
 ghost use Rattle.st_script_faults.specs.Faults as spec;
 ghost use Rattle.st_script_faults.specs.Names.{no_names, with_says};
 ghost use Rattle.st_script_faults.specs.declared.fault.ScriptFault.{ScriptFault};
 ghost use Rattle.st_statements.specs.declared.statement.ScriptLine.{ScriptLine};
 ghost use Rattle.st_policy.specs.OneFilter.{filter_in};
-ghost use Rattle.st_lex.specs.Unquote.{unquoted};
-ghost use Rattle.st_statements.specs.Parts.{is_long};
 ghost use Rattle.st_script_faults.specs.declared.limits.TheConstants.{MOST_INSTRUCTIONS};
 
 use crate::environment::environment_of;
@@ -95,23 +93,23 @@ fn reply_in(
     Ok(reply_for(binary, filter))
 }
 
-// Adds the reply that a row's quoted binary and filter are, and says whether they are one.
-fn add_reply(
-    alloc: Global,
-    env: &Env,
-    binary: &Text,
-    filter: &FilterText,
-    replies: &mut Sequence<Reply>,
-) -> Result<bool, AllocError>
-    ensures is { IfOk result (λ is. is ≡ is_some (reply_in env.now binary.now filter.now)) }
-    ensures replies { OnOk result (replies.new ≡ with_reply replies.old (reply_in env.now binary.now filter.now)) }
+// The reply that a row says, if it says one.
+fn reply_said(alloc: Global, env: &Env, statement: &Statement) -> Result<Option<Reply>, AllocError>
+    ensures { IfOk result (λ found. found ≡ reply_said env.now (Some statement.now)) }
 {
-    match reply_in(alloc, env, binary, filter)? {
-        Some(reply) => {
-            replies.push(reply)?;
-            Ok(true)
-        }
-        None => Ok(false),
+    match statement {
+        Statement::Reply { binary, filter } => reply_in(alloc, env, binary, filter),
+        _ => Ok(None),
+    }
+}
+
+// Adds a reply, if it is there.
+fn add_reply(replies: &mut Sequence<Reply>, reply: Option<Reply>) -> Result<(), AllocError>
+    ensures { OnOk result (replies.new ≡ with_reply replies.old reply) }
+{
+    match reply {
+        Some(reply) => replies.push(reply),
+        None => Ok(()),
     }
 }
 
@@ -141,24 +139,20 @@ fn is_closed(below: &[ScriptLine]) -> bool
 }
 
 // Whether something else has to stand here: a thread is followed by no `end`, unless the script is cut off, or a reply is none. Only the body of
-// a thread is gone through. A reply is read once: it is added to these.
+// a thread is gone through.
 fn expects_other(
-    alloc: Global,
     whole: &Whole,
     below: &[ScriptLine],
     statement: &Statement,
-    replies: &mut Sequence<Reply>,
-) -> Result<bool, AllocError>
-    ensures is { IfOk result (λ is. is ≡ expects_other whole.now below.now statement.now) }
-    ensures replies { OnOk result (replies.new ≡ with_reply replies.old (reply_said whole.now.env (Some statement.now))) }
+    reply: &Option<Reply>,
+) -> bool
+    requires { reply.now ≡ reply_said whole.now.env (Some statement.now) }
+    ensures { result ≡ expects_other whole.now below.now statement.now }
 {
     match statement {
-        Statement::Thread { .. } => Ok(!whole.is_cut && !is_closed(below)),
-        Statement::Reply { binary, filter } => {
-            let is_one = add_reply(alloc, &whole.env, binary, filter, replies)?;
-            Ok(!is_one)
-        }
-        _ => Ok(false),
+        Statement::Thread { .. } => !whole.is_cut && !is_closed(below),
+        Statement::Reply { .. } => reply.is_none(),
+        _ => false,
     }
 }
 
@@ -220,24 +214,21 @@ fn exceeds(above: &NamesAbove, count: u64) -> bool
 }
 
 // Whether the binary of a reply is too long.
-fn is_long_binary(alloc: Global, env: &Env, binary: &Text) -> Result<bool, AllocError>
-    ensures { IfOk result (λ is. is ≡ is_long (unquoted env.now.dollars binary.now)) }
+fn is_long_reply(reply: &Option<Reply>) -> bool
+    ensures { result ≡ is_long_reply reply.now }
 {
-    let binary = unquote(alloc, binary.bytes(), &env.dollars)?;
-    Ok(is_long(binary.bytes()))
+    match reply {
+        Some(reply) => is_long(reply.binary.bytes()),
+        None => false,
+    }
 }
 
 // Too many rows or instructions, or too many bytes.
-fn is_too_many(
-    alloc: Global,
-    whole: &Whole,
-    above: &NamesAbove,
-    statement: &Statement,
-) -> Result<bool, AllocError>
+fn is_too_many(above: &NamesAbove, statement: &Statement, reply: &Option<Reply>) -> bool
     requires { above.now.instructions ≤ MOST_INSTRUCTIONS }
-    ensures { IfOk result (λ is. is ≡ is_too_many whole.now above.now statement.now) }
+    ensures { (whole : spec.Whole) → HasBinaryOf reply.now whole.env statement.now → result ≡ is_too_many whole above.now statement.now }
 {
-    Ok(match statement {
+    match statement {
         Statement::Object { path, new } => {
             above.paths.len() >= MOST_TREE_ROWS || is_long(path.bytes()) || is_large(&new.kind)
         }
@@ -247,16 +238,44 @@ fn is_too_many(
                 || is_long(process.cwd.bytes())
         }
         Statement::Thread { .. } => above.threads.len() >= MOST_THREADS,
-        Statement::Reply { binary, .. } => is_long_binary(alloc, &whole.env, binary)?,
+        Statement::Reply { .. } => is_long_reply(reply),
         Statement::Store(_, _) => exceeds(above, 1),
         Statement::Put(_, bytes) => exceeds(above, store_count(bytes.bytes())),
         Statement::Call(_, _) => exceeds(above, 1),
         Statement::Fork(_) => exceeds(above, 1),
         _ => false,
-    })
+    }
 }
 
-// What is wrong with a row: the first kind that is met. Its reply is added to these.
+// What is wrong with a row, with the reply that it says: the first kind that is met.
+fn fault_with(
+    whole: &Whole,
+    above: &NamesAbove,
+    below: &[ScriptLine],
+    line: u32,
+    statement: &Statement,
+    reply: &Option<Reply>,
+) -> Option<ScriptFault>
+    requires few { above.now.instructions ≤ MOST_INSTRUCTIONS }
+    requires reply { reply.now ≡ reply_said whole.now.env (Some statement.now) }
+    ensures { result ≡ fault_of whole.now above.now below.now line statement.now }
+{
+    if expects_other(whole, below, statement, reply) {
+        return Some(ScriptFault::Expected(line));
+    }
+    if is_unknown(whole, above, statement) {
+        return Some(ScriptFault::UnknownName(line));
+    }
+    if is_duplicate(whole, above, statement) {
+        return Some(ScriptFault::Duplicate(line));
+    }
+    if is_too_many(above, statement, reply) {
+        return Some(ScriptFault::TooMany(line));
+    }
+    None
+}
+
+// What is wrong with a row. Its reply is read once, and added to these.
 fn fault_of(
     alloc: Global,
     whole: &Whole,
@@ -270,19 +289,10 @@ fn fault_of(
     ensures fault { IfOk result (λ fault. fault ≡ fault_of whole.now above.now below.now line statement.now) }
     ensures replies { OnOk result (replies.new ≡ with_reply replies.old (reply_said whole.now.env (Some statement.now))) }
 {
-    if expects_other(alloc, whole, below, statement, replies)? {
-        return Ok(Some(ScriptFault::Expected(line)));
-    }
-    if is_unknown(whole, above, statement) {
-        return Ok(Some(ScriptFault::UnknownName(line)));
-    }
-    if is_duplicate(whole, above, statement) {
-        return Ok(Some(ScriptFault::Duplicate(line)));
-    }
-    if is_too_many(alloc, whole, above, statement)? {
-        return Ok(Some(ScriptFault::TooMany(line)));
-    }
-    Ok(None)
+    let reply = reply_said(alloc, &whole.env, statement)?;
+    let fault = fault_with(whole, above, below, line, statement, &reply);
+    add_reply(replies, reply)?;
+    Ok(fault)
 }
 
 // The fault of a line, or nothing, and then what it gives is added to what stands above, and its reply to these.
