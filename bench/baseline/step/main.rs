@@ -1,4 +1,5 @@
-//! `systrace step` in plain Rust, of which nothing is proved: what the proved program is measured against.
+//! `systrace step` and `systrace check` in plain Rust, of which nothing is proved: what the proved program is measured
+//! against.
 mod args;
 mod calls;
 mod glob;
@@ -13,9 +14,10 @@ mod tree;
 
 use kernel::{Kernel, Options};
 use operator::Mode;
-use policy::Policies;
+use policy::{Env, Policies};
 use print::{PrintKind, Printer};
 use script::SchedLine;
+use std::ffi::OsString;
 use std::io::{self, Read, Write};
 use std::process::ExitCode;
 
@@ -43,19 +45,38 @@ struct Command {
 }
 
 fn main() -> ExitCode {
-    let words: Vec<String> = std::env::args().skip(1).collect();
-    let written =
-        run(&words).and_then(|text| io::stdout().lock().write_all(text.as_bytes()).map_err(|_| Status::WriteFault));
-    match written {
+    // A word that is no text is no word of a command.
+    let words: Result<Vec<String>, _> = std::env::args_os().skip(1).map(OsString::into_string).collect();
+    let text = words.map_err(|_| Status::Usage).and_then(|words| run(&words));
+    match text.and_then(|text| io::stdout().lock().write_all(text.as_bytes()).map_err(|_| Status::WriteFault)) {
         Ok(()) => ExitCode::SUCCESS,
         Err(status) => {
-            eprintln!("step: {status:?}");
+            eprintln!("unverified: {status:?}");
             ExitCode::from(status as u8)
         }
     }
 }
 
 fn run(words: &[String]) -> Result<String, Status> {
+    match words.split_first() {
+        Some((name, rest)) if name == "step" => step(rest),
+        Some((name, rest)) if name == "check" => check(rest),
+        _ => Err(Status::Usage),
+    }
+}
+
+/// The canonical text of the policies of one file, which is read without a script and without ids.
+fn check(words: &[String]) -> Result<String, Status> {
+    let [file] = words else { return Err(Status::Usage) };
+    if file.starts_with('-') {
+        return Err(Status::Usage);
+    }
+    let mut printer = Printer::new(PrintKind::Policy);
+    Policies::default().read(&fetch(file)?, &Env::default(), &mut printer).map_err(|_| Status::Policy)?;
+    Ok(printer.finish())
+}
+
+fn step(words: &[String]) -> Result<String, Status> {
     let command = parse(words).ok_or(Status::Usage)?;
     let script = script::read_script(&fetch(&command.script)?, &command.options).map_err(|_| Status::Script)?;
     let mut printer = Printer::new(command.kind);
@@ -90,12 +111,9 @@ fn fetch(name: &str) -> Result<Vec<u8>, Status> {
     if text.len() as u64 > MOST_BYTES { Err(Status::TooLong) } else { Ok(text) }
 }
 
-/// The command, or none where the words are none that is served.
+/// What `step` is asked to do by the words behind it, or none where they are none that is served.
 fn parse(words: &[String]) -> Option<Command> {
     let mut words = words.iter().map(String::as_str);
-    if words.next()? != "step" {
-        return None;
-    }
     let mut policies = Vec::new();
     let (mut inherit, mut whole_names) = (false, false);
     let (mut mode, mut ids, mut workers, mut kind) = (None, None, None, None);

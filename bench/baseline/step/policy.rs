@@ -26,6 +26,19 @@ pub struct Env {
     pub may_ask: bool,
 }
 
+impl Default for Env {
+    /// What is known without a script: one user and one group.
+    fn default() -> Env {
+        Env {
+            users: HashMap::from([(b"root".to_vec(), 0)]),
+            groups: HashMap::from([(b"wheel".to_vec(), 0)]),
+            dollars: Dollars::default(),
+            elevate: false,
+            may_ask: true,
+        }
+    }
+}
+
 pub struct Policy {
     /// Policies are numbered from 0 on, as they come.
     pub number: usize,

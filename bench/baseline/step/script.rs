@@ -301,7 +301,7 @@ impl<'a> Reader<'a> {
 
     fn finish(self, options: &Options) -> Parsed<Script> {
         let dollars = match self.processes.iter().find(|process| process.traced) {
-            None => Dollars { home: b"/root".to_vec(), user: b"root".to_vec(), cwd: b"/".to_vec() },
+            None => Dollars::default(),
             Some(process) => {
                 let uid = options.ids.map_or(process.uid, |(uid, _)| uid);
                 let (home, user) = match self.users.iter().find(|user| user.uid == uid) {

@@ -41,6 +41,13 @@ pub struct Dollars {
     pub cwd: Vec<u8>,
 }
 
+impl Default for Dollars {
+    /// What they stand for without a traced process.
+    fn default() -> Dollars {
+        Dollars { home: b"/root".to_vec(), user: b"root".to_vec(), cwd: b"/".to_vec() }
+    }
+}
+
 pub fn tokens(text: &[u8]) -> Result<Vec<Token<'_>>, LexError> {
     let mut found = Vec::new();
     let mut at = 0;
