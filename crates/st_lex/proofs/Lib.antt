@@ -10,6 +10,7 @@ pub mod Plains
 pub mod Prints
 pub mod Runs
 pub mod Scans
+pub mod Signs
 pub mod Skips
 pub mod Unquotes
 pub mod Within

@@ -177,11 +177,16 @@ fn quoted_front(after: &[u8]) -> Front
     }
 }
 
+// What stands at the front of bytes. Signs are asked for first, since that is one look at the byte; they are neither blanks nor bytes of Words.
+#[tactic(auto, using(crate::proofs::Signs::sign_in_front))]
 fn front(first: u8, after: &[u8]) -> Front
     requires { length after.now + 1 < 2 ^ 32 }
     ensures is { result ≡ front_of (first ∷ after.now) }
     ensures within { LiesWithin (length after.now + 1) result }
 {
+    if let Some(kind) = sign_of(first) {
+        return Front::Piece(kind, 1);
+    }
     if is_blank(first) {
         return Front::Gap(1);
     }
@@ -196,10 +201,7 @@ fn front(first: u8, after: &[u8]) -> Front
     }
     match (first, after) {
         (b'!', [b'=', ..]) => Front::Piece(TokenKind::NotEqual, 2),
-        _ => match sign_of(first) {
-            Some(kind) => Front::Piece(kind, 1),
-            None => Front::Broken(LexFault::BadByte(0)),
-        },
+        _ => Front::Broken(LexFault::BadByte(0)),
     }
 }
 
