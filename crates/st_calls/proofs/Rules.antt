@@ -1,5 +1,10 @@
--- Equality of rules.
-use Rattle.std.proofs.Common.{◌≡◌, refl, ap}
+-- Rules by their names, and when two are equal.
+use Rattle.std.proofs.Common.{◌≡◌, ℕ, Bool, true, false, ◌==◌, List, [], ◌∷◌, length, refl, ap, sym, ◌∙◌}
+use Rattle.std.specs.List.{filter, find}
+use Rattle.std.specs.Str.{bytes_eq}
+use Rattle.std.proofs.lemmas.Slice.Eq.{bytes_eq-Decides}
+use Rattle.std.proofs.lemmas.Bool.Decides.{Decides-eqb}
+use Rattle.st_calls.specs.Call.{name_of_rule}
 use Rattle.std.specs.Bool.{Decides}
 use denote.Enum.Bare.{same_true, true_same}
 use Rattle.st_calls.specs.Rules.{same_rule}
@@ -13,3 +18,30 @@ same_rule-Decides (Call a) (Call b) = (λ same. ap Call (same_true the_type tt a
 same_rule-Decides FsRead FsRead = (λ same. refl, λ equal. refl)
 same_rule-Decides FsWrite FsWrite = (λ same. refl, λ equal. refl)
 same_rule-Decides a b = (λ same. absurd cc, λ equal. absurd cc)
+
+-- a rule whose name is as long as a word
+abbrev pub is_so_long : ℕ → Rule → Bool
+is_so_long n rule = length (name_of_rule rule) == n
+
+abbrev pub is_named : List ℕ → Rule → Bool
+is_named word rule = bytes_eq (name_of_rule rule) word
+
+-- a name that is longer or shorter is another
+other_length : (word : List ℕ) (n : ℕ) → length word ≡ n → (rule : Rule) → is_so_long n rule ≡ false → is_named word rule ≡ false
+other_length word n e rule differs = by (is_named word rule) refl where
+  by : (b : Bool) → is_named word rule ≡ b → b ≡ false
+  by false is = refl
+  by true is =
+      let same : name_of_rule rule ≡ word = (bytes_eq-Decides (name_of_rule rule) word).0 is in
+      let yes : is_so_long n rule ≡ true = (Decides-eqb (length (name_of_rule rule)) n).1 (ap length same ∙ e) in
+      absurd (cc)
+
+-- only those that are as long have to be looked at
+pub found_by_length : (word : List ℕ) (n : ℕ) → length word ≡ n → (rules : List Rule) → find (is_named word) (filter (is_so_long n) rules) ≡ find (is_named word) rules
+found_by_length word n e [] = refl
+found_by_length word n e (rule ∷ rules) = by (is_so_long n rule) refl (is_named word rule) refl (found_by_length word n e rules) where
+  by : (b : Bool) → is_so_long n rule ≡ b → (c : Bool) → is_named word rule ≡ c → find (is_named word) (filter (is_so_long n) rules) ≡ find (is_named word) rules →
+      find (is_named word) (filter (is_so_long n) (rule ∷ rules)) ≡ find (is_named word) (rule ∷ rules)
+  by true long true is ih = rw (long, is) refl
+  by true long false other ih = rw (long, other) ih
+  by false short c is ih = rw (short, other_length word n e rule short) ih

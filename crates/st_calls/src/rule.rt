@@ -1,4 +1,4 @@
-ghost use Rattle.std.specs.Prelude.{◌≡◌, ◌<◌, find};
+ghost use Rattle.std.specs.Prelude.{◌≡◌, ◌<◌, ℕ, List, length, find};
 ghost use Rattle.std.specs.Str.{bytes_eq};
 ghost use Rattle.st_calls.specs.Argument.{has_argument, has_label};
 ghost use Rattle.st_calls.specs.Call.{reads_alone, alias_of, rule_of, name_of_rule, rule_named, index_of_rule};
@@ -89,7 +89,7 @@ impl Rule {
     pub fn of_word(word: &[u8]) -> Option<Rule>
         ensures { result ≡ rule_named word.now }
     {
-        first_named(&Rule::ALL, word)
+        first_named(rules_of_len(word.len()), word)
     }
 
     /// The rule's place among all, from 0 and below `RULES`, for tables by rule.
@@ -143,6 +143,76 @@ fn alias_of(call: SysCall, regs: &[u64; 6]) -> Rule
         SysCall::Stat | SysCall::Lstat | SysCall::Access | SysCall::Readlink => Rule::FsRead,
         SysCall::Unlink | SysCall::Mkdir | SysCall::Rmdir => Rule::FsWrite,
         _ => Rule::Call(call),
+    }
+}
+
+// The rules whose names have three bytes.
+const THREE: [Rule; 1] = [Rule::Call(SysCall::Dup)];
+
+// Those of four bytes.
+const FOUR: [Rule; 8] = [
+    Rule::Call(SysCall::Open),
+    Rule::Call(SysCall::Read),
+    Rule::Call(SysCall::Stat),
+    Rule::Call(SysCall::Link),
+    Rule::Call(SysCall::Fork),
+    Rule::Call(SysCall::Exit),
+    Rule::Call(SysCall::Kill),
+    Rule::Call(SysCall::Bind),
+];
+
+// Those of five bytes.
+const FIVE: [Rule; 9] = [
+    Rule::Call(SysCall::Close),
+    Rule::Call(SysCall::Write),
+    Rule::Call(SysCall::Lseek),
+    Rule::Call(SysCall::Lstat),
+    Rule::Call(SysCall::Mkdir),
+    Rule::Call(SysCall::Rmdir),
+    Rule::Call(SysCall::Chdir),
+    Rule::Call(SysCall::Chmod),
+    Rule::Call(SysCall::Chown),
+];
+
+// Those of six bytes.
+const SIX: [Rule; 10] = [
+    Rule::Call(SysCall::Access),
+    Rule::Call(SysCall::Unlink),
+    Rule::Call(SysCall::Rename),
+    Rule::Call(SysCall::Execve),
+    Rule::Call(SysCall::GetPid),
+    Rule::Call(SysCall::GetUid),
+    Rule::Call(SysCall::SetUid),
+    Rule::Call(SysCall::SetGid),
+    Rule::Call(SysCall::Socket),
+    Rule::FsRead,
+];
+
+// Those of seven bytes.
+const SEVEN: [Rule; 6] = [
+    Rule::Call(SysCall::Symlink),
+    Rule::Call(SysCall::GetEuid),
+    Rule::Call(SysCall::SetEuid),
+    Rule::Call(SysCall::SetEgid),
+    Rule::Call(SysCall::Connect),
+    Rule::FsWrite,
+];
+
+// Those of eight bytes.
+const EIGHT: [Rule; 2] = [Rule::Call(SysCall::Readlink), Rule::Call(SysCall::Truncate)];
+
+// Rules among which is the one that a word of so many bytes names, if one is: few names have to be compared.
+fn rules_of_len(len: usize) -> &'static [Rule]
+    ensures { (word : List ℕ) → length word ≡ len → find (λ rule. bytes_eq (name_of_rule rule) word) result.now ≡ rule_named word }
+{
+    match len {
+        3 => &THREE,
+        4 => &FOUR,
+        5 => &FIVE,
+        6 => &SIX,
+        7 => &SEVEN,
+        8 => &EIGHT,
+        _ => &Rule::ALL,
     }
 }
 
