@@ -1,10 +1,18 @@
 // The messages of the calls that threads hold.
 ghost use Rattle.std.specs.Prelude.{◌≡◌, None, Some, IfSome};
+ghost use Rattle.std.specs.Str.{bytes_eq};
 ghost use Rattle.st_machine.specs.Holding.{is_alike, message_at, message_held};
 
 use crate::machine::Machine;
 use st_base::{Seq, Tid};
 use st_lookaside::Head;
+
+// Whether two binaries name one policy. Many differ at their ends alone, so the last byte is asked for first.
+fn is_one_policy(one: &[u8], other: &[u8]) -> bool
+    ensures { result ≡ bytes_eq one.now other.now }
+{
+    one.last() == other.last() && one == other
+}
 
 impl<'a> Machine<'a> {
     /// The message of a number, while the number lives.
@@ -31,7 +39,7 @@ impl<'a> Machine<'a> {
     {
         match self.message_held(tid) {
             Some(held) => message.rule == held.rule
-                && message.policy.get().bytes() == held.policy.get().bytes(),
+                && is_one_policy(message.policy.get().bytes(), held.policy.get().bytes()),
             None => false,
         }
     }
