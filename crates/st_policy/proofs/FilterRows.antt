@@ -148,7 +148,7 @@ module _ (env : Env) (set : List BinaryPolicy) (n : ℕ) where
 
   pub step-blank : (b : Bool) → Step1 env (At (row_place b) set (HasFilters n)) Line (At (row_place b) set (HasFilters n))
   step-blank false at r (stands w d h) = record { reading = places_of_reading place.Start w d set; step = refl; holds = stands w d h }
-  step-blank true at r (stands w d h) = record { reading = places_of_reading place.Row w first_draft set; step = refl; holds = stands w first_draft (record { filters_are = h.filters_are }) }
+  step-blank true at r (stands w d h) = record { reading = places_of_reading place.Row w d set; step = refl; holds = stands w d h }
 
   step-binary : (s : Symbol) (binary : List ℕ) → binary_of env s ≡ Some binary → has_policy set binary ≡ false → Step1 env (At place.Binary set (HasFilters n)) s (At place.Comma (set ++ fresh_policy binary ∷ []) (HasFilters n))
   step-binary s binary e new at r (stands w d h) =

@@ -8,7 +8,6 @@ pub mod Clauses
 pub mod Complete
 pub mod Examples
 pub mod Expressions
-pub mod FaultPlaces
 pub mod Faults
 pub mod FilterRows
 pub mod FilterTails
@@ -18,6 +17,7 @@ pub mod Headers
 pub mod Joins
 pub mod JointsKept
 pub mod Keywords
+pub mod Lines
 pub mod Names
 pub mod Numbers
 mod OneFilters

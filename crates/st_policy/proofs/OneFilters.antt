@@ -13,7 +13,7 @@ use Rattle.st_policy.specs.Draft.{Draft, first_draft, draft_step, draft_after, f
 use Rattle.st_policy.specs.Grammar.{IsFilter, NoRow, Header}
 use Rattle.st_lex.specs.declared.token.LexFault.{LexFault}
 use Rattle.st_lex.specs.declared.token.Token.{Token}
-use Rattle.st_policy.specs.OneFilter.{FilterResult, IsOneRow, ReadsFilter, ToALine, ToTheEnd, behind_filter, filter_from, filter_in, begin_filter, filter_of_tokens, if_broken, if_ended}
+use Rattle.st_policy.specs.OneFilter.{FilterResult, IsOneRow, ReadsFilter, ToALine, ToTheEnd, behind_filter, filter_from, filter_in, begin_filter, filter_at_end, filter_of_tokens, if_broken, if_ended}
 use Rattle.st_policy.specs.Symbol.{Symbol, Word, Colon, Comma, Line, Broken, symbol_of}
 use Rattle.st_policy.specs.Words.{filter_name, may_test, may_test_label}
 use Rattle.st_policy.proofs.ActionsKept.{denial-tails}
@@ -23,6 +23,7 @@ use Rattle.st_policy.proofs.Fronts.{Behind, Facts, HasFacts}
 use Rattle.st_policy.proofs.Readings.{places_of_reading}
 use Rattle.st_policy.proofs.Rooms.{added, set_other}
 use Rattle.st_policy.proofs.RowsKept.{fresh_policy}
+use Rattle.st_policy.proofs.Lines.{line_leaves}
 use Rattle.st_policy.proofs.Sound.{line-keeps}
 
 -- ---- a header in front
@@ -152,22 +153,22 @@ pub record IsStep (env : Env) (text : List ℕ) (broken : Option LexFault) (answ
   pub rest : answer ≡ filter_from env text broken w d ts
   pub within : InFilter env w d
 
-pub first_stands : (env : Env) (text : List ℕ) (broken : Option LexFault) (t : Token) (ts : List Token) (s : Symbol) (w : GrammarState) (d : Draft) → s ≡ symbol_of text t → Ok w ≡ begin_filter t.at s → d ≡ first_draft →
+pub first_stands : (env : Env) (text : List ℕ) (broken : Option LexFault) (t : Token) (ts : List Token) (s : Symbol) (w : GrammarState) (d : Draft) → s ≡ symbol_of text t → begin_filter t.at s ≡ Ok w → d ≡ first_draft →
     IsStep env text broken (filter_of_tokens env text broken (t ∷ ts)) w d ts
 first_stands env text broken t ts s w d here e draft =
-    let e : begin_filter t.at (symbol_of text t) ≡ Ok w = ap (begin_filter t.at) (sym here) ∙ sym e in
+    let e : begin_filter t.at (symbol_of text t) ≡ Ok w = ap (begin_filter t.at) (sym here) ∙ e in
     record {
       rest = first_step env text broken t ts w e ∙ ap (λ d. filter_from env text broken w d ts) (sym draft);
       within = record { front = symbol_of text t ∷ []; spelled = subst (λ d. Spelled env (symbol_of text t ∷ []) w d) (sym draft) (begins env t.at (symbol_of text t) w e) };
     }
 
-pub token_stands : (env : Env) (text : List ℕ) (broken : Option LexFault) (answer : FilterResult) (t : Token) (ts rest : List Token) (s : Symbol) (w w' : GrammarState) (d d' : Draft) (line : Bool) (label : List ℕ) (p : Place) →
-    rest ≡ t ∷ ts → s ≡ symbol_of text t → ((known : List (List ℕ)) → Ok w' ≡ next env known w t.at s) → line ≡ is_line s → line ≡ false → label ≡ w.label → p ≡ w.place → d' ≡ draft_step env label d s p →
+pub token_stands : (env : Env) (text : List ℕ) (broken : Option LexFault) (answer : FilterResult) (t : Token) (ts rest : List Token) (s : Symbol) (w w' : GrammarState) (d d' : Draft) (line : Bool) →
+    rest ≡ t ∷ ts → s ≡ symbol_of text t → ((known : List (List ℕ)) → next env known w t.at s ≡ Ok w') → line ≡ is_line s → line ≡ false → d' ≡ draft_step env w.label d s w.place →
     answer ≡ filter_from env text broken w d rest → InFilter env w d → IsStep env text broken answer w' d' ts
-token_stands env text broken answer t ts rest s w w' d d' line label p parted here e is_line_is no_line label_is place_is draft so_far within =
+token_stands env text broken answer t ts rest s w w' d d' line parted here e is_line_is no_line draft so_far within =
     let no : is_line (symbol_of text t) ≡ false = ap is_line (sym here) ∙ sym is_line_is ∙ no_line in
-    let to : (known : List (List ℕ)) → next env known w t.at (symbol_of text t) ≡ Ok w' = λ known. ap (next env known w t.at) (sym here) ∙ sym (e known) in
-    let drafted : d' ≡ draft_step env w.label d (symbol_of text t) w.place = draft ∙ (λ k. draft_step env (label_is k) d (here k) (place_is k)) in
+    let to : (known : List (List ℕ)) → next env known w t.at (symbol_of text t) ≡ Ok w' = λ known. ap (next env known w t.at) (sym here) ∙ e known in
+    let drafted : d' ≡ draft_step env w.label d (symbol_of text t) w.place = draft ∙ ap (λ s. draft_step env w.label d s w.place) here in
     record {
       rest = so_far ∙ ap (filter_from env text broken w d) parted ∙ next_step env text broken w w' d t ts (to []) no ∙ ap (λ d. filter_from env text broken w' d ts) (sym drafted);
       within = record {
@@ -175,6 +176,17 @@ token_stands env text broken answer t ts rest s w w' d d' line label p parted he
         spelled = subst (λ d. Spelled env (within.front ++ symbol_of text t ∷ []) w' d) (sym drafted) (goes_on env within.front w w' d t.at (symbol_of text t) no (to (binaries one_policy)) within.spelled);
       };
     }
+
+-- behind a Line stands what the filter was in front of it
+same_filter : (env : Env) (known : List (List ℕ)) (w w' : GrammarState) (d d' : Draft) (at : ℕ) → next env known w at Line ≡ Ok w' → d' ≡ draft_step env w.label d Line w.place → filter_of w.name d ≡ filter_of w'.name d'
+same_filter env known w w' d d' at e draft =
+    let l = line_leaves env known w w' d at e in
+    ap (λ n. filter_of n d) (sym l.name_is) ∙ ap (filter_of w'.name) (sym (draft ∙ l.draft_is))
+
+pub ended_by_end : (env : Env) (end : ℕ) (w w' : GrammarState) (d d' : Draft) (broken : Option LexFault) → broken ≡ None → next env [] w end Line ≡ Ok w' → d' ≡ draft_step env w.label d Line w.place →
+    filter_at_end env end w d broken ≡ Ok (filter_of w'.name d')
+ended_by_end env end w w' d d' broken none e draft =
+    ap (filter_at_end env end w d) none ∙ ap (if_ended (filter_of w.name d)) e ∙ ap Ok (same_filter env [] w w' d d' end e draft)
 
 -- ---- what is read is a filter
 

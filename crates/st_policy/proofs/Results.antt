@@ -1,11 +1,14 @@
 -- What the grammar says of a text that was read, and of its first fault.
-use Rattle.std.proofs.Common.{◌≡◌, ℕ, ◌≤◌, List, Some, Result, Ok, Err, refl, ap, subst, ◌∙◌}
+use Rattle.std.proofs.Common.{◌≡◌, ℕ, ◌≤◌, List, Some, option_map, Result, Ok, Err, refl, ap, subst, ◌∙◌}
 use Rattle.st_policy.specs.declared.env.Env.{Env}
 use Rattle.st_policy.specs.declared.fault.PolicyFault.{PolicyFault}
 use Rattle.st_filter.specs.declared.set.BinaryPolicy.{BinaryPolicy}
 use Rattle.st_policy.specs.Diagram.{fault_in}
 use Rattle.st_policy.specs.Draft.{Reading, reading_of, set_of, policies_in}
 use Rattle.st_policy.specs.Grammar.{Reads}
+use Rattle.st_policy.specs.Refusals.{place_in, refusal_in}
+use Rattle.st_policy.specs.declared.fault.PolicyRefusal.{PolicyRefusal}
+use Rattle.st_policy.specs.declared.place.Place.{Place}
 use Rattle.st_filter.specs.Policies.{filters_in}
 use Rattle.st_policy.proofs.Faults.{error_in, faults-agree}
 use Rattle.st_policy.proofs.Sound.{reading-is_sound}
@@ -27,5 +30,10 @@ module _ (text : List ℕ) (env : Env) (old : List BinaryPolicy) where
   fault-by fault (Ok r) e = absurd (cc)
   fault-by fault (Err found) e = cc
 
-  pub fault_found : (fault : PolicyFault) → policies_in text env old ≡ Err fault → fault_in text env old ≡ Some fault
+  fault_found : (fault : PolicyFault) → policies_in text env old ≡ Err fault → fault_in text env old ≡ Some fault
   fault_found fault e = faults-agree text env old ∙ fault-by fault (reading_of text env old) e
+
+  pub refusal_found : (refused : PolicyRefusal) → policies_in text env old ≡ Err refused.fault → place_in text env old ≡ refused.place → refusal_in text env old ≡ Some refused
+  refusal_found refused e place =
+      ap (option_map (λ (fault : PolicyFault). record { fault = fault; place = place_in text env old })) (fault_found refused.fault e)
+      ∙ ap (λ (p : Place). Some (record { fault = refused.fault; place = p })) place

@@ -145,7 +145,7 @@ module _ (env : Env) (old : List BinaryPolicy) (rows front : List Symbol) (w : G
 
 pub line-is_sound : (env : Env) (old : List BinaryPolicy) (rows front : List Symbol) (p : Place) (w : GrammarState) (d : Draft) (set : List BinaryPolicy) (at : ℕ) → Facts env old rows front p w d set → LineHolds env old ((rows ++ front) ++ Line ∷ []) (read_step env (places_of_reading p w d set) at Line)
 line-is_sound env old rows front place.Start w d set at h = blank-start env old rows front w d set h
-line-is_sound env old rows front place.Row w d set at h = blank-row env old rows front w d set h first_draft
+line-is_sound env old rows front place.Row w d set at h = blank-row env old rows front w d set h d
 line-is_sound env old rows front place.HeaderEnd w d set at h = header-ended env old rows front w d set h
 line-is_sound env old rows front place.Denial w d set at h = tail-ended env old rows front w d set false true (denial-tails env old rows front w d set at h)
 line-is_sound env old rows front (place.Tail grant log) w d set at h = tail-ended env old rows front w d set grant log h

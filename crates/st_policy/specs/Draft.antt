@@ -188,9 +188,14 @@ draft_id env who d (Word word) =
     record d { predicate = option_map (λ id. record { who = who; cmp = d.cmp; id = id }) (id_in (names_for env who) word) }
 draft_id env who d _ = d
 
+-- what a symbol at the front of a row adds: a word begins a row, of which nothing is read
+abbrev pub draft_row : Draft → Symbol → Draft
+draft_row d (Word word) = first_draft
+draft_row d _ = d
+
 -- what a symbol that may stand at a place adds to the draft; the label is the one that was read last
 abbrev pub draft_step : Env → List ℕ → Draft → Symbol → Place → Draft
-draft_step env label d s place.Row = first_draft
+draft_step env label d s place.Row = draft_row d s
 draft_step env label d s place.Clause = draft_clause d s
 draft_step env label d s place.Operand = draft_operand d s
 draft_step env label d s place.Label = draft_operator d s
@@ -213,6 +218,12 @@ draft_step env label d s _ = d
 abbrev pub is_binary_place : Place → Bool
 is_binary_place place.Binary = true
 is_binary_place _ = false
+
+-- whether no row has begun here
+abbrev pub is_between_rows : Place → Bool
+is_between_rows place.Start = true
+is_between_rows place.Row = true
+is_between_rows _ = false
 
 -- ---- policies
 

@@ -1,7 +1,7 @@
 -- What waits for its right operand, as it is kept.
 use Rattle.std.specs.Prelude.{Bool, true, false, List, [], ◌∷◌, map, reverse}
-use Rattle.st_policy.specs.declared.draft.PendingOperand.{PendingOperand}
-use Rattle.st_policy.specs.declared.draft.PendingOperand.TheVariants as kept
+use Rattle.st_policy.specs.declared.stack.PendingOperand.{PendingOperand}
+use Rattle.st_policy.specs.declared.stack.PendingOperand.TheVariants as kept
 use Rattle.st_filter.specs.Formula.{Formula, formula}
 use Rattle.st_filter.specs.Formula as formula
 use Rattle.st_policy.specs.Draft as spec

@@ -1,5 +1,6 @@
 ghost use Rattle.std.specs.Prelude.{◌≡◌};
 
+use crate::place::Place;
 use st_lex::LexFault;
 use std::alloc::AllocError;
 use thiserror::Error;
@@ -64,5 +65,25 @@ impl From<AllocError> for PolicyFault {
 
     fn from(_error: AllocError) -> Self {
         PolicyFault::NoMemory
+    }
+}
+
+/// Why a policy is refused, and where in its grammar the token of the fault stands.
+#[derive(Clone, Copy, Debug, PartialEq, Eq)]
+pub struct PolicyRefusal {
+    pub fault: PolicyFault,
+    pub place: Place,
+}
+
+impl From<AllocError> for PolicyRefusal {
+    ghost use Rattle.st_policy.specs.declared.fault.PolicyFault.TheVariants.{NoMemory};
+
+    ghost from_gives = { λ _ refused. refused.fault ≡ NoMemory };
+
+    fn from(_error: AllocError) -> Self {
+        PolicyRefusal {
+            fault: PolicyFault::NoMemory,
+            place: Place::Start,
+        }
     }
 }

@@ -4,18 +4,18 @@
 mod draft;
 pub mod env;
 pub mod fault;
-mod fault_place;
 pub mod one_filter;
 pub mod place;
 pub mod print;
 pub mod reader;
+mod stack;
+mod steps;
 mod symbol;
 mod walk;
 mod words;
 
 pub use env::{Env, NamedId};
-pub use fault::{PolicyFault, Unsupported};
-pub use fault_place::place_of_fault;
+pub use fault::{PolicyFault, PolicyRefusal, Unsupported};
 pub use one_filter::{read_filter, what_is_read_is_a_filter};
 pub use place::Place;
 pub use print::{print_filter, print_policies, printed_policies_are_read_again};

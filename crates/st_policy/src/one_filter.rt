@@ -1,16 +1,15 @@
 ghost use Rattle.std.specs.Prelude.{◌≡◌, ◌≢◌, ◌^◌, ◌<◌, ℕ, List, ◌∷◌, false, Ok, Err, length, IfOk, IfErr};
 ghost use Rattle.st_policy.specs.Symbol.{seen};
-ghost use Rattle.st_policy.specs.Draft.{is_binary_place};
+ghost use Rattle.st_policy.specs.Draft.{first_draft, is_binary_place};
 ghost use Rattle.st_filter.specs.Formula.{FilterValue};
 ghost use Rattle.st_policy.specs.OneFilter.{ReadsFilter, behind_filter, filter_at_end, begin_filter, no_filter, filter_of_tokens, filter_in};
 ghost use Rattle.st_policy.specs.declared.env.Env.{Env};
 
-use crate::draft::Draft;
 use crate::env::Env;
 use crate::fault::PolicyFault;
 use crate::reader::lexical;
+use crate::steps::Reader;
 use crate::symbol::Symbol;
-use crate::walk::GrammarState;
 use st_filter::Filter;
 use st_lex::{LexFault, Token, tokens};
 use std::alloc::Global;
@@ -35,38 +34,41 @@ fn filter_at_end(
     alloc: Global,
     env: &Env,
     end: u32,
-    walk: &GrammarState,
-    draft: Draft,
+    mut reader: Reader,
     broken: Option<LexFault>,
 ) -> Result<Filter, PolicyFault>
-    requires { is_binary_place walk.now.place ≡ false }
-    ensures ok { IfOk result (λ filter. filter_at_end env.now end walk.now draft broken ≡ Ok filter) }
-    ensures fault { IfErr result (λ f. f ≢ PolicyFault.NoMemory → filter_at_end env.now end walk.now draft broken ≡ Err f) }
+    requires { is_binary_place reader.walk.place ≡ false }
+    ensures ok { IfOk result (λ filter. filter_at_end env.now end reader.entry.walk reader.entry.draft broken ≡ Ok filter) }
+    ensures fault { IfErr result (λ f. f ≢ PolicyFault.NoMemory → filter_at_end env.now end reader.entry.walk reader.entry.draft broken ≡ Err f) }
 {
     match broken {
         None => {
-            walk.step(env, end, &Symbol::Line)?;
-            let name = walk.filter_name(alloc)?;
-            Ok(draft.filter(name))
+            reader.step(alloc, env, end, &Symbol::Line)?;
+            Ok(reader.take_filter(alloc)?)
         }
-        Some(fault) => match walk.step(env, end, &Symbol::Broken) {
-            Ok(_) => Err(PolicyFault::Lex(fault)),
+        Some(fault) => match reader.step(alloc, env, end, &Symbol::Broken) {
+            Ok(()) => Err(PolicyFault::Lex(fault)),
             Err(found) => Err(lexical(fault, found)),
         },
     }
 }
 
 // A filter begins with its name.
-fn begin_filter<'a>(at: u32, symbol: &Symbol<'a>) -> Result<GrammarState<'a>, PolicyFault>
-    ensures { result ≡ begin_filter at (seen symbol.now) }
+fn begin_filter<'a>(alloc: Global, at: u32, symbol: &Symbol<'a>) -> Result<Reader<'a>, PolicyFault>
+    ensures walk { IfOk result (λ reader. begin_filter at (seen symbol.now) ≡ Ok reader.walk) }
+    ensures draft { IfOk result (λ reader. reader.draft ≡ first_draft) }
+    ensures fault { IfErr result (λ f. begin_filter at (seen symbol.now) ≡ Err f) }
 {
-    match *symbol {
-        Symbol::Word(word) => GrammarState::new(0).step_name(at, word),
-        _ => Err(PolicyFault::Expected(at)),
-    }
+    let Symbol::Word(word) = *symbol else {
+        return Err(PolicyFault::Expected(at));
+    };
+    let mut reader = Reader::new(alloc, 0);
+    reader.walk.begin_filter(at, word)?;
+    Ok(reader)
 }
 
 // The filter whose tokens are this one and those behind it.
+#[tactic(auto, using(crate::proofs::OneFilters::stands_elsewhere))]
 fn filter_of_tokens(
     alloc: Global,
     env: &Env,
@@ -79,21 +81,17 @@ fn filter_of_tokens(
     ensures ok { IfOk result (λ filter. filter_of_tokens env.now text.now broken (first.now ∷ tokens.now) ≡ Ok filter) }
     ensures fault { IfErr result (λ f. f ≢ PolicyFault.NoMemory → filter_of_tokens env.now text.now broken (first.now ∷ tokens.now) ≡ Err f) }
 {
-    let mut walk = begin_filter(first.at, &Symbol::of(text, first))?;
-    let mut draft = Draft::new(alloc);
+    let mut reader = begin_filter(alloc, first.at, &Symbol::of(text, first))?;
     let mut rest = tokens;
     while let Some((token, behind)) = rest.split_first() {
         let symbol = Symbol::of(text, token);
-        let next = walk.step(env, token.at, &symbol)?;
+        reader.step(alloc, env, token.at, &symbol)?;
         if symbol.is_line() {
-            let name = walk.filter_name(alloc)?;
-            return behind_filter(draft.filter(name), behind, broken);
+            return behind_filter(reader.take_filter(alloc)?, behind, broken);
         }
-        draft.take(alloc, env, walk.label(), walk.place(), &symbol)?;
-        walk = next;
         rest = behind;
     }
-    filter_at_end(alloc, env, text.len() as u32, &walk, draft, broken)
+    filter_at_end(alloc, env, text.len() as u32, reader, broken)
 }
 
 // Where a text has no token.

@@ -59,7 +59,7 @@ pub enum Place {
 }
 
 impl Place {
-    ghost use Rattle.st_policy.specs.Draft.{ends_filter, is_binary_place};
+    ghost use Rattle.st_policy.specs.Draft.{ends_filter, is_between_rows, is_binary_place};
 
     /// Whether the end of a line ends a filter there.
     pub(crate) fn ends_filter(self) -> bool
@@ -79,5 +79,12 @@ impl Place {
         ensures { result ≡ is_binary_place self }
     {
         matches!(self, Place::Binary)
+    }
+
+    /// Whether no row has begun there.
+    pub(crate) fn is_between_rows(self) -> bool
+        ensures { result ≡ is_between_rows self }
+    {
+        matches!(self, Place::Start | Place::Row)
     }
 }

@@ -5,17 +5,18 @@ ghost use Rattle.st_policy.specs.Symbol.{seen};
 ghost use Rattle.st_policy.specs.Grammar.{Reads, if_absolute, binary_of};
 ghost use Rattle.st_filter.specs.Policies.{filters_in, add_filter};
 ghost use Rattle.st_policy.specs.Diagram.{lexical, fault_in};
+ghost use Rattle.st_policy.specs.Refusals.{place_from, place_in, refusal_in};
 ghost use Rattle.st_policy.specs.Leftmost.{HasNoWayOn};
-ghost use Rattle.st_policy.specs.Draft.{is_binary_place, ends_filter, filter_of, first_draft, draft_after, set_after, as_reading, read_step, read_end, read_from, first_reading, set_of, policies_in};
+ghost use Rattle.st_policy.specs.Draft.{is_between_rows, is_binary_place, ends_filter, filter_of, first_draft, draft_after, set_after, as_reading, read_step, read_end, read_from, first_reading, set_of, policies_in};
 ghost use Rattle.st_filter.specs.declared.set.TheConstants.{MOST_FILTERS};
 
 use crate::draft::Draft;
 use crate::env::Env;
-use crate::fault::PolicyFault;
+use crate::fault::{PolicyFault, PolicyRefusal};
+use crate::steps::Reader;
 use crate::symbol::Symbol;
-use crate::walk::GrammarState;
 use st_base::Text;
-use st_filter::PolicySet;
+use st_filter::{Filter, PolicySet};
 use st_lex::{LexFault, Token, tokens, unquote};
 use std::alloc::{AllocError, Global};
 use std::mem::replace;
@@ -56,13 +57,7 @@ pub(crate) fn lexical(fault: LexFault, found: PolicyFault) -> PolicyFault
     }
 }
 
-// What of a text was read.
-#[derive(Drop)]
-struct Reader<'a> {
-    walk: GrammarState<'a>,
-    draft: Draft,
-}
-
+// Rows, and what they add to the policies.
 impl<'a> Reader<'a> {
     // Behind `Policy:`.
     fn read_binary(
@@ -78,58 +73,17 @@ impl<'a> Reader<'a> {
         ensures fault { IfErr result (λ f. f ≢ PolicyFault.NoMemory → read_step env.now (as_reading self.old.walk self.old.draft set.old) at (seen symbol.now) ≡ Err f) }
         ensures same { OnErr result (set.new ≡ set.old) }
     {
-        let binary = match binary_of(alloc, env, symbol)? {
-            Some(binary) => binary,
-            None => return Err(PolicyFault::Expected(at)),
+        let Some(binary) = binary_of(alloc, env, symbol)? else {
+            return Err(PolicyFault::Expected(at));
         };
-        let walk = self.walk.step_binary(set, at, binary.bytes())?;
+        self.walk.begin_policy(set, at, binary.bytes())?;
         set.begin(alloc, binary)?;
-        self.walk = walk;
         Ok(())
     }
 
-    // The end of a filter.
-    fn end_filter(&mut self, alloc: Global, set: &mut PolicySet) -> Result<(), PolicyFault>
-        requires { filters_in set.old < MOST_FILTERS }
-        ensures set { OnOk result (set.new ≡ add_filter set.old (filter_of self.old.walk.name self.old.draft)) }
-        ensures walk { self.new.walk ≡ self.old.walk }
-        ensures draft { OnOk result (self.new.draft ≡ first_draft) }
-        ensures fault { IfErr result (λ f. f ≡ PolicyFault.NoMemory) }
-        ensures same { OnErr result (set.new ≡ set.old) }
-    {
-        let name = self.walk.filter_name(alloc)?;
-        let draft = replace(&mut self.draft, Draft::new(alloc));
-        set.add_filter(draft.filter(name))?;
-        Ok(())
-    }
-
-    // What may stand there is known: what it adds to the draft and the set.
-    fn take(
-        &mut self,
-        alloc: Global,
-        env: &Env,
-        set: &mut PolicySet,
-        symbol: &Symbol<'a>,
-    ) -> Result<(), PolicyFault>
-        requires other { is_binary_place self.old.walk.place ≡ false }
-        requires room { ends_filter self.old.walk.place ≡ true → filters_in set.old < MOST_FILTERS }
-        ensures set { OnOk result (set.new ≡ set_after env.now self.old.walk.name self.old.draft (seen symbol.now) self.old.walk.place set.old) }
-        ensures walk { self.new.walk ≡ self.old.walk }
-        ensures draft { OnOk result (self.new.draft ≡ draft_after env.now self.old.walk.label self.old.draft (seen symbol.now) self.old.walk.place) }
-        ensures fault { IfErr result (λ f. f ≡ PolicyFault.NoMemory) }
-        ensures same { OnErr result (set.new ≡ set.old) }
-    {
-        let place = self.walk.place();
-        if place.ends_filter() && symbol.is_line() {
-            self.end_filter(alloc, set)
-        } else {
-            self.draft
-                .take(alloc, env, self.walk.label(), place, symbol)?;
-            Ok(())
-        }
-    }
-
-    // At every other place.
+    // At every other place; the end of a filter's row adds it to the policies.
+    #[inline]
+    #[tactic(auto, using(crate::proofs::Lines::line_leaves))]
     fn read_other(
         &mut self,
         alloc: Global,
@@ -144,14 +98,17 @@ impl<'a> Reader<'a> {
         ensures fault { IfErr result (λ f. f ≢ PolicyFault.NoMemory → read_step env.now (as_reading self.old.walk self.old.draft set.old) at (seen symbol.now) ≡ Err f) }
         ensures same { OnErr result (set.new ≡ set.old) }
     {
-        let walk = self.walk.step(env, at, symbol)?;
-        self.take(alloc, env, set, symbol)?;
-        self.walk = walk;
+        let ends = symbol.is_line() && self.walk.place().ends_filter();
+        self.step(alloc, env, at, symbol)?;
+        if ends {
+            set.add_filter(self.take_filter(alloc)?)?;
+        }
         Ok(())
     }
 
     // Reads one symbol.
-    fn step(
+    #[inline]
+    fn read(
         &mut self,
         alloc: Global,
         env: &Env,
@@ -188,8 +145,8 @@ impl<'a> Reader<'a> {
     {
         let at = text.len() as u32;
         match broken {
-            None => self.step(alloc, env, set, at, &Symbol::Line),
-            Some(fault) => match self.step(alloc, env, set, at, &Symbol::Broken) {
+            None => self.read(alloc, env, set, at, &Symbol::Line),
+            Some(fault) => match self.read(alloc, env, set, at, &Symbol::Broken) {
                 Ok(()) => Ok(()),
                 Err(found) => Err(lexical(fault, found)),
             },
@@ -206,29 +163,44 @@ fn read_tokens(
     set: &mut PolicySet,
     tokens: &[Token],
     broken: Option<LexFault>,
-) -> Result<(), PolicyFault>
+) -> Result<(), PolicyRefusal>
     requires { length text.now < 2 ^ 32 }
     ensures ok { OnOk result (set_of (read_from env.now text.now broken (first_reading set.old) tokens.now) ≡ Ok set.new) }
-    ensures fault { IfErr result (λ f. f ≢ PolicyFault.NoMemory → read_from env.now text.now broken (first_reading set.old) tokens.now ≡ Err f) }
+    ensures fault { IfErr result (λ r. r.fault ≢ PolicyFault.NoMemory → read_from env.now text.now broken (first_reading set.old) tokens.now ≡ Err r.fault) }
+    ensures place { IfErr result (λ r. r.fault ≢ PolicyFault.NoMemory → place_from env.now text.now (first_reading set.old) tokens.now ≡ r.place) }
     ensures kept { OnErr result (take (length set.old) set.new ≡ set.old) }
     ensures few { OnOk result (filters_in set.old ≤ MOST_FILTERS) }
 {
-    let mut reader = Reader {
-        walk: GrammarState::new(set.filters()),
-        draft: Draft::new(alloc),
-    };
+    let mut reader = Reader::new(alloc, set.filters());
     for token in tokens {
         let symbol = Symbol::of(text, token);
-        reader.step(alloc, env, set, token.at, &symbol)?;
+        let place = reader.walk.place();
+        // A blank line leaves everything as it is.
+        if symbol.is_line() && place.is_between_rows() {
+            continue;
+        }
+        if let Err(fault) = reader.read(alloc, env, set, token.at, &symbol) {
+            return Err(PolicyRefusal { fault, place });
+        }
     }
-    reader.end(alloc, env, set, text, broken)
+    let place = reader.walk.place();
+    match reader.end(alloc, env, set, text, broken) {
+        Ok(()) => Ok(()),
+        Err(fault) => Err(PolicyRefusal { fault, place }),
+    }
 }
 
 // Reads a text; where that fails, the set has what was read of it.
-fn read_text(alloc: Global, text: &[u8], env: &Env, set: &mut PolicySet) -> Result<(), PolicyFault>
+fn read_text(
+    alloc: Global,
+    text: &[u8],
+    env: &Env,
+    set: &mut PolicySet,
+) -> Result<(), PolicyRefusal>
     requires { length text.now < 2 ^ 32 }
     ensures ok { OnOk result (policies_in text.now env.now set.old ≡ Ok set.new) }
-    ensures fault { IfErr result (λ f. f ≢ PolicyFault.NoMemory → policies_in text.now env.now set.old ≡ Err f) }
+    ensures fault { IfErr result (λ r. r.fault ≢ PolicyFault.NoMemory → policies_in text.now env.now set.old ≡ Err r.fault) }
+    ensures place { IfErr result (λ r. r.fault ≢ PolicyFault.NoMemory → place_in text.now env.now set.old ≡ r.place) }
     ensures kept { OnErr result (take (length set.old) set.new ≡ set.old) }
     ensures few { OnOk result (filters_in set.old ≤ MOST_FILTERS) }
 {
@@ -242,35 +214,36 @@ fn read_or_restore(
     text: &[u8],
     env: &Env,
     set: &mut PolicySet,
-) -> Result<(), PolicyFault>
+) -> Result<(), PolicyRefusal>
     requires { length text.now < 2 ^ 32 }
     ensures ok { OnOk result (policies_in text.now env.now set.old ≡ Ok set.new) }
-    ensures fault { IfErr result (λ f. f ≢ PolicyFault.NoMemory → policies_in text.now env.now set.old ≡ Err f) }
+    ensures fault { IfErr result (λ r. r.fault ≢ PolicyFault.NoMemory → policies_in text.now env.now set.old ≡ Err r.fault) }
+    ensures place { IfErr result (λ r. r.fault ≢ PolicyFault.NoMemory → place_in text.now env.now set.old ≡ r.place) }
     ensures same { OnErr result (set.new ≡ set.old) }
     ensures few { OnOk result (filters_in set.old ≤ MOST_FILTERS) }
 {
     let len = set.len();
     match read_text(alloc, text, env, set) {
         Ok(()) => Ok(()),
-        Err(fault) => {
+        Err(refused) => {
             set.truncate(len);
-            Err(fault)
+            Err(refused)
         }
     }
 }
 
 /// Reads the policies of a text, as in systrace(1), behind those that the set has: exactly where the grammar has a reading of the
-/// text, and then that one. Else the fault is the leftmost, at its token, and the set is as it was.
-#[tactic(auto, using(crate::proofs::Results::fault_found))]
+/// text, and then that one. Else the fault is the leftmost, at its token, with its place in the grammar, and the set is as it was.
+#[tactic(auto, using(crate::proofs::Results::refusal_found))]
 pub fn read_policies(
     alloc: Global,
     text: &[u8],
     env: &Env,
     set: &mut PolicySet,
-) -> Result<(), PolicyFault>
+) -> Result<(), PolicyRefusal>
     requires { length text.now < 2 ^ 32 }
     ensures ok { OnOk result (Reads text.now env.now set.old set.new) }
-    ensures fault { IfErr result (λ f. f ≢ PolicyFault.NoMemory → fault_in text.now env.now set.old ≡ Some f) }
+    ensures fault { IfErr result (λ r. r.fault ≢ PolicyFault.NoMemory → refusal_in text.now env.now set.old ≡ Some r) }
     ensures same { OnErr result (set.new ≡ set.old) }
 {
     read_or_restore(alloc, text, env, set)?;

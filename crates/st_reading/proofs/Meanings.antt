@@ -1,5 +1,5 @@
 -- A command over files that are told means exactly one thing.
-use Rattle.std.proofs.Common.{◌≡◌, ℕ, ◌+◌, ◌≤◌, ◌<◌, ◌⊎◌, inl, inr, Bool, true, false, List, [], ◌∷◌, ◌++◌, length, Option, Some, None, is_some, Result, Ok, Err, refl, sym, ap, ◌∙◌, subst, arith, nat_le, leb-true}
+use Rattle.std.proofs.Common.{◌≡◌, ℕ, ◌+◌, ◌≤◌, ◌<◌, ◌⊎◌, inl, inr, Bool, true, false, List, [], ◌∷◌, ◌++◌, length, Option, Some, None, is_some, option_map, Result, Ok, Err, refl, sym, ap, ◌∙◌, subst, arith, nat_le, leb-true}
 use Rattle.std.proofs.lemmas.Bool.Decides.{nat_tests}
 use Rattle.st_outside.specs.Files.{FileView, Unknown, Absent, FileBytes}
 use Rattle.st_outside.specs.declared.files.TheConstants.{FILE_LIMIT}
@@ -7,9 +7,12 @@ use Rattle.st_filter.specs.declared.set.BinaryPolicy.{BinaryPolicy}
 use Rattle.st_filter.specs.declared.set.TheConstants.{MOST_FILTERS}
 use Rattle.st_filter.specs.Policies.{filters_in}
 use Rattle.st_policy.specs.declared.env.Env.{Env}
-use Rattle.st_policy.specs.declared.fault.PolicyFault.{PolicyFault}
-use Rattle.st_policy.specs.Canon.{canon}
 use Rattle.st_policy.specs.Diagram.{fault_in}
+use Rattle.st_policy.specs.Grammar as policy
+use Rattle.st_policy.specs.declared.fault.PolicyFault.{PolicyFault}
+use Rattle.st_policy.specs.declared.fault.PolicyRefusal.{PolicyRefusal}
+use Rattle.st_policy.specs.Canon.{canon}
+use Rattle.st_policy.specs.Refusals.{place_in, refusal_in}
 use Rattle.st_policy.proofs.Complete.{reads-once, reads-faultless, faultless-reads}
 use Rattle.st_schedule.specs.Schedule.{schedule_in}
 use Rattle.st_script_faults.specs.declared.fault.ScriptFault.{ScriptFault}
@@ -63,20 +66,32 @@ script_one : (said : Result ReadScript ScriptFault) (R : ReadScript → Meaning 
 script_one (Ok script) R one a b u v p q = one script a b u v p q
 script_one (Err fault) R one a b u v p q = p ∙ sym q
 
-abbrev fault_or : PolicyFault → Option PolicyFault → PolicyFault
+abbrev fault_or : PolicyRefusal → Option PolicyRefusal → PolicyRefusal
 fault_or d None = d
 fault_or d (Some h) = h
 
-same_fault : (n : ℕ) (f g : PolicyFault) → Some f ≡ Some g → Refuses (Policy n f) ≡ Refuses (Policy n g)
-same_fault n f g e = ap (λ (h : PolicyFault). Refuses (Policy n h)) (ap (fault_or f) e)
+same_fault : (n : ℕ) (f g : PolicyRefusal) → Some f ≡ Some g → Refuses (Policy n f) ≡ Refuses (Policy n g)
+same_fault n f g e = ap (λ (h : PolicyRefusal). Refuses (Policy n h)) (ap (fault_or f) e)
+
+-- a fault, with the place at which a text leads to it
+abbrev placed : List ℕ → Env → List BinaryPolicy → PolicyFault → PolicyRefusal
+placed text env before fault = record { fault = fault; place = place_in text env before }
+
+-- a text that is read is not refused
+unrefused : (text : List ℕ) (env : Env) (before policies : List BinaryPolicy) → policy.Reads text env before policies → refusal_in text env before ≡ None
+unrefused text env before policies reads = ap (option_map (placed text env before)) (reads-faultless text env before policies reads)
+
+faultless : (text : List ℕ) (env : Env) (before : List BinaryPolicy) (found : Option PolicyFault) → option_map (placed text env before) found ≡ None → found ≡ None
+faultless text env before None e = refl
+faultless text env before (Some fault) e = absurd (cc)
 
 -- a text has one reading or one first fault
 policy_one : (text : List ℕ) (env : Env) (before : List BinaryPolicy) (n : ℕ) (R : List BinaryPolicy → Meaning → Type 0) → ((policies : List BinaryPolicy) → IsOne (R policies)) →
     IsOne (λ o. SaysPolicy text env before n (λ policies. R policies o) o)
 policy_one text env before n R one a b u v (inl p) (inl q) =
     one q.0 a b u v (subst (λ ps. R ps a) (reads-once text env before p.0 q.0 p.1 q.1) p.2) q.2
-policy_one text env before n R one a b u v (inl p) (inr q) = let e : None ≡ Some q.0 = sym (reads-faultless text env before p.0 p.1) ∙ q.1 in absurd (cc)
-policy_one text env before n R one a b u v (inr p) (inl q) = let e : None ≡ Some p.0 = sym (reads-faultless text env before q.0 q.1) ∙ p.1 in absurd (cc)
+policy_one text env before n R one a b u v (inl p) (inr q) = let e : None ≡ Some q.0 = sym (unrefused text env before p.0 p.1) ∙ q.1 in absurd (cc)
+policy_one text env before n R one a b u v (inr p) (inl q) = let e : None ≡ Some p.0 = sym (unrefused text env before q.0 q.1) ∙ p.1 in absurd (cc)
 policy_one text env before n R one a b u v (inr p) (inr q) = p.2 ∙ same_fault n p.0 q.0 (sym p.1 ∙ q.1) ∙ sym q.2
 
 policies_one : (held : Held) (env : Env) (R : List BinaryPolicy → Meaning → Type 0) → ((policies : List BinaryPolicy) → IsOne (R policies)) →
@@ -149,12 +164,12 @@ script_some (Err fault) R some = (Refuses (Script fault), refl, refl)
 
 policy_some : (text : List ℕ) (env : Env) (before : List BinaryPolicy) (n : ℕ) (R : List BinaryPolicy → Meaning → Type 0) → filters_in before ≤ MOST_FILTERS →
     ((policies : List BinaryPolicy) → filters_in policies ≤ MOST_FILTERS → HasOne (R policies)) → HasOne (λ o. SaysPolicy text env before n (λ policies. R policies o) o)
-policy_some text env before n R few some = by (fault_in text env before) refl
+policy_some text env before n R few some = by (refusal_in text env before) refl
   where
-    by : (found : Option PolicyFault) → fault_in text env before ≡ found → HasOne (λ o. SaysPolicy text env before n (λ policies. R policies o) o)
+    by : (found : Option PolicyRefusal) → refusal_in text env before ≡ found → HasOne (λ o. SaysPolicy text env before n (λ policies. R policies o) o)
     by (Some fault) e = (Refuses (Policy n fault), refl, inr (fault, e, refl))
     by None e =
-        let read = faultless-reads text env before few e in
+        let read = faultless-reads text env before few (faultless text env before (fault_in text env before) e) in
         let one = some read.0 read.1.few in
         (one.0, one.1, inl (read.0, read.1, one.2))
 

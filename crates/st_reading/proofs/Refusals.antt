@@ -4,7 +4,7 @@ use Rattle.st_outside.specs.Count.{HasRisen}
 use Rattle.st_filter.specs.declared.set.BinaryPolicy.{BinaryPolicy}
 use Rattle.st_policy.specs.declared.env.Env.{Env}
 use Rattle.st_policy.specs.Canon.{canon}
-use Rattle.st_policy.specs.Diagram.{fault_in}
+use Rattle.st_policy.specs.Refusals.{refusal_in}
 use Rattle.st_policy.specs.Grammar as policy
 use Rattle.st_law.specs.declared.input.Options.{Options}
 use Rattle.st_law.specs.declared.input.ReadSchedule.{ReadSchedule}
@@ -95,7 +95,7 @@ module _ (held : Held) (c : Command) (faults faults_after : ℕ) (old new : List
       policy_refused (Policy other fault) p =
           let o : Meaning = Refuses (Policy n fault) in
           subst (λ k. Means held c (Refuses (Policy k fault)) × AskedTo c (which.Policy k) old new) (sym p.0)
-          (leads_here o (leads_has (held name) (which.Policy n) (λ text. fault_in text env before ≡ Some fault) (λ text. Here text o) o p.1 (inr (fault, p.1.says, refl))), asked_here)
+          (leads_here o (leads_has (held name) (which.Policy n) (λ text. refusal_in text env before ≡ Some fault) (λ text. Here text o) o p.1 (inr (fault, p.1.says, refl))), asked_here)
       policy_refused (Missing w) p = fetch_refused (which.Policy n) name (first ++ comes.front) named_here asked_here Here leads_here (Missing w) p
       policy_refused (TooLong w) p = fetch_refused (which.Policy n) name (first ++ comes.front) named_here asked_here Here leads_here (TooLong w) p
       policy_refused ReadFault p = fetch_refused (which.Policy n) name (first ++ comes.front) named_here asked_here Here leads_here ReadFault p

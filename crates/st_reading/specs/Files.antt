@@ -5,7 +5,7 @@ use Rattle.st_outside.specs.Files.{FileView, CanHold, CanLack, CanExceed, CanFit
 use Rattle.st_outside.specs.declared.files.TheConstants.{FILE_LIMIT}
 use Rattle.st_filter.specs.declared.set.BinaryPolicy.{BinaryPolicy}
 use Rattle.st_policy.specs.declared.env.Env.{Env}
-use Rattle.st_policy.specs.Diagram.{fault_in}
+use Rattle.st_policy.specs.Refusals.{refusal_in}
 use Rattle.st_policy.specs.Grammar as policy
 use Rattle.st_law.specs.declared.input.Options.{Options}
 use Rattle.st_law.specs.declared.input.ReadSchedule.{ReadSchedule}
@@ -62,7 +62,7 @@ IsPolicy held env before policies = Has held (λ text. policy.Reads text env bef
 
 -- why policy file n was not read
 abbrev pub PolicyRefused : FileView → Env → List BinaryPolicy → ℕ → ℕ → ℕ → Refusal → Type 0
-PolicyRefused held env before n old new (Policy other fault) = (other ≡ n) × Has held (λ text. fault_in text env before ≡ Some fault)
+PolicyRefused held env before n old new (Policy other fault) = (other ≡ n) × Has held (λ text. refusal_in text env before ≡ Some fault)
 PolicyRefused held env before n old new refusal = FetchRefused held (which.Policy n) old new refusal
 
 -- how the reading of a policy file ends, where it leaves these policies

@@ -5,9 +5,9 @@ use Rattle.st_outside.specs.Files.{FileView, Unknown, Absent, FileBytes, CanHold
 use Rattle.st_outside.specs.declared.files.TheConstants.{FILE_LIMIT}
 use Rattle.st_filter.specs.declared.set.BinaryPolicy.{BinaryPolicy}
 use Rattle.st_policy.specs.declared.env.Env.{Env}
-use Rattle.st_policy.specs.declared.fault.PolicyFault.{PolicyFault}
+use Rattle.st_policy.specs.declared.fault.PolicyRefusal.{PolicyRefusal}
 use Rattle.st_policy.specs.Canon.{canon}
-use Rattle.st_policy.specs.Diagram.{fault_in}
+use Rattle.st_policy.specs.Refusals.{refusal_in}
 use Rattle.st_policy.specs.Grammar as policy
 use Rattle.st_law.specs.declared.input.Input.{Input}
 use Rattle.st_law.specs.declared.input.ReadSchedule.{ReadSchedule}
@@ -67,7 +67,7 @@ SaysScript (Err fault) Read outcome = outcome ≡ Refuses (Script fault)
 abbrev pub SaysPolicy : List ℕ → Env → List BinaryPolicy → ℕ → (List BinaryPolicy → Type 0) → Meaning → Type 0
 SaysPolicy text env before n Read outcome =
     ((policies : List BinaryPolicy) × policy.Reads text env before policies × Read policies) ⊎
-    ((fault : PolicyFault) × (fault_in text env before ≡ Some fault) × (outcome ≡ Refuses (Policy n fault)))
+    ((fault : PolicyRefusal) × (refusal_in text env before ≡ Some fault) × (outcome ≡ Refuses (Policy n fault)))
 
 -- policy files from number n on are read in order, each behind the policies of those before it
 abbrev pub MeansPolicies : Held → Env → ℕ → List Word → List BinaryPolicy → (List BinaryPolicy → Type 0) → Meaning → Type 0

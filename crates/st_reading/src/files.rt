@@ -69,8 +69,10 @@ fn read_policy_file<F: Files>(
     let text = fetch(alloc, files, name, Which::Policy(number))?;
     match read_policies(alloc, text.bytes(), env, policies) {
         Ok(()) => Ok(()),
-        Err(PolicyFault::NoMemory) => Err(Refusal::NoMemory),
-        Err(fault) => Err(Refusal::Policy(number, fault)),
+        Err(refused) => match refused.fault {
+            PolicyFault::NoMemory => Err(Refusal::NoMemory),
+            _ => Err(Refusal::Policy(number, refused)),
+        },
     }
 }
 

@@ -1,6 +1,6 @@
 ghost use Rattle.std.specs.Prelude.{◌≡◌};
 
-use st_policy::PolicyFault;
+use st_policy::PolicyRefusal;
 use st_script_faults::ScriptFault;
 use std::alloc::AllocError;
 
@@ -24,8 +24,8 @@ pub enum Refusal {
     ReadFault,
     /// The script is refused, with its first fault.
     Script(ScriptFault),
-    /// The policy file of this number, from 1, is refused, with its leftmost fault.
-    Policy(u32, PolicyFault),
+    /// The policy file of this number, from 1, is refused, with its leftmost fault and where that stands in the grammar.
+    Policy(u32, PolicyRefusal),
     NoMemory,
 }
 

@@ -10,7 +10,7 @@ use crate::refusal::{Found, Refusal};
 use crate::shown::found_at;
 use st_base::Text;
 use st_lex::tokens;
-use st_policy::{Env, Place, PolicyFault, PolicySet, place_of_fault};
+use st_policy::{Env, Place, PolicyFault, PolicyRefusal};
 use std::alloc::{AllocError, Global};
 
 // Appends what was expected behind an operand.
@@ -46,28 +46,24 @@ fn append_expected(
     }
 }
 
-/// What tells a person why a policy file is refused behind the policies of those before it: a line, the file's line at fault, and one
-/// with a `^` under the fault, without the newline behind them; none where its text has no fault there.
+/// What tells a person why a policy file is refused: a line, the file's line at fault, and one with a `^` under the fault, without the
+/// newline behind them.
 pub fn policy_message(
     alloc: Global,
     name: &[u8],
     text: &[u8],
     env: &Env,
-    before: &PolicySet,
-    fault: PolicyFault,
-) -> Result<Option<Text>, AllocError>
+    refused: PolicyRefusal,
+) -> Result<Text, AllocError>
     requires { length text.now ≤ FILE_LIMIT }
 {
-    let Some(place) = place_of_fault(alloc, text, env, before)? else {
-        return Ok(None);
-    };
     let lexed = tokens(alloc, text)?;
     let refusal = Refusal {
         text,
         tokens: lexed.tokens.as_slice(),
         env,
-        fault,
-        place,
+        fault: refused.fault,
+        place: refused.place,
     };
     let at = refusal.at();
     let found = refusal.found();
@@ -76,5 +72,5 @@ pub fn policy_message(
     line.append(b", expected ")?;
     append_expected(alloc, &mut line, &refusal, found)?;
     append_line_with_caret(&mut line, text, at, found.len())?;
-    Ok(Some(line))
+    Ok(line)
 }

@@ -3,11 +3,11 @@ use crate::names::file_in;
 use crate::policy_fault::policy_message;
 use crate::schedule_fault::schedule_message;
 use crate::script_fault::script_message;
-use crate::sources::{env_of, policies_before, text_of};
+use crate::sources::{env_of, text_of};
 use st_base::Text;
 use st_command::{Command, read_words};
 use st_outside::Files;
-use st_policy::PolicyFault;
+use st_policy::PolicyRefusal;
 use st_script_faults::ScriptFault;
 use st_top::{Status, Which};
 use std::alloc::{AllocError, Global};
@@ -18,14 +18,14 @@ fn policy_line<F: Files>(
     files: &mut F,
     command: &Command<'_>,
     number: u32,
-    fault: PolicyFault,
+    refused: PolicyRefusal,
 ) -> Result<Option<Text>, AllocError> {
     if let Some(name) = file_in(command, Which::Policy(number))
         && let Some(env) = env_of(alloc, files, command)?
-        && let Some(before) = policies_before(alloc, files, command, number, &env)?
         && let Some(text) = text_of(alloc, files, name)?
     {
-        return policy_message(alloc, name.bytes(), text.bytes(), &env, &before, fault);
+        let line = policy_message(alloc, name.bytes(), text.bytes(), &env, refused)?;
+        return Ok(Some(line));
     }
     Ok(None)
 }
@@ -70,7 +70,7 @@ fn told_of_file<F: Files>(
     status: Status,
 ) -> Result<Option<Text>, AllocError> {
     match status {
-        Status::Policy(number, fault) => policy_line(alloc, files, command, number, fault),
+        Status::Policy(number, refused) => policy_line(alloc, files, command, number, refused),
         Status::Script(fault) => script_line(alloc, files, command, fault),
         Status::Schedule(number) => schedule_line(alloc, files, command, number),
         _ => Ok(None),

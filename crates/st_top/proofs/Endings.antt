@@ -9,7 +9,7 @@ use Rattle.st_law.specs.declared.input.ReadSchedule.{ReadSchedule}
 use Rattle.st_law.specs.Lawful.{Lawful}
 use Rattle.st_law.specs.Machine.{run}
 use Rattle.st_law.specs.Schedules.{BadLine, Choices, played}
-use Rattle.st_policy.specs.declared.fault.PolicyFault.{PolicyFault}
+use Rattle.st_policy.specs.declared.fault.PolicyRefusal.{PolicyRefusal}
 use Rattle.st_script_faults.specs.declared.fault.ScriptFault.{ScriptFault}
 use Rattle.st_command.specs.Reading.{command_in}
 use Rattle.st_command.specs.Words.{Word}
@@ -62,7 +62,7 @@ module _ (words : List Word) (held : Held) (c : Command) (faults faults_after : 
   pub script_refused : (fault : ScriptFault) → end ≡ status.Script fault → Meets words held (Refuses (refusal.Script fault)) which.Script asked asked_after
   script_refused fault is = let x = (of (status.Script fault) is).0 in record { served = c; spelled = spelled; meant = x.0; asked = x.1 }
 
-  pub policy_refused : (n : ℕ) (fault : PolicyFault) → end ≡ status.Policy n fault → Meets words held (Refuses (refusal.Policy n fault)) (which.Policy n) asked asked_after
+  pub policy_refused : (n : ℕ) (fault : PolicyRefusal) → end ≡ status.Policy n fault → Meets words held (Refuses (refusal.Policy n fault)) (which.Policy n) asked asked_after
   policy_refused n fault is = let x = (of (status.Policy n fault) is).0 in record { served = c; spelled = spelled; meant = x.0; asked = x.1 }
 
   pub bad_line : (line : ℕ) → end ≡ status.Schedule line → (input : Input) × (schedule : ReadSchedule) × Meets words held (Runs input schedule) which.Schedule asked asked_after × (played input schedule ≡ BadLine line)

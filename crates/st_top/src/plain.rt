@@ -10,7 +10,7 @@ ghost use Rattle.st_law.specs.Schedules.{Choices, BadLine, played};
 ghost use Rattle.st_command.specs.Command.{StepWords, CheckWords};
 ghost use Rattle.st_command.specs.Reading.{command_in, IsWithinLimits};
 ghost use Rattle.st_command.specs.declared.command.Command.TheVariants.{Step, Check};
-ghost use Rattle.st_policy.specs.declared.fault.PolicyFault.{PolicyFault};
+ghost use Rattle.st_policy.specs.declared.fault.PolicyRefusal.{PolicyRefusal};
 ghost use Rattle.st_script_faults.specs.declared.fault.ScriptFault.{ScriptFault};
 ghost use Rattle.st_reading.specs.Meaning.{Means, Stops, Refuses, Runs, Prints, AreTold};
 ghost use Rattle.st_reading.specs.declared.refusal.Refusal.TheVariants as refusal;
@@ -102,7 +102,7 @@ pub fn systrace_plain<F: Files, S: Sink>(
     ensures missing { (w : Which) → result ≡ Status.Missing w → Meets words.now (F.held files.old) (Refuses (refusal.Missing w)) w (F.asked files.old) (F.asked files.new) }
     ensures too_long { (w : Which) → result ≡ Status.TooLong w → Meets words.now (F.held files.old) (Refuses (refusal.TooLong w)) w (F.asked files.old) (F.asked files.new) }
     ensures script { (fault : ScriptFault) → result ≡ Status.Script fault → Meets words.now (F.held files.old) (Refuses (refusal.Script fault)) which.Script (F.asked files.old) (F.asked files.new) }
-    ensures policy { (n : ℕ) (fault : PolicyFault) → result ≡ Status.Policy n fault → Meets words.now (F.held files.old) (Refuses (refusal.Policy n fault)) (which.Policy n) (F.asked files.old) (F.asked files.new) }
+    ensures policy { (n : ℕ) (fault : PolicyRefusal) → result ≡ Status.Policy n fault → Meets words.now (F.held files.old) (Refuses (refusal.Policy n fault)) (which.Policy n) (F.asked files.old) (F.asked files.new) }
     ensures schedule { (line : ℕ) → result ≡ Status.Schedule line → (input : Input) × (schedule : ReadSchedule) ×
         Meets words.now (F.held files.old) (Runs input schedule) which.Schedule (F.asked files.old) (F.asked files.new) × (played input schedule ≡ BadLine line) }
     ensures read_fault { result ≡ Status.ReadFault → HasRisen (F.faults files.old) (F.faults files.new) × ((w : Which) × Meets words.now (F.held files.old) (Stops w) w (F.asked files.old) (F.asked files.new)) }

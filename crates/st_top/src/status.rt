@@ -2,7 +2,7 @@ ghost use Rattle.std.specs.Prelude.{◌≡◌};
 ghost use Rattle.st_top.specs.Number.{number_of_status};
 
 use st_kernel::PlayFault;
-use st_policy::PolicyFault;
+use st_policy::PolicyRefusal;
 use st_reading::{Refusal, Which};
 use st_script_faults::ScriptFault;
 use std::alloc::AllocError;
@@ -17,7 +17,7 @@ pub enum Status {
     /// The words spell no command.
     Usage,
     /// The policy file of this number, from 1, is refused, with its leftmost fault.
-    Policy(u32, PolicyFault),
+    Policy(u32, PolicyRefusal),
     /// The script is refused, with its first fault.
     Script(ScriptFault),
     /// A file could not be read.

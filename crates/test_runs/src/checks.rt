@@ -1,5 +1,5 @@
 use crate::rows::{Case, run_all};
-use st_policy::{PolicyFault, Unsupported};
+use st_policy::{Place, PolicyFault, PolicyRefusal, Unsupported};
 use st_top::Status;
 use std::test::Fail;
 
@@ -58,7 +58,16 @@ native-read: ask, if group < 0
 native-read: permit log log",
         script: b"",
         schedule: b"",
-        status: Status::Policy(1, PolicyFault::Expected(58)),
+        status: Status::Policy(
+            1,
+            PolicyRefusal {
+                fault: PolicyFault::Expected(58),
+                place: Place::Tail {
+                    grant: true,
+                    log: false,
+                },
+            },
+        ),
         written: b"",
     },
     Case {
@@ -67,7 +76,13 @@ native-read: permit log log",
 foo bar",
         script: b"",
         schedule: b"",
-        status: Status::Policy(1, PolicyFault::UnknownCall(34)),
+        status: Status::Policy(
+            1,
+            PolicyRefusal {
+                fault: PolicyFault::UnknownCall(34),
+                place: Place::Row,
+            },
+        ),
         written: b"",
     },
     Case {
@@ -76,7 +91,13 @@ foo bar",
 native-fsread: uid eq \"1\" then permit",
         script: b"",
         schedule: b"",
-        status: Status::Policy(1, PolicyFault::UnknownArgument(49)),
+        status: Status::Policy(
+            1,
+            PolicyRefusal {
+                fault: PolicyFault::UnknownArgument(49),
+                place: Place::Label,
+            },
+        ),
         written: b"",
     },
     Case {
@@ -85,7 +106,13 @@ native-fsread: uid eq \"1\" then permit",
 Policy: \"/bin/a\", Emulation: native",
         script: b"",
         schedule: b"",
-        status: Status::Policy(1, PolicyFault::DuplicatePolicy(42)),
+        status: Status::Policy(
+            1,
+            PolicyRefusal {
+                fault: PolicyFault::DuplicatePolicy(42),
+                place: Place::Binary,
+            },
+        ),
         written: b"",
     },
     Case {
@@ -94,7 +121,13 @@ Policy: \"/bin/a\", Emulation: native",
 ",
         script: b"",
         schedule: b"",
-        status: Status::Policy(1, PolicyFault::Expected(0)),
+        status: Status::Policy(
+            1,
+            PolicyRefusal {
+                fault: PolicyFault::Expected(0),
+                place: Place::Start,
+            },
+        ),
         written: b"",
     },
     Case {
@@ -102,7 +135,13 @@ Policy: \"/bin/a\", Emulation: native",
         policy: b"Policy: /bin/b, Emulation: n",
         script: b"",
         schedule: b"",
-        status: Status::Policy(1, PolicyFault::NotSupported(27, Unsupported::Emulation)),
+        status: Status::Policy(
+            1,
+            PolicyRefusal {
+                fault: PolicyFault::NotSupported(27, Unsupported::Emulation),
+                place: Place::System,
+            },
+        ),
         written: b"",
     },
     Case {
@@ -112,7 +151,13 @@ native-getpid: not not not not not not not not not not not not not not not not n
 ",
         script: b"",
         schedule: b"",
-        status: Status::Policy(1, PolicyFault::TooMany(305)),
+        status: Status::Policy(
+            1,
+            PolicyRefusal {
+                fault: PolicyFault::TooMany(305),
+                place: Place::Operand,
+            },
+        ),
         written: b"",
     },
     Case {
@@ -121,7 +166,13 @@ native-getpid: not not not not not not not not not not not not not not not not n
 native-read: ask",
         script: b"",
         schedule: b"",
-        status: Status::Policy(1, PolicyFault::AskWithLearn(47)),
+        status: Status::Policy(
+            1,
+            PolicyRefusal {
+                fault: PolicyFault::AskWithLearn(47),
+                place: Place::Clause,
+            },
+        ),
         written: b"",
     },
     Case {
@@ -131,7 +182,16 @@ native-bind: permit as root
 ",
         script: b"",
         schedule: b"",
-        status: Status::Policy(1, PolicyFault::ElevateWithoutIds(54)),
+        status: Status::Policy(
+            1,
+            PolicyRefusal {
+                fault: PolicyFault::ElevateWithoutIds(54),
+                place: Place::Tail {
+                    grant: true,
+                    log: true,
+                },
+            },
+        ),
         written: b"",
     },
     Case {
@@ -141,7 +201,16 @@ native-setuid: permit as root
 ",
         script: b"",
         schedule: b"",
-        status: Status::Policy(1, PolicyFault::ElevateOnSetId(56)),
+        status: Status::Policy(
+            1,
+            PolicyRefusal {
+                fault: PolicyFault::ElevateOnSetId(56),
+                place: Place::Tail {
+                    grant: true,
+                    log: true,
+                },
+            },
+        ),
         written: b"",
     },
     Case {
@@ -150,7 +219,13 @@ native-setuid: permit as root
 native-fsread: filename re \"x\" then permit",
         script: b"",
         schedule: b"",
-        status: Status::Policy(1, PolicyFault::NotSupported(58, Unsupported::Re)),
+        status: Status::Policy(
+            1,
+            PolicyRefusal {
+                fault: PolicyFault::NotSupported(58, Unsupported::Re),
+                place: Place::Label,
+            },
+        ),
         written: b"",
     },
     Case {

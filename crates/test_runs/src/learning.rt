@@ -1,7 +1,7 @@
 use crate::rows::{
     CAT_POLICY, CAT_SCRIPT, CAT_WRITTEN, Case, POLICY, REST, SCRIPT, WRITTEN, run_all,
 };
-use st_policy::PolicyFault;
+use st_policy::{Place, PolicyFault, PolicyRefusal};
 use st_script_faults::ScriptFault;
 use st_top::Status;
 use std::test::Fail;
@@ -146,7 +146,13 @@ native-getpid: ask
 ",
         script: SCRIPT,
         schedule: REST,
-        status: Status::Policy(1, PolicyFault::AskWithLearn(49)),
+        status: Status::Policy(
+            1,
+            PolicyRefusal {
+                fault: PolicyFault::AskWithLearn(49),
+                place: Place::Clause,
+            },
+        ),
         written: b"",
     },
 ];

@@ -5,7 +5,7 @@ use crate::rows::{
 use st_base::Text;
 use st_lex::LexFault;
 use st_outside::MemorySink;
-use st_policy::PolicyFault;
+use st_policy::{Place, PolicyFault, PolicyRefusal};
 use st_script_faults::ScriptFault;
 use st_top::{Status, Which, systrace_plain};
 use std::test::Fail;
@@ -59,7 +59,13 @@ call exit 0
 native-fsread: filename eq \"/etc",
         script: SCRIPT,
         schedule: REST,
-        status: Status::Policy(1, PolicyFault::Lex(LexFault::OpenQuote(61))),
+        status: Status::Policy(
+            1,
+            PolicyRefusal {
+                fault: PolicyFault::Lex(LexFault::OpenQuote(61)),
+                place: Place::Text,
+            },
+        ),
         written: b"",
     },
     Case {
@@ -214,7 +220,16 @@ fn statuses_have_numbers(rt: HostRuntime) {
         (Status::Done, 0),
         (Status::Missing(Which::Script), 1),
         (Status::Usage, 2),
-        (Status::Policy(1, PolicyFault::Expected(0)), 3),
+        (
+            Status::Policy(
+                1,
+                PolicyRefusal {
+                    fault: PolicyFault::Expected(0),
+                    place: Place::Start,
+                },
+            ),
+            3,
+        ),
         (Status::Script(ScriptFault::Expected(1)), 4),
         (Status::ReadFault, 5),
         (Status::WriteFault, 6),

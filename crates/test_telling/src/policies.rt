@@ -14,9 +14,7 @@ fn told<R: Abort + AllocGlobal>(rt: &R, env: &Env, text: &[u8]) -> Result<Text, 
     let alloc = rt.alloc();
     let mut set = PolicySet::new(alloc);
     let refused = read_policies(alloc, text, env, &mut set).err();
-    let fault = refused.ok_or("no fault")?;
-    let line = policy_message(alloc, b"f", text, env, &PolicySet::new(alloc), fault)?;
-    Ok(line.ok_or("no line")?)
+    Ok(policy_message(alloc, b"f", text, env, refused.ok_or("no fault")?)?)
 }
 
 // The bytes of a text up to its first newline.

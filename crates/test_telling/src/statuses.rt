@@ -1,6 +1,6 @@
 use st_base::Text;
 use st_outside::{MemoryFiles, MemorySink};
-use st_policy::PolicyFault;
+use st_policy::{Place, PolicyFault, PolicyRefusal};
 use st_script_faults::ScriptFault;
 use st_telling::line_of;
 use st_top::{Status, Which, systrace_plain};
@@ -115,7 +115,10 @@ fn tells_the_file_that_is_missing_or_too_long(rt: HostRuntime) -> Result<(), Fai
 
 #[test]
 fn tells_the_file_that_is_refused(rt: HostRuntime) -> Result<(), Fail> {
-    let policy = PolicyFault::Expected(0);
+    let policy = PolicyRefusal {
+        fault: PolicyFault::Expected(0),
+        place: Place::Start,
+    };
     let script = Status::Script(ScriptFault::Expected(1));
     let cases: [(&str, Status, &[u8]); 5] = [
         (

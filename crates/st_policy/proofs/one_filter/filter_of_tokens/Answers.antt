@@ -6,12 +6,12 @@ use Rattle.st_policy.proofs.one_filter.filter_of_tokens.Goals as goal
 
 pub loop-token-init : goal.loop-token-init
 loop-token-init c =
-    let s = first_stands c.args.env.now c.args.text.now c.args.broken c.args.first.now c.args.tokens.now (seen c.of.result) c.in_ok-walk.walk c.new-draft.result c.of.ensures c.in_ok-walk.ensures c.new-draft.ensures in
+    let s = first_stands c.args.env.now c.args.text.now c.args.broken c.args.first.now c.args.tokens.now (seen c.of.result) c.in_ok-reader.reader.walk c.in_ok-reader.reader.draft c.of.ensures c.in_ok-reader.ensures.walk c.in_ok-reader.ensures.draft in
     record { rest = s.rest; within = s.within }
 
 pub loop-token-preserved : goal.loop-token-preserved
 loop-token-preserved c =
     let s = token_stands c.args.env.now c.args.text.now c.args.broken (filter_of_tokens c.args.env.now c.args.text.now c.args.broken (c.args.first.now ∷ c.args.tokens.now))
-    c.in-Some.token.now c.in-Some.behind.now c.loop-token.rest.now (seen c.of-symbol.result) c.loop-token.walk c.in_ok-next.next c.loop-token.draft c.take.new.self c.is_line.result c.label.result.now c.place.result
-    c.in-Some.ensures.cases.0 c.of-symbol.ensures c.in_ok-next.ensures c.is_line.ensures c.if-is_line.false c.label.ensures c.place.ensures c.in_ok-take.ensures c.loop-token.invariant.rest c.loop-token.invariant.within in
+    c.in-Some.token.now c.in-Some.behind.now c.loop-token.rest.now (seen c.of-symbol.result) c.loop-token.reader.walk c.step.new.self.walk c.loop-token.reader.draft c.step.new.self.draft c.is_line.result
+    c.in-Some.ensures.cases.0 c.of-symbol.ensures c.in_ok-step.ensures.walk c.is_line.ensures c.if-is_line.false c.in_ok-step.ensures.draft c.loop-token.invariant.rest c.loop-token.invariant.within in
     record { rest = s.rest; within = s.within }

@@ -1,5 +1,6 @@
 use Rattle.std.proofs.Common.{◌≡◌, drop}
 use Rattle.st_policy.specs.Draft.{as_reading, read_from, first_reading}
+use Rattle.st_policy.specs.Refusals.{place_from}
 use Rattle.st_policy.specs.Between.{IsSound}
 use Rattle.st_policy.proofs.reader.read_tokens.Given as goal
 
@@ -7,5 +8,6 @@ use Rattle.st_policy.proofs.reader.read_tokens.Given as goal
 abbrev pub invariant-loop-token : goal.invariant-loop-token
 invariant-loop-token l = record {
   rest : read_from l.env l.text l.broken (first_reading l.initial.set) l.tokens ≡ read_from l.env l.text l.broken (as_reading l.reader.walk l.reader.draft l.set) (drop l.token-index l.tokens);
+  place : place_from l.env l.text (first_reading l.initial.set) l.tokens ≡ place_from l.env l.text (as_reading l.reader.walk l.reader.draft l.set) (drop l.token-index l.tokens);
   sound : IsSound l.initial.set (as_reading l.reader.walk l.reader.draft l.set);
 }

@@ -1,0 +1,621 @@
+ghost use Rattle.std.specs.Prelude.{◌≡◌, ◌≢◌, ℕ, List, [], Ok, Err, false, unwrap_or, IfOk, IfErr, OnOk};
+ghost use Rattle.st_policy.specs.Symbol.{seen, Word};
+ghost use Rattle.st_policy.specs.Diagram.{is_quoted, only, step_start, step_row, step_system, step_operand, step_operator, step_label, step_indexed, step_index, step_joint, step_action, step_clause, step_as, step_tail, step_denial, step_error, step_id, step_grant, step_user, step_who, word_who, step_comparison, next};
+ghost use Rattle.st_policy.specs.Grammar.{comparison};
+ghost use Rattle.st_policy.specs.Words.{names_for};
+ghost use Rattle.st_policy.specs.Draft.{first_draft, filter_of, is_binary_place, draft_row, draft_operand, draft_operator, draft_index, draft_text, draft_joint, draft_action, draft_clause, draft_error, draft_tail, draft_grant, draft_group, draft_comparison, draft_id, draft_step};
+
+use crate::draft::Draft;
+use crate::env::Env;
+use crate::fault::{PolicyFault, Unsupported};
+use crate::place::Place;
+use crate::stack::PendingOperand;
+use crate::symbol::Symbol;
+use crate::walk::GrammarState;
+use crate::words::{id_of, index_of, is, is_label, names_for, op_named, who_named};
+use st_base::{Errno, Text};
+use st_filter::{Action, Cmp, Expr, Filter, FilterName, Grant, Predicate, Who};
+use st_lex::unquote;
+use std::alloc::{AllocError, Global};
+use std::mem::replace;
+
+/// How far a text is read, but for its policies. Each step takes one symbol in: the grammar goes on, and the row's draft gets what the
+/// symbol spells.
+#[derive(Drop)]
+pub(crate) struct Reader<'a> {
+    pub(crate) walk: GrammarState<'a>,
+    pub(crate) draft: Draft,
+}
+
+// Rows and headers.
+impl<'a> Reader<'a> {
+    /// The front of a text, with so many filters read before it.
+    pub(crate) fn new(alloc: Global, filters: usize) -> Self
+        ensures walk { result.walk ≡ record { place = Place.Start; filters = filters; name = FilterName.Other []; label = []; label_at = 0; parens = 0; joins = 0 } }
+        ensures draft { result.draft ≡ first_draft }
+    {
+        Reader {
+            walk: GrammarState::new(filters),
+            draft: Draft::new(alloc),
+        }
+    }
+
+    // One thing alone may stand here, which adds nothing.
+    fn only(&mut self, at: u32, fits: bool, next: Place) -> Result<(), PolicyFault>
+        ensures walk { OnOk result (only self.old.walk at fits next ≡ Ok self.new.walk) }
+        ensures draft { self.new.draft ≡ self.old.draft }
+        ensures fault { IfErr result (λ f. only self.old.walk at fits next ≡ Err f) }
+    {
+        self.walk.only(at, fits, next)
+    }
+
+    fn step_start(&mut self, at: u32, symbol: &Symbol<'a>) -> Result<(), PolicyFault>
+        ensures walk { OnOk result (step_start self.old.walk at (seen symbol.now) ≡ Ok self.new.walk) }
+        ensures draft { self.new.draft ≡ self.old.draft }
+        ensures fault { IfErr result (λ f. step_start self.old.walk at (seen symbol.now) ≡ Err f) }
+    {
+        match *symbol {
+            Symbol::Line => {
+                self.walk.go(Place::Start);
+                Ok(())
+            }
+            Symbol::Word(word) => self.only(at, is(word, b"Policy"), Place::PolicyColon),
+            _ => Err(PolicyFault::Expected(at)),
+        }
+    }
+
+    fn step_row(&mut self, alloc: Global, at: u32, symbol: &Symbol<'a>) -> Result<(), PolicyFault>
+        ensures walk { OnOk result (step_row self.old.walk at (seen symbol.now) ≡ Ok self.new.walk) }
+        ensures draft { OnOk result (self.new.draft ≡ draft_row self.old.draft (seen symbol.now)) }
+        ensures fault { IfErr result (λ f. step_row self.old.walk at (seen symbol.now) ≡ Err f) }
+    {
+        match *symbol {
+            Symbol::Line => {
+                self.walk.go(Place::Row);
+                Ok(())
+            }
+            Symbol::Word(word) => {
+                self.draft = Draft::new(alloc);
+                if is(word, b"Policy") {
+                    self.walk.go(Place::PolicyColon);
+                    Ok(())
+                } else {
+                    self.walk.begin_filter(at, word)
+                }
+            }
+            _ => Err(PolicyFault::Expected(at)),
+        }
+    }
+
+    fn step_system(&mut self, at: u32, symbol: &Symbol<'a>) -> Result<(), PolicyFault>
+        ensures walk { OnOk result (step_system self.old.walk at (seen symbol.now) ≡ Ok self.new.walk) }
+        ensures draft { self.new.draft ≡ self.old.draft }
+        ensures fault { IfErr result (λ f. step_system self.old.walk at (seen symbol.now) ≡ Err f) }
+    {
+        match *symbol {
+            Symbol::Word(word) => {
+                if !is(word, b"native") {
+                    return Err(PolicyFault::NotSupported(at, Unsupported::Emulation));
+                }
+                self.walk.go(Place::HeaderEnd);
+                Ok(())
+            }
+            _ => Err(PolicyFault::Expected(at)),
+        }
+    }
+}
+
+// Expressions.
+impl<'a> Reader<'a> {
+    fn step_operand(
+        &mut self,
+        alloc: Global,
+        at: u32,
+        symbol: &Symbol<'a>,
+    ) -> Result<(), PolicyFault>
+        ensures walk { OnOk result (step_operand self.old.walk at (seen symbol.now) ≡ Ok self.new.walk) }
+        ensures draft { OnOk result (self.new.draft ≡ draft_operand self.old.draft (seen symbol.now)) }
+        ensures fault { IfErr result (λ f. f ≢ PolicyFault.NoMemory → step_operand self.old.walk at (seen symbol.now) ≡ Err f) }
+    {
+        match *symbol {
+            Symbol::Open => {
+                self.walk.open(at)?;
+                self.draft.wait(PendingOperand::Group)?;
+            }
+            Symbol::Word(word) => {
+                if is(word, b"not") {
+                    self.walk.join(at)?;
+                    self.draft.wait(PendingOperand::Negation)?;
+                } else if is(word, b"true") {
+                    self.walk.go(Place::Joint);
+                    self.draft.complete(alloc, Expr::True)?;
+                } else if is_label(word) {
+                    self.walk.begin_test(at, word);
+                    self.draft.index = 0;
+                } else {
+                    return Err(PolicyFault::Expected(at));
+                }
+            }
+            _ => return Err(PolicyFault::Expected(at)),
+        }
+        Ok(())
+    }
+
+    fn step_operator(&mut self, at: u32, symbol: &Symbol<'a>) -> Result<(), PolicyFault>
+        ensures walk { OnOk result (step_operator self.old.walk at (seen symbol.now) ≡ Ok self.new.walk) }
+        ensures draft { OnOk result (self.new.draft ≡ draft_operator self.old.draft (seen symbol.now)) }
+        ensures fault { IfErr result (λ f. step_operator self.old.walk at (seen symbol.now) ≡ Err f) }
+    {
+        let Symbol::Word(word) = *symbol else {
+            return Err(PolicyFault::Expected(at));
+        };
+        match op_named(word) {
+            Some(op) => {
+                self.walk.go(Place::Text);
+                self.draft.op = op;
+                Ok(())
+            }
+            None if is(word, b"re") => Err(PolicyFault::NotSupported(at, Unsupported::Re)),
+            None => Err(PolicyFault::Expected(at)),
+        }
+    }
+
+    fn step_label(&mut self, at: u32, symbol: &Symbol<'a>) -> Result<(), PolicyFault>
+        ensures walk { OnOk result (step_label self.old.walk at (seen symbol.now) ≡ Ok self.new.walk) }
+        ensures draft { OnOk result (self.new.draft ≡ draft_operator self.old.draft (seen symbol.now)) }
+        ensures fault { IfErr result (λ f. step_label self.old.walk at (seen symbol.now) ≡ Err f) }
+    {
+        match *symbol {
+            Symbol::OpenBracket => {
+                self.walk.go(Place::Index);
+                Ok(())
+            }
+            _ if self.walk.may_test(0) => self.step_operator(at, symbol),
+            _ => Err(self.walk.label_fault()),
+        }
+    }
+
+    // The index that is spelled, if one is.
+    fn step_indexed(&mut self, at: u32, index: Option<u32>) -> Result<(), PolicyFault>
+        ensures walk { OnOk result (step_indexed self.old.walk at index ≡ Ok self.new.walk) }
+        ensures draft { OnOk result (self.new.draft ≡ record self.old.draft { index = unwrap_or index self.old.draft.index }) }
+        ensures fault { IfErr result (λ f. step_indexed self.old.walk at index ≡ Err f) }
+    {
+        match index {
+            Some(index) if self.walk.may_test(index) => {
+                self.walk.go(Place::IndexEnd);
+                self.draft.index = index;
+                Ok(())
+            }
+            None if self.walk.may_test_label() => Err(PolicyFault::Expected(at)),
+            _ => Err(self.walk.label_fault()),
+        }
+    }
+
+    fn step_index(&mut self, at: u32, symbol: &Symbol<'a>) -> Result<(), PolicyFault>
+        ensures walk { OnOk result (step_index self.old.walk at (seen symbol.now) ≡ Ok self.new.walk) }
+        ensures draft { OnOk result (self.new.draft ≡ draft_index self.old.draft (seen symbol.now)) }
+        ensures fault { IfErr result (λ f. step_index self.old.walk at (seen symbol.now) ≡ Err f) }
+    {
+        match *symbol {
+            Symbol::Word(word) => self.step_indexed(at, index_of(word)),
+            _ => self.step_indexed(at, None),
+        }
+    }
+
+    fn step_text(
+        &mut self,
+        alloc: Global,
+        env: &Env,
+        at: u32,
+        symbol: &Symbol<'a>,
+    ) -> Result<(), PolicyFault>
+        ensures walk { OnOk result (only self.old.walk at (is_quoted (seen symbol.now)) Place.Joint ≡ Ok self.new.walk) }
+        ensures draft { OnOk result (self.new.draft ≡ draft_text env.now self.old.walk.label self.old.draft (seen symbol.now)) }
+        ensures fault { IfErr result (λ f. f ≢ PolicyFault.NoMemory → only self.old.walk at (is_quoted (seen symbol.now)) Place.Joint ≡ Err f) }
+    {
+        let Symbol::Quoted(source) = *symbol else {
+            return Err(PolicyFault::Expected(at));
+        };
+        self.walk.go(Place::Joint);
+        let test = Expr::Test {
+            label: Text::of(alloc, self.walk.label())?,
+            index: self.draft.index,
+            op: self.draft.op,
+            text: unquote(alloc, source, &env.dollars)?,
+        };
+        self.draft.complete(alloc, test)?;
+        Ok(())
+    }
+
+    // `and`, `or`, or `then` behind an operand.
+    fn step_joint_word(&mut self, alloc: Global, at: u32, word: &'a [u8]) -> Result<(), PolicyFault>
+        ensures walk { OnOk result (step_joint self.old.walk at (Word word.now) ≡ Ok self.new.walk) }
+        ensures draft { OnOk result (self.new.draft ≡ draft_joint self.old.draft (Word word.now)) }
+        ensures fault { IfErr result (λ f. f ≢ PolicyFault.NoMemory → step_joint self.old.walk at (Word word.now) ≡ Err f) }
+    {
+        if is(word, b"and") {
+            self.walk.join(at)?;
+            self.draft.join_both()?;
+        } else if is(word, b"or") {
+            self.walk.join(at)?;
+            self.draft.end_conjunction(alloc)?;
+            self.draft.join_either()?;
+        } else {
+            let ends = is(word, b"then") && self.walk.is_closed();
+            self.only(at, ends, Place::Action)?;
+            self.draft.end_conjunction(alloc)?;
+        }
+        Ok(())
+    }
+
+    fn step_joint(&mut self, alloc: Global, at: u32, symbol: &Symbol<'a>) -> Result<(), PolicyFault>
+        ensures walk { OnOk result (step_joint self.old.walk at (seen symbol.now) ≡ Ok self.new.walk) }
+        ensures draft { OnOk result (self.new.draft ≡ draft_joint self.old.draft (seen symbol.now)) }
+        ensures fault { IfErr result (λ f. f ≢ PolicyFault.NoMemory → step_joint self.old.walk at (seen symbol.now) ≡ Err f) }
+    {
+        match *symbol {
+            Symbol::Close => {
+                self.walk.close(at)?;
+                self.draft.end_conjunction(alloc)?;
+                self.draft.close_group(alloc)?;
+                Ok(())
+            }
+            Symbol::Word(word) => self.step_joint_word(alloc, at, word),
+            _ => Err(PolicyFault::Expected(at)),
+        }
+    }
+}
+
+// Actions and what follows them.
+impl<'a> Reader<'a> {
+    fn step_action(&mut self, env: &Env, at: u32, symbol: &Symbol<'a>) -> Result<(), PolicyFault>
+        ensures walk { OnOk result (step_action env.now self.old.walk at (seen symbol.now) ≡ Ok self.new.walk) }
+        ensures draft { OnOk result (self.new.draft ≡ draft_action self.old.draft (seen symbol.now)) }
+        ensures fault { IfErr result (λ f. step_action env.now self.old.walk at (seen symbol.now) ≡ Err f) }
+    {
+        let Symbol::Word(word) = *symbol else {
+            return Err(PolicyFault::Expected(at));
+        };
+        if is(word, b"permit") {
+            self.walk.go(Place::Tail {
+                grant: true,
+                log: true,
+            });
+            self.draft.action = Action::Permit;
+        } else if is(word, b"deny") {
+            self.walk.go(Place::Denial);
+            self.draft.action = Action::Deny(Errno::EPERM);
+        } else if is(word, b"ask") {
+            if env.learn {
+                return Err(PolicyFault::AskWithLearn(at));
+            }
+            self.walk.go(Place::Tail {
+                grant: false,
+                log: true,
+            });
+            self.draft.action = Action::Ask;
+        } else {
+            return Err(PolicyFault::Expected(at));
+        }
+        Ok(())
+    }
+
+    fn step_clause(
+        &mut self,
+        alloc: Global,
+        env: &Env,
+        at: u32,
+        symbol: &Symbol<'a>,
+    ) -> Result<(), PolicyFault>
+        ensures walk { OnOk result (step_clause env.now self.old.walk at (seen symbol.now) ≡ Ok self.new.walk) }
+        ensures draft { OnOk result (self.new.draft ≡ draft_clause self.old.draft (seen symbol.now)) }
+        ensures fault { IfErr result (λ f. f ≢ PolicyFault.NoMemory → step_clause env.now self.old.walk at (seen symbol.now) ≡ Err f) }
+    {
+        if symbol.is_action() {
+            self.step_action(env, at, symbol)
+        } else {
+            self.step_operand(alloc, at, symbol)
+        }
+    }
+
+    fn step_as(&mut self, env: &Env, at: u32, log: bool) -> Result<(), PolicyFault>
+        ensures walk { OnOk result (step_as env.now self.old.walk at log ≡ Ok self.new.walk) }
+        ensures draft { self.new.draft ≡ self.old.draft }
+        ensures fault { IfErr result (λ f. step_as env.now self.old.walk at log ≡ Err f) }
+    {
+        if !env.elevate {
+            return Err(PolicyFault::ElevateWithoutIds(at));
+        }
+        if self.walk.sets_ids() {
+            return Err(PolicyFault::ElevateOnSetId(at));
+        }
+        self.walk.go(Place::Grant { log });
+        Ok(())
+    }
+
+    // `as` or `log`, where they may still come.
+    fn step_tail_word(
+        &mut self,
+        env: &Env,
+        grant: bool,
+        log: bool,
+        at: u32,
+        word: &'a [u8],
+    ) -> Result<(), PolicyFault>
+        ensures walk { OnOk result (step_tail env.now grant log self.old.walk at (Word word.now) ≡ Ok self.new.walk) }
+        ensures draft { OnOk result (self.new.draft ≡ draft_tail self.old.draft (Word word.now)) }
+        ensures fault { IfErr result (λ f. step_tail env.now grant log self.old.walk at (Word word.now) ≡ Err f) }
+    {
+        if is(word, b"as") && grant {
+            return self.step_as(env, at, log);
+        }
+        self.only(
+            at,
+            is(word, b"log") && log,
+            Place::Tail { grant, log: false },
+        )?;
+        self.draft.log = true;
+        Ok(())
+    }
+
+    fn step_tail(
+        &mut self,
+        env: &Env,
+        grant: bool,
+        log: bool,
+        at: u32,
+        symbol: &Symbol<'a>,
+    ) -> Result<(), PolicyFault>
+        ensures walk { OnOk result (step_tail env.now grant log self.old.walk at (seen symbol.now) ≡ Ok self.new.walk) }
+        ensures draft { OnOk result (self.new.draft ≡ draft_tail self.old.draft (seen symbol.now)) }
+        ensures fault { IfErr result (λ f. step_tail env.now grant log self.old.walk at (seen symbol.now) ≡ Err f) }
+    {
+        match *symbol {
+            Symbol::Line => {
+                self.walk.go(Place::Row);
+                Ok(())
+            }
+            Symbol::Comma => {
+                self.walk.go(Place::If);
+                Ok(())
+            }
+            Symbol::Word(word) => self.step_tail_word(env, grant, log, at, word),
+            _ => Err(PolicyFault::Expected(at)),
+        }
+    }
+
+    fn step_denial(&mut self, env: &Env, at: u32, symbol: &Symbol<'a>) -> Result<(), PolicyFault>
+        ensures walk { OnOk result (step_denial env.now self.old.walk at (seen symbol.now) ≡ Ok self.new.walk) }
+        ensures draft { OnOk result (self.new.draft ≡ draft_tail self.old.draft (seen symbol.now)) }
+        ensures fault { IfErr result (λ f. step_denial env.now self.old.walk at (seen symbol.now) ≡ Err f) }
+    {
+        match *symbol {
+            Symbol::OpenBracket => {
+                self.walk.go(Place::Error);
+                Ok(())
+            }
+            _ => self.step_tail(env, false, true, at, symbol),
+        }
+    }
+
+    fn step_error(&mut self, at: u32, symbol: &Symbol<'a>) -> Result<(), PolicyFault>
+        ensures walk { OnOk result (step_error self.old.walk at (seen symbol.now) ≡ Ok self.new.walk) }
+        ensures draft { OnOk result (self.new.draft ≡ draft_error self.old.draft (seen symbol.now)) }
+        ensures fault { IfErr result (λ f. step_error self.old.walk at (seen symbol.now) ≡ Err f) }
+    {
+        let Symbol::Word(word) = *symbol else {
+            return Err(PolicyFault::Expected(at));
+        };
+        let Some(errno) = Errno::of_word(word) else {
+            return Err(PolicyFault::UnknownError(at));
+        };
+        self.walk.go(Place::ErrorEnd);
+        self.draft.action = Action::Deny(errno);
+        Ok(())
+    }
+}
+
+// Ids.
+impl<'a> Reader<'a> {
+    fn step_grant(
+        &mut self,
+        env: &Env,
+        log: bool,
+        at: u32,
+        symbol: &Symbol<'a>,
+    ) -> Result<(), PolicyFault>
+        ensures walk { OnOk result (step_grant env.now log self.old.walk at (seen symbol.now) ≡ Ok self.new.walk) }
+        ensures draft { OnOk result (self.new.draft ≡ draft_grant env.now self.old.draft (seen symbol.now)) }
+        ensures fault { IfErr result (λ f. step_grant env.now log self.old.walk at (seen symbol.now) ≡ Err f) }
+    {
+        let user = match *symbol {
+            Symbol::Colon => {
+                self.walk.go(Place::Group { log });
+                None
+            }
+            Symbol::Word(word) => {
+                let Some(user) = id_of(env.users.as_slice(), word) else {
+                    return Err(PolicyFault::UnknownUser(at));
+                };
+                self.walk.go(Place::User { log });
+                Some(user)
+            }
+            _ => return Err(PolicyFault::Expected(at)),
+        };
+        self.draft.grant = Some(Grant { user, group: None });
+        Ok(())
+    }
+
+    fn step_user(
+        &mut self,
+        env: &Env,
+        log: bool,
+        at: u32,
+        symbol: &Symbol<'a>,
+    ) -> Result<(), PolicyFault>
+        ensures walk { OnOk result (step_user env.now log self.old.walk at (seen symbol.now) ≡ Ok self.new.walk) }
+        ensures draft { OnOk result (self.new.draft ≡ draft_tail self.old.draft (seen symbol.now)) }
+        ensures fault { IfErr result (λ f. step_user env.now log self.old.walk at (seen symbol.now) ≡ Err f) }
+    {
+        match *symbol {
+            Symbol::Colon => {
+                self.walk.go(Place::Group { log });
+                Ok(())
+            }
+            _ => self.step_tail(env, false, log, at, symbol),
+        }
+    }
+
+    fn step_group(
+        &mut self,
+        env: &Env,
+        log: bool,
+        at: u32,
+        symbol: &Symbol<'a>,
+    ) -> Result<(), PolicyFault>
+        ensures walk { OnOk result (step_id env.now.groups self.old.walk at (Place.Tail false log) (seen symbol.now) ≡ Ok self.new.walk) }
+        ensures draft { OnOk result (self.new.draft ≡ draft_group env.now self.old.draft (seen symbol.now)) }
+        ensures fault { IfErr result (λ f. step_id env.now.groups self.old.walk at (Place.Tail false log) (seen symbol.now) ≡ Err f) }
+    {
+        let Symbol::Word(word) = *symbol else {
+            return Err(PolicyFault::Expected(at));
+        };
+        let group = id_of(env.groups.as_slice(), word);
+        if group.is_none() {
+            return Err(PolicyFault::UnknownUser(at));
+        }
+        self.walk.go(Place::Tail { grant: false, log });
+        if let Some(grant) = self.draft.grant {
+            self.draft.grant = Some(Grant {
+                user: grant.user,
+                group,
+            });
+        }
+        Ok(())
+    }
+
+    fn step_who(&mut self, at: u32, symbol: &Symbol<'a>) -> Result<(), PolicyFault>
+        ensures walk { OnOk result (step_who self.old.walk at (word_who (seen symbol.now)) ≡ Ok self.new.walk) }
+        ensures draft { self.new.draft ≡ self.old.draft }
+        ensures fault { IfErr result (λ f. step_who self.old.walk at (word_who (seen symbol.now)) ≡ Err f) }
+    {
+        let Symbol::Word(word) = *symbol else {
+            return Err(PolicyFault::Expected(at));
+        };
+        let Some(who) = who_named(word) else {
+            return Err(PolicyFault::Expected(at));
+        };
+        self.walk.go(Place::Comparison(who));
+        Ok(())
+    }
+
+    fn step_comparison(&mut self, who: Who, at: u32, cmp: Option<Cmp>) -> Result<(), PolicyFault>
+        ensures walk { OnOk result (step_comparison who self.old.walk at cmp ≡ Ok self.new.walk) }
+        ensures draft { OnOk result (self.new.draft ≡ draft_comparison self.old.draft cmp) }
+        ensures fault { IfErr result (λ f. step_comparison who self.old.walk at cmp ≡ Err f) }
+    {
+        let Some(cmp) = cmp else {
+            return Err(PolicyFault::Expected(at));
+        };
+        self.walk.go(Place::Id(who));
+        self.draft.cmp = cmp;
+        Ok(())
+    }
+
+    fn step_id(
+        &mut self,
+        env: &Env,
+        who: Who,
+        at: u32,
+        symbol: &Symbol<'a>,
+    ) -> Result<(), PolicyFault>
+        ensures walk { OnOk result (step_id (names_for env.now who) self.old.walk at Place.FilterEnd (seen symbol.now) ≡ Ok self.new.walk) }
+        ensures draft { OnOk result (self.new.draft ≡ draft_id env.now who self.old.draft (seen symbol.now)) }
+        ensures fault { IfErr result (λ f. step_id (names_for env.now who) self.old.walk at Place.FilterEnd (seen symbol.now) ≡ Err f) }
+    {
+        let Symbol::Word(word) = *symbol else {
+            return Err(PolicyFault::Expected(at));
+        };
+        let Some(id) = id_of(names_for(env, who), word) else {
+            return Err(PolicyFault::UnknownUser(at));
+        };
+        self.walk.go(Place::FilterEnd);
+        self.draft.predicate = Some(Predicate {
+            who,
+            cmp: self.draft.cmp,
+            id,
+        });
+        Ok(())
+    }
+}
+
+// All places.
+impl<'a> Reader<'a> {
+    /// Takes in a symbol at every place but a header's binary.
+    pub(crate) fn step(
+        &mut self,
+        alloc: Global,
+        env: &Env,
+        at: u32,
+        symbol: &Symbol<'a>,
+    ) -> Result<(), PolicyFault>
+        requires { is_binary_place self.old.walk.place ≡ false }
+        ensures walk { (known : List (List ℕ)) → OnOk result (next env.now known self.old.walk at (seen symbol.now) ≡ Ok self.new.walk) }
+        ensures draft { OnOk result (self.new.draft ≡ draft_step env.now self.old.walk.label self.old.draft (seen symbol.now) self.old.walk.place) }
+        ensures fault { (known : List (List ℕ)) → IfErr result (λ f. f ≢ PolicyFault.NoMemory → next env.now known self.old.walk at (seen symbol.now) ≡ Err f) }
+    {
+        match self.walk.place() {
+            Place::Start => self.step_start(at, symbol),
+            Place::Row => self.step_row(alloc, at, symbol),
+            Place::PolicyColon => self.only(at, symbol.is_colon(), Place::Binary),
+            Place::Binary => unreachable!(),
+            Place::Comma => self.only(at, symbol.is_comma(), Place::Emulation),
+            Place::Emulation => {
+                self.only(at, symbol.is_keyword(b"Emulation"), Place::EmulationColon)
+            }
+            Place::EmulationColon => self.only(at, symbol.is_colon(), Place::System),
+            Place::System => self.step_system(at, symbol),
+            Place::NameColon => self.only(at, symbol.is_colon(), Place::Clause),
+            Place::Clause => self.step_clause(alloc, env, at, symbol),
+            Place::Operand => self.step_operand(alloc, at, symbol),
+            Place::Label => self.step_label(at, symbol),
+            Place::Index => self.step_index(at, symbol),
+            Place::IndexEnd => self.only(at, symbol.is_close_bracket(), Place::Operator),
+            Place::Operator => self.step_operator(at, symbol),
+            Place::Text => self.step_text(alloc, env, at, symbol),
+            Place::Joint => self.step_joint(alloc, at, symbol),
+            Place::Action => self.step_action(env, at, symbol),
+            Place::Denial => self.step_denial(env, at, symbol),
+            Place::Error => self.step_error(at, symbol),
+            Place::ErrorEnd => self.only(
+                at,
+                symbol.is_close_bracket(),
+                Place::Tail {
+                    grant: false,
+                    log: true,
+                },
+            ),
+            Place::Tail { grant, log } => self.step_tail(env, grant, log, at, symbol),
+            Place::Grant { log } => self.step_grant(env, log, at, symbol),
+            Place::User { log } => self.step_user(env, log, at, symbol),
+            Place::Group { log } => self.step_group(env, log, at, symbol),
+            Place::If => self.only(at, symbol.is_keyword(b"if"), Place::Who),
+            Place::Who => self.step_who(at, symbol),
+            Place::Comparison(who) => self.step_comparison(who, at, symbol.comparison()),
+            Place::Id(who) => self.step_id(env, who, at, symbol),
+            Place::HeaderEnd => self.only(at, symbol.is_line(), Place::Row),
+            Place::FilterEnd => self.only(at, symbol.is_line(), Place::Row),
+        }
+    }
+
+    /// The filter that the row has spelled; nothing is left of its draft.
+    pub(crate) fn take_filter(&mut self, alloc: Global) -> Result<Filter, AllocError>
+        ensures filter { IfOk result (λ filter. filter ≡ filter_of self.old.walk.name self.old.draft) }
+        ensures walk { self.new.walk ≡ self.old.walk }
+        ensures draft { OnOk result (self.new.draft ≡ first_draft) }
+    {
+        let name = self.walk.filter_name(alloc)?;
+        Ok(replace(&mut self.draft, Draft::new(alloc)).filter(name))
+    }
+}
