@@ -3,7 +3,7 @@ use Rattle.std.specs.Prelude.{ℕ, List, reverse}
 use Rattle.st_law.specs.History.{session_at}
 use Rattle.st_law.specs.declared.input.Input.{Input}
 use Rattle.st_learn.specs.Learnt.{learnt_policies}
-use Rattle.st_policy.specs.Canon.{canon}
+use Rattle.st_printing.specs.Canon.{canon}
 use Rattle.st_trace.specs.declared.entry.Entry.{Entry}
 
 -- the canonical text of the policies that were read with what the session behind a trace has added

@@ -24,6 +24,12 @@ formula (expr.Not' p e) = Not (formula e)
 formula (expr.And' p e q f) = And (formula e) (formula f)
 formula (expr.Or' p e q f) = Or (formula e) (formula f)
 
+-- the levels of an expression's text: operands bind closest, then those that `and` joins, then those that `or` joins
+pub data Level : Type 0 where
+  Operand : Level
+  Conjunction : Level
+  Disjunction : Level
+
 -- a filter, without where its parts lie in memory
 pub record FilterValue : Type 0 where
   pub name : FilterName

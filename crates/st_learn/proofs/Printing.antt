@@ -17,7 +17,7 @@ use Rattle.st_law.specs.Sessions.{SessionFilter}
 use Rattle.st_lex.specs.Pieces.{Sign, print}
 use Rattle.st_lex.specs.declared.token.TokenKind.TheVariants as kind
 use Rattle.st_lex.proofs.Pieces.{print-append}
-use Rattle.st_policy.specs.Canon.{canon, canon_filter, filter_pieces, header_pieces, policy_pieces, row_pieces, set_pieces}
+use Rattle.st_printing.specs.Canon.{canon, canon_filter, filter_pieces, header_pieces, policy_pieces, row_pieces, set_pieces}
 use Rattle.st_learn.specs.Learnt.{all_policies, empty_policy, filters_added, learnt_so_far, rows_text, with_policy, with_session}
 use Rattle.st_learn.proofs.Filters.{filters_at, is_any, with_kind}
 use Rattle.st_learn.specs.Sessions.{is_first_at, is_of, places_from, places_of}

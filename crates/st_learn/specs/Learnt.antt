@@ -8,7 +8,7 @@ use Rattle.st_filter.specs.declared.filter.FilterName.TheVariants as name
 use Rattle.st_filter.specs.declared.set.BinaryPolicy.{BinaryPolicy}
 use Rattle.st_law.specs.Sessions.{SessionFilter}
 use Rattle.st_lex.specs.Pieces.{print}
-use Rattle.st_policy.specs.Canon.{canon, filter_pieces, row_pieces}
+use Rattle.st_printing.specs.Canon.{canon, filter_pieces, row_pieces}
 use Rattle.st_learn.specs.Sessions.{is_of}
 
 -- the filters that a session has for a policy, of whatever rule, in order

@@ -1,12 +1,12 @@
 // The policies with what a session has added, as text.
 ghost use Rattle.std.specs.Prelude.{◌≡◌, ◌+◌, ◌<◌, ◌++◌, ◌∷◌, [], length, map, IfOk, OnOk};
 ghost use Rattle.st_learn.specs.Learnt.{empty_policy, filters_added, learnt_policies, learnt_so_far, rows_text, with_session};
-ghost use Rattle.st_policy.specs.Canon.{canon};
+ghost use Rattle.st_printing.specs.Canon.{canon};
 
 use crate::session::Session;
 use st_base::Text;
 use st_filter::{Filter, Policy, PolicySet};
-use st_policy::{print_filter, print_policies};
+use st_printing::{print_filter, print_policies};
 use std::alloc::{AllocError, Global};
 
 // Appends the row of a policy's header, which is all that is printed of one without filters.

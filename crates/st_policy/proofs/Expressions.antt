@@ -14,8 +14,8 @@ use Rattle.st_lex.specs.Unquote.{unquoted}
 use Rattle.st_policy.specs.Diagram.{GrammarState, StepResult, joined, step_op, step_indexed}
 use Rattle.st_policy.specs.Draft.{Draft, Reading, Reduced, reduced, PendingOperand, Negation, Group, settle, close_either, close_group, joins_both, joins_either, reading_step, draft_step, draft_after, set_after}
 use Rattle.st_policy.specs.Draft as draft
-use Rattle.st_filter.specs.Formula.{Formula, True, Test, And}
-use Rattle.st_policy.specs.Grammar.{Level, Operand, Conjunction, Disjunction, Spells, Always, First, Indexed, Negated, Grouped, OneOperand, Both, OneConjunction, Either, is_join, most_joins}
+use Rattle.st_filter.specs.Formula.{Formula, True, Test, And, Level, Operand, Conjunction, Disjunction}
+use Rattle.st_policy.specs.Grammar.{Spells, Always, First, Indexed, Negated, Grouped, OneOperand, Both, OneConjunction, Either, is_join, most_joins}
 use Rattle.st_policy.specs.Symbol.{Symbol, Word, Quoted, Open, Close, OpenBracket, CloseBracket}
 use Rattle.st_policy.specs.Words.{is_label, may_test, op_named, index_in}
 use Rattle.st_policy.proofs.Keywords.{IsOther, label-other, joins-label, joins-op, joins-index, joins-append, joins-first}

@@ -12,8 +12,8 @@ use Rattle.st_filter.specs.declared.set.BinaryPolicy.{BinaryPolicy}
 use Rattle.st_policy.specs.Diagram.{GrammarState, is_action, binaries, step_name, step_binary}
 use Rattle.st_policy.specs.Draft.{Draft, Reading, Reduced, first_draft, close_either, new_policy, reading_step}
 use Rattle.st_filter.specs.Policies.{add_filter, has_policy}
-use Rattle.st_filter.specs.Formula.{Formula, True, FilterValue}
-use Rattle.st_policy.specs.Grammar.{Level, Spells, Always, First, Indexed, Negated, Grouped, OneOperand, Both, OneConjunction, Either, IsCondition, Short, Then, IsFilter, IsHeader, binary_of, is_join, most_joins}
+use Rattle.st_filter.specs.Formula.{Formula, True, FilterValue, Level}
+use Rattle.st_policy.specs.Grammar.{Spells, Always, First, Indexed, Negated, Grouped, OneOperand, Both, OneConjunction, Either, IsCondition, Short, Then, IsFilter, IsHeader, binary_of, is_join, most_joins}
 use Rattle.st_policy.specs.Symbol.{Symbol, Word, Quoted, Colon, Comma, Open, Close, OpenBracket, CloseBracket, Line}
 use Rattle.st_policy.specs.Words.{is_label, filter_name}
 use Rattle.st_policy.proofs.Keywords.{IsOther, label-other, not-keyword}

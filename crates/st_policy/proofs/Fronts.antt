@@ -19,8 +19,8 @@ use Rattle.st_policy.specs.declared.place.Place.TheVariants as place
 use Rattle.st_filter.specs.declared.set.BinaryPolicy.{BinaryPolicy}
 use Rattle.st_policy.specs.Diagram.{GrammarState, StepResult}
 use Rattle.st_policy.specs.Draft.{Draft, Reading, Reduced, PendingOperand, first_draft, reading_step}
-use Rattle.st_filter.specs.Formula.{Formula, Test}
-use Rattle.st_policy.specs.Grammar.{Operand, Spells, IsCondition, IsAction, IsGrant, MayGrant, IsTail, IsPredicate, AreRows, AreNew, who_named, comparison, binary_of, is_join, most_joins}
+use Rattle.st_filter.specs.Formula.{Formula, Test, Operand}
+use Rattle.st_policy.specs.Grammar.{Spells, IsCondition, IsAction, IsGrant, MayGrant, IsTail, IsPredicate, AreRows, AreNew, who_named, comparison, binary_of, is_join, most_joins}
 use Rattle.st_filter.specs.Policies.{filters_in}
 use Rattle.st_policy.specs.Symbol.{Symbol, Word, Quoted, Colon, Comma, OpenBracket}
 use Rattle.st_policy.specs.Words.{is_label, filter_name, may_test, op_named, index_in, id_in}

@@ -12,8 +12,8 @@ use Rattle.st_policy.specs.declared.place.Place.TheVariants as place
 use Rattle.st_filter.specs.declared.set.BinaryPolicy.{BinaryPolicy}
 use Rattle.st_policy.specs.Diagram.{GrammarState, joined, step_op, step_indexed}
 use Rattle.st_policy.specs.Draft.{Draft, Reading, PendingOperand, settle, reading_step, read_step, draft_step}
-use Rattle.st_filter.specs.Formula.{Formula, True, Test}
-use Rattle.st_policy.specs.Grammar.{Operand, Spells, Always, First, Indexed, is_join, most_joins}
+use Rattle.st_filter.specs.Formula.{Formula, True, Test, Operand}
+use Rattle.st_policy.specs.Grammar.{Spells, Always, First, Indexed, is_join, most_joins}
 use Rattle.st_policy.specs.Symbol.{Symbol, Word, Quoted, Open, OpenBracket, CloseBracket}
 use Rattle.st_policy.specs.Words.{is_label, may_test, may_test_label, op_named, index_in}
 use Rattle.st_policy.proofs.Keywords.{joins-label, joins-op, joins-index, joins-append, joins-first}

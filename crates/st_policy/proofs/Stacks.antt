@@ -4,8 +4,8 @@ use Rattle.st_policy.specs.declared.env.Env.{Env}
 use Rattle.st_filter.specs.declared.filter.FilterName.{FilterName}
 use Rattle.st_policy.specs.Draft.{Reduced, reduced, PendingOperand, Negation, Group, settle, close_either, close_group}
 use Rattle.st_policy.specs.Draft as draft
-use Rattle.st_filter.specs.Formula.{Formula, Not, And}
-use Rattle.st_policy.specs.Grammar.{Operand, Conjunction, Disjunction, Spells, Negated, Grouped, OneOperand, Both, OneConjunction, Either}
+use Rattle.st_filter.specs.Formula.{Formula, Not, And, Operand, Conjunction, Disjunction}
+use Rattle.st_policy.specs.Grammar.{Spells, Negated, Grouped, OneOperand, Both, OneConjunction, Either}
 use Rattle.st_policy.specs.Symbol.{Symbol, Word, Open, Close}
 use Rattle.st_policy.proofs.Expressions.{IsBase, Outermost, Inside}
 

@@ -19,19 +19,13 @@ use Rattle.st_filter.specs.declared.filter.Predicate.{Predicate}
 use Rattle.st_filter.specs.declared.filter.Who.{Who}
 use Rattle.st_filter.specs.declared.filter.Who.TheVariants.{User, Group}
 use Rattle.st_filter.specs.declared.set.BinaryPolicy.{BinaryPolicy}
-use Rattle.st_filter.specs.Formula.{Formula, True, Test, Not, And, Or, FilterValue}
+use Rattle.st_filter.specs.Formula.{Formula, True, Test, Not, And, Or, FilterValue, Level, Operand, Conjunction, Disjunction}
 use Rattle.st_filter.specs.Policies.{filters_in, has_policy, with_filter}
 use Rattle.st_policy.specs.Symbol.{Symbol, Word, Quoted, Colon, Comma, Open, Close, OpenBracket, CloseBracket, Equal, NotEqual, Less, Greater, Line, symbol_of}
 use Rattle.st_policy.specs.Words.{is_label, filter_name, may_test, sets_ids, op_named, index_in, id_in, names_for}
 use Rattle.st_filter.specs.declared.set.TheConstants.{MOST_FILTERS}
 
 -- ---- expressions
-
--- operands bind closest, then those that `and` joins, then those that `or` joins
-pub data Level : Type 0 where
-  Operand : Level
-  Conjunction : Level
-  Disjunction : Level
 
 -- symbols spell an expression, in a filter of this name
 pub data Spells (env : Env) (name : FilterName) : Level → List Symbol → Formula → Type 0 where

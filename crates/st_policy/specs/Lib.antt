@@ -1,11 +1,9 @@
 pub mod Between
-pub mod Canon
 pub mod Diagram
 pub mod Draft
 pub mod Grammar
 pub mod Leftmost
 pub mod OneFilter
-pub mod Readable
 pub mod Refusals
 pub mod Stack
 pub mod Symbol

@@ -6,7 +6,6 @@ pub mod env;
 pub mod fault;
 pub mod one_filter;
 pub mod place;
-pub mod print;
 pub mod reader;
 mod stack;
 mod steps;
@@ -18,7 +17,6 @@ pub use env::{Env, NamedId};
 pub use fault::{PolicyFault, PolicyRefusal, Unsupported};
 pub use one_filter::{read_filter, what_is_read_is_a_filter};
 pub use place::Place;
-pub use print::{print_filter, print_policies, printed_policies_are_read_again};
 pub use reader::{read_policies, reading_is_one};
 pub use st_filter::{
     Action, BinaryPolicy, Cmp, Expr, Filter, FilterName, Grant, MOST_FILTERS, Op, Policy,

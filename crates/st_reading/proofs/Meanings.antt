@@ -11,7 +11,7 @@ use Rattle.st_policy.specs.Diagram.{fault_in}
 use Rattle.st_policy.specs.Grammar as policy
 use Rattle.st_policy.specs.declared.fault.PolicyFault.{PolicyFault}
 use Rattle.st_policy.specs.declared.fault.PolicyRefusal.{PolicyRefusal}
-use Rattle.st_policy.specs.Canon.{canon}
+use Rattle.st_printing.specs.Canon.{canon}
 use Rattle.st_policy.specs.Refusals.{place_in, refusal_in}
 use Rattle.st_policy.proofs.Complete.{reads-once, reads-faultless, faultless-reads}
 use Rattle.st_schedule.specs.Schedule.{schedule_in}

@@ -3,7 +3,7 @@ use Rattle.std.proofs.Common.{◌≡◌, ℕ, ◌+◌, ◌⊎◌, inl, inr, fals
 use Rattle.st_outside.specs.Count.{HasRisen}
 use Rattle.st_filter.specs.declared.set.BinaryPolicy.{BinaryPolicy}
 use Rattle.st_policy.specs.declared.env.Env.{Env}
-use Rattle.st_policy.specs.Canon.{canon}
+use Rattle.st_printing.specs.Canon.{canon}
 use Rattle.st_policy.specs.Refusals.{refusal_in}
 use Rattle.st_policy.specs.Grammar as policy
 use Rattle.st_law.specs.declared.input.Options.{Options}

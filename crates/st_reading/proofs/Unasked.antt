@@ -7,12 +7,11 @@ use Rattle.st_filter.specs.Policies.{with_filter}
 use Rattle.st_filter.specs.declared.filter.Action.{Action}
 use Rattle.st_filter.specs.declared.filter.Action.TheVariants as action
 use Rattle.st_filter.specs.declared.set.BinaryPolicy.{BinaryPolicy}
-use Rattle.st_policy.proofs.Rows.{each-append}
+use Rattle.st_base.proofs.Each.{each-append, each-parts}
 use Rattle.st_policy.specs.Grammar.{AreRows, NoRow, Blank, Header, FilterRow, IsAction, Permits, Denies, DeniesWith, Asks, Reads}
 use Rattle.st_policy.specs.Symbol.{Symbol}
 use Rattle.st_policy.specs.declared.env.Env.{Env}
 use Rattle.st_learn.specs.Learnt.{NoneAsks}
-use Rattle.st_script.proofs.Ungranted.{each_parts}
 
 abbrev DoesNotAsk : FilterValue → Type 0
 DoesNotAsk f = f.action ≢ action.Ask
@@ -32,7 +31,7 @@ rows_ask_nothing env learns (Blank ts ps rows) = rows_ask_nothing env learns row
 rows_ask_nothing env learns (Header ts row ps binary rows is) =
     each-append AsksNothing ps (record { binary = binary; filters = [] } ∷ []) (rows_ask_nothing env learns rows) (All-from_recursion DoesNotAsk [] tt, tt)
 rows_ask_nothing env learns (FilterRow ts row ps p f rows is) =
-    let before : AllByRecursion AsksNothing ps × AllByRecursion AsksNothing (p ∷ []) = each_parts AsksNothing ps (p ∷ []) (rows_ask_nothing env learns rows) in
+    let before : AllByRecursion AsksNothing ps × AllByRecursion AsksNothing (p ∷ []) = each-parts AsksNothing ps (p ∷ []) (rows_ask_nothing env learns rows) in
     let one : All DoesNotAsk (f ∷ []) = All-from_recursion DoesNotAsk (f ∷ []) (does_not_ask env learns is.action_is, tt) in
     each-append AsksNothing ps (with_filter p f ∷ []) before.0 (All-append DoesNotAsk p.filters (f ∷ []) before.1.0 one, tt)
 

@@ -13,7 +13,8 @@ use st_base::Text;
 use st_command::{CheckWords, Command, StepWords};
 use st_law::{Input, ReadSchedule};
 use st_outside::Files;
-use st_policy::{Env, print_policies};
+use st_policy::Env;
+use st_printing::print_policies;
 use st_script::ReadScript;
 use std::alloc::Global;
 

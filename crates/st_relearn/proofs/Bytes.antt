@@ -7,11 +7,11 @@ use Rattle.st_lex.specs.Quote.{AreBytes, escaped_byte, hex_digit, quoted, quoted
 use Rattle.st_lex.specs.Quoted.{backslash, quote_mark}
 use Rattle.st_lex.specs.declared.token.TokenKind.{TokenKind}
 use Rattle.st_lex.specs.declared.token.TokenKind.TheVariants as kind
-use Rattle.st_policy.specs.Canon.{canon, set_pieces}
-use Rattle.st_policy.specs.Readable.{AreTextBytes, Behind, HasPlainDollars, HasSmallIds, Nothing, WasRead}
+use Rattle.st_printing.specs.Canon.{canon, set_pieces}
+use Rattle.st_reread.specs.Readable.{AreTextBytes, Behind, HasPlainDollars, HasSmallIds, Nothing, WasRead}
 use Rattle.st_policy.specs.declared.env.Env.{Env}
 use Rattle.st_relearn.specs.Writable.{AreWritable}
-use Rattle.st_relearn.proofs.Names.{each_append}
+use Rattle.st_base.proofs.Each.{each-append}
 use Rattle.st_relearn.proofs.Texts.{AreSmall}
 use Rattle.st_relearn.proofs.Writing.{read_is_writable, well_written, word_text, written_is_read}
 
@@ -37,10 +37,10 @@ byte_small b small = by ((b == quote_mark) || (b == backslash)) ((b == 36) || (n
 
 bytes_small : (bs : List ℕ) → AreBytes bs → AreSmall (quoted_bytes bs)
 bytes_small [] plain = tt
-bytes_small (b ∷ bs) plain = each_append IsByte (quoted_byte b) (quoted_bytes bs) (byte_small b plain.1) (bytes_small bs plain.2)
+bytes_small (b ∷ bs) plain = each-append IsByte (quoted_byte b) (quoted_bytes bs) (byte_small b plain.1) (bytes_small bs plain.2)
 
 quoted_small : (bs : List ℕ) → AreBytes bs → AreSmall (quoted bs)
-quoted_small bs plain = (omega arith, each_append IsByte (quoted_bytes bs) (quote_mark ∷ []) (bytes_small bs plain) (omega arith, tt))
+quoted_small bs plain = (omega arith, each-append IsByte (quoted_bytes bs) (quote_mark ∷ []) (bytes_small bs plain) (omega arith, tt))
 
 sign_small : (k : TokenKind) → AreSmall (sign_bytes k)
 sign_small kind.Word = tt
@@ -50,9 +50,9 @@ sign_small _ = (omega arith, tt)
 
 pieces_small : (ps : List Piece) → StandWell ps → AreSmall (print ps)
 pieces_small [] well = tt
-pieces_small (PlainWord word ∷ ps) well = each_append IsByte word (print ps) (text_small word (word_text word well.0)) (pieces_small ps well.2)
-pieces_small (QuotedText text ∷ ps) well = each_append IsByte (quoted text) (print ps) (quoted_small text well.0) (pieces_small ps well.1)
-pieces_small (Sign k ∷ ps) well = each_append IsByte (sign_bytes k) (print ps) (sign_small k) (pieces_small ps well.1)
+pieces_small (PlainWord word ∷ ps) well = each-append IsByte word (print ps) (text_small word (word_text word well.0)) (pieces_small ps well.2)
+pieces_small (QuotedText text ∷ ps) well = each-append IsByte (quoted text) (print ps) (quoted_small text well.0) (pieces_small ps well.1)
+pieces_small (Sign k ∷ ps) well = each-append IsByte (sign_bytes k) (print ps) (sign_small k) (pieces_small ps well.1)
 pieces_small (Space ∷ ps) well = (omega arith, pieces_small ps well)
 
 -- what can be written was read from what is written

@@ -44,7 +44,8 @@ use Rattle.st_law.proofs.ShortOutcomes.{Fits, fits_of}
 use Rattle.st_law.proofs.ShortTrees.{AreFit}
 use Rattle.st_relearn.specs.Plain.{AreWritableCopies, HasPlainTexts, IsPlainProcess}
 use Rattle.st_relearn.specs.Writable.{IsWritableBinary}
-use Rattle.st_relearn.proofs.Names.{AreNames, ArePlainLooks, HasPlainLinks, IsPlainSeen, each_append, look_plain}
+use Rattle.st_base.proofs.Each.{each-append}
+use Rattle.st_relearn.proofs.Names.{AreNames, ArePlainLooks, HasPlainLinks, IsPlainSeen, look_plain}
 use Rattle.st_relearn.proofs.Outcomes.{ArePlainChanges, IsPlainChange, plain_effect}
 use Rattle.st_relearn.proofs.Parts.{ArePlainArgs, IsReadyWith, held_plain, texts_plain, unheld_plain}
 use Rattle.st_relearn.proofs.Trees.{rows_plain, tree_plain}
@@ -189,7 +190,7 @@ module _ (i : Input) (st : State) (s : Short i st) (x : IsPlainState st) where
   -- ---- every entry
 
   looks_more : (b : Bool) (before : List SeenText) (seen : SeenText) → ArePlainLooks before → IsPlainSeen seen → ArePlainLooks (cond b (before ++ seen ∷ []) before)
-  looks_more true before seen all here = each_append IsPlainSeen before (seen ∷ []) all (here, tt)
+  looks_more true before seen all here = each-append IsPlainSeen before (seen ∷ []) all (here, tt)
   looks_more false before seen all here = all
 
   plain_behind : (e : Entry) → IsLawful i st e → IsPlainState (state_after i st e)

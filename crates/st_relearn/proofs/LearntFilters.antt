@@ -16,11 +16,11 @@ use Rattle.st_calls.specs.declared.rule.Rule.TheVariants.{Call, FsRead, FsWrite}
 use Rattle.st_lex.specs.Pieces.{Piece, PlainWord, QuotedText, Sign, Space, is_word_text, sign_bytes}
 use Rattle.st_lex.specs.Quote.{AreBytes}
 use Rattle.st_lex.specs.declared.token.TokenKind.TheVariants as kind
-use Rattle.st_filter.specs.Formula.{Formula, And}
+use Rattle.st_filter.specs.Formula.{Formula, And, Conjunction}
 use Rattle.st_filter.specs.declared.filter.FilterName.TheVariants as name
 use Rattle.st_law.specs.Sessions.{learnt_filter, learnt_formula, test_of}
-use Rattle.st_policy.specs.Canon.{expression_pieces, in_parens, index_pieces, needs_no_parens}
-use Rattle.st_policy.specs.Grammar.{Conjunction, is_join}
+use Rattle.st_printing.specs.Canon.{expression_pieces, in_parens, index_pieces, needs_no_parens}
+use Rattle.st_policy.specs.Grammar.{is_join}
 use Rattle.st_policy.specs.Symbol.{Symbol, Word, symbol_by}
 use Rattle.st_policy.specs.Symbol as symbol
 use Rattle.st_policy.specs.Words.{is_label}

@@ -2,6 +2,7 @@
 use Rattle.std.proofs.Common.{◌==◌, ◌<◌, ◌+◌, ◌-◌, ◌&&◌, ◌++◌, ℕ, zero, suc, Bool, true, false, cond, not, nat_eq, nat_lt, List, [], ◌∷◌, length, take, filter, flat_map, codes, slice_get, Option, Some, None, arith}
 use Rattle.std.specs.List.{AllByRecursion, onto_first, slice_split, starts_with}
 use Rattle.st_base.specs.declared.errno.Errno.TheVariants.{ENOENT, ENOTDIR, ELOOP, ENAMETOOLONG}
+use Rattle.st_base.proofs.Each.{each-append}
 use Rattle.st_lex.specs.Quote.{AreBytes}
 use Rattle.st_model.specs.Tree.{Node, Tree, is_directory, look, look_along, node_at, node_of, object_of, seen_of, seen_of_kind, seen_through}
 use Rattle.st_model.specs.Walk.{Fault, Name, Next, WalkState, is_last, is_up, name_after_ups, resolve_within, rest_after_ups, start_of_name, start_walk, walk_end, walk_on, walk_through}
@@ -19,10 +20,6 @@ abbrev pub AreNames : Components → Type 0
 AreNames name = AllByRecursion AreBytes name
 
 -- ---- what holds of each of some items
-
-pub each_append : {X : Type 0} (P : X → Type 0) (xs ys : List X) → AllByRecursion P xs → AllByRecursion P ys → AllByRecursion P (xs ++ ys)
-each_append P [] ys x y = y
-each_append P (a ∷ xs) ys x y = (x.0, each_append P xs ys x.1 y)
 
 each_take : {X : Type 0} (P : X → Type 0) (n : ℕ) (xs : List X) → AllByRecursion P xs → AllByRecursion P (take n xs)
 each_take P zero xs x = tt
@@ -109,15 +106,15 @@ on_plain done [] n lookups follow d r l = end_plain done d
 on_plain done (part ∷ rest) n [] follow d r l = tt
 on_plain done (part ∷ rest) n (Dir ∷ lookups) follow d r l =
     on_plain (name_after_ups (done ++ part ∷ []) rest) (rest_after_ups rest) n lookups follow
-    (done_plain (done ++ part ∷ []) rest (each_append AreBytes done (part ∷ []) d (r.0, tt))) (rest_plain rest r.1) l.1
+    (done_plain (done ++ part ∷ []) rest (each-append AreBytes done (part ∷ []) d (r.0, tt))) (rest_plain rest r.1) l.1
 on_plain done (part ∷ rest) n (File ∷ lookups) follow d r l =
-    either_walk (is_last rest) (walk_end (done ++ part ∷ [])) (Fault ENOTDIR) (end_plain (done ++ part ∷ []) (each_append AreBytes done (part ∷ []) d (r.0, tt))) tt
+    either_walk (is_last rest) (walk_end (done ++ part ∷ [])) (Fault ENOTDIR) (end_plain (done ++ part ∷ []) (each-append AreBytes done (part ∷ []) d (r.0, tt))) tt
 on_plain done (part ∷ rest) n (Missing ∷ lookups) follow d r l =
-    either_walk (is_last rest) (walk_end (done ++ part ∷ [])) (Fault ENOENT) (end_plain (done ++ part ∷ []) (each_append AreBytes done (part ∷ []) d (r.0, tt))) tt
+    either_walk (is_last rest) (walk_end (done ++ part ∷ [])) (Fault ENOENT) (end_plain (done ++ part ∷ []) (each-append AreBytes done (part ∷ []) d (r.0, tt))) tt
 on_plain done (part ∷ rest) n (NotDir ∷ lookups) follow d r l = tt
 on_plain done (part ∷ rest) n (Link text ∷ lookups) follow d r l =
-    let more : AreNames (components_of text ++ rest) = each_append AreBytes (components_of text) rest (components_plain text l.0) r.1 in
-    either_walk (is_last rest && not follow) (walk_end (done ++ part ∷ [])) _ (end_plain (done ++ part ∷ []) (each_append AreBytes done (part ∷ []) d (r.0, tt)))
+    let more : AreNames (components_of text ++ rest) = each-append AreBytes (components_of text) rest (components_plain text l.0) r.1 in
+    either_walk (is_last rest && not follow) (walk_end (done ++ part ∷ [])) _ (end_plain (done ++ part ∷ []) (each-append AreBytes done (part ∷ []) d (r.0, tt)))
     (either_walk (nat_eq n MOST_LINKS) (Fault ELOOP) (walk_on (name_after_ups (start_of_name text done) (components_of text ++ rest)) (rest_after_ups (components_of text ++ rest)) (n + 1) lookups follow) tt
     (on_plain (name_after_ups (start_of_name text done) (components_of text ++ rest)) (rest_after_ups (components_of text ++ rest)) (n + 1) lookups follow
     (done_plain (start_of_name text done) (components_of text ++ rest) (begun_plain text done d)) (rest_plain (components_of text ++ rest) more) l.1))
@@ -191,4 +188,4 @@ pub resolved_plain : (looks : ℕ) (tree : Tree) (cwd : Components) (text : List
 resolved_plain zero tree cwd text follow lookups links c t l = walk_plain text cwd follow lookups t c l
 resolved_plain (suc looks) tree cwd text follow lookups links c t l =
     further_plain (λ name. resolve_within looks tree cwd text follow (lookups ++ look tree name ∷ [])) (start_walk text cwd follow lookups) (walk_plain text cwd follow lookups t c l)
-    (λ name. resolved_plain looks tree cwd text follow (lookups ++ look tree name ∷ []) links c t (each_append IsPlainSeen lookups (look tree name ∷ []) l (look_plain tree name links, tt)))
+    (λ name. resolved_plain looks tree cwd text follow (lookups ++ look tree name ∷ []) links c t (each-append IsPlainSeen lookups (look tree name ∷ []) l (look_plain tree name links, tt)))

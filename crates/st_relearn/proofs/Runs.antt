@@ -27,14 +27,14 @@ use Rattle.st_law.specs.declared.input.Mode.TheVariants.{Learn, AskText}
 use Rattle.st_learn.specs.Learnt.{NoneAsks, learnt_policies}
 use Rattle.st_learn.specs.Permitted.{IsPermittedBy}
 use Rattle.st_policy.specs.Grammar.{Reads}
-use Rattle.st_policy.specs.Readable.{WasRead, HasPlainDollars, HasSmallIds}
+use Rattle.st_reread.specs.Readable.{WasRead, HasPlainDollars, HasSmallIds}
 use Rattle.st_policy.specs.declared.env.Env.{Env}
 use Rattle.st_relearn.specs.Plain.{AreWritableCopies, HasPlainTexts}
 use Rattle.st_relearn.specs.Relearnt.{HasWritableReplies, IsWritableKept, ReadsAndPermits, policy_text}
 use Rattle.st_relearn.specs.Writable.{AreWritable, IsWritableAction, IsWritableFilter, IsWritablePolicy}
 use Rattle.st_relearn.proofs.Keeping.{copies_of_runs}
 use Rattle.st_relearn.proofs.LearntFilters.{learnt_is_writable}
-use Rattle.st_relearn.proofs.Names.{each_append}
+use Rattle.st_base.proofs.Each.{each-append}
 use Rattle.st_relearn.proofs.Sessions.{learnt_is_read}
 use Rattle.st_relearn.proofs.Writing.{read_is_writable}
 
@@ -66,11 +66,11 @@ module _ (env : Env) where
     session_kept : (h : History) → IsLawfulBack i h → AllByRecursion (IsWritableKept env) (session_at i h)
     session_kept [] lawful = tt
     session_kept (Learned q n ∷ h) lawful =
-        each_append (IsWritableKept env) (session_at i h) (learnt_by (snapshot_of_message q (message_at i h q))) (session_kept h lawful.1)
+        each-append (IsWritableKept env) (session_at i h) (learnt_by (snapshot_of_message q (message_at i h q))) (session_kept h lawful.1)
         (learnt_kept (snapshot_of_message q (message_at i h q)) (copies_of_runs i startable texts h lawful.1 q))
     session_kept (Replied q reply n ∷ h) lawful =
         let y : IsReplied i (looking_back i h) q reply n = lawful.0 in
-        each_append (IsWritableKept env) (session_at i h) (replied_by (item_at_number i.replies reply) (snapshot_of_message q (message_at i h q))) (session_kept h lawful.1)
+        each-append (IsWritableKept env) (session_at i h) (replied_by (item_at_number i.replies reply) (snapshot_of_message q (message_at i h q))) (session_kept h lawful.1)
         (replied_kept (item_at_number i.replies reply) (snapshot_of_message q (message_at i h q))
         (reply_of i.replies reply (recursion_from_All (λ given. IsWritableFilter env given.filter) i.replies (replies y.mode)))
         (copies_of_runs i startable texts h lawful.1 q))

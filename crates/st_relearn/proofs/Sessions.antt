@@ -11,7 +11,7 @@ use Rattle.st_learn.specs.Learnt.{all_policies, empty_policy, filters_added, lea
 use Rattle.st_learn.specs.Sessions.{is_of}
 use Rattle.st_policy.specs.Grammar.{AreNew, Reads}
 use Rattle.st_policy.specs.declared.env.Env.{Env}
-use Rattle.st_policy.proofs.Rows.{each-append}
+use Rattle.st_base.proofs.Each.{each-append}
 use Rattle.st_relearn.specs.Relearnt.{IsWritableKept, policy_text}
 use Rattle.st_relearn.specs.Writable.{AreWritable, IsWritableBinary, IsWritableFilter, IsWritablePolicy}
 use Rattle.st_relearn.proofs.Writing.{AreNew-append, written_is_read}

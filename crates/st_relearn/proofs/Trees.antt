@@ -15,7 +15,8 @@ use Rattle.st_trace.specs.declared.start.TreeRow.{TreeRow}
 use Rattle.st_law.specs.Processes.{tree_with_row}
 use Rattle.st_law.proofs.ShortTrees.{AreFit, IsFit, IsPlainAt, IsShortStep, steps_of}
 use Rattle.st_relearn.specs.Plain.{HasPlainTarget}
-use Rattle.st_relearn.proofs.Names.{ArePlainNodes, HasPlainLinks, IsPlainContent, each_append}
+use Rattle.st_base.proofs.Each.{each-append}
+use Rattle.st_relearn.proofs.Names.{ArePlainNodes, HasPlainLinks, IsPlainContent}
 use Rattle.st_relearn.proofs.Outcomes.{ArePlainChanges, IsPlainChange}
 
 -- what is no link may have any content
@@ -47,7 +48,7 @@ no_link (node ∷ nodes) (suc place) at = no_link nodes place at
 -- ---- changes
 
 push_plain : (nodes : List Node) (node : Node) → ArePlainNodes nodes → IsPlainContent node.kind node.content → ArePlainNodes (nodes ++ node ∷ [])
-push_plain nodes node all here = each_append (λ n. IsPlainContent n.kind n.content) nodes (node ∷ []) all (here, tt)
+push_plain nodes node all here = each-append (λ n. IsPlainContent n.kind n.content) nodes (node ∷ []) all (here, tt)
 
 change_plain : (tree : Tree) (c : Change) → IsFit tree.objects c → IsPlainChange c → HasPlainLinks tree → HasPlainLinks (tree_after_change tree c)
 change_plain tree (Made name obj kind uid gid mode) fit plain all = push_plain tree.objects (node_of_kind kind uid gid mode) all (made_plain kind plain)

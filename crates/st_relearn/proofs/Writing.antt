@@ -26,20 +26,21 @@ use Rattle.st_filter.specs.declared.filter.Grant.{Grant}
 use Rattle.st_filter.specs.declared.filter.Predicate.{Predicate}
 use Rattle.st_filter.specs.declared.set.BinaryPolicy.{BinaryPolicy}
 use Rattle.st_filter.specs.declared.set.TheConstants.{MOST_FILTERS}
-use Rattle.st_policy.specs.Canon.{canon, expression_pieces, set_pieces}
+use Rattle.st_printing.specs.Canon.{canon, expression_pieces, set_pieces}
 use Rattle.st_policy.specs.Grammar.{AreRows, AreNew, Reads, is_join, symbols_in}
-use Rattle.st_policy.specs.Readable.{WasRead, Nothing, Behind, HasPlainDollars, HasSmallIds}
+use Rattle.st_reread.specs.Readable.{WasRead, Nothing, Behind, HasPlainDollars, HasSmallIds}
 use Rattle.st_policy.specs.Symbol.{Symbol, Word, Quoted, Line, symbol_by}
 use Rattle.st_policy.specs.Words.{if_name, is_name_byte, name_by}
 use Rattle.st_policy.specs.declared.env.Env.{Env}
-use Rattle.st_policy.proofs.Headers.{IsReadableBinary}
-use Rattle.st_policy.proofs.Names.{IsReadableName}
-use Rattle.st_policy.proofs.PrintedClauses.{AreIds, IsReadableAction, IsReadableCondition, IsReadableGrant, IsReadablePredicate}
-use Rattle.st_policy.proofs.PrintedExpressions.{IsReadableFormula, sum-first}
-use Rattle.st_policy.proofs.PrintedFilters.{IsReadableFilter}
-use Rattle.st_policy.proofs.PrintedTexts.{symbols_in-print, printable_symbols}
-use Rattle.st_policy.proofs.Rows.{AreReadable, IsReadablePolicy, each-append, readable_rows, are_rows, well_set}
-use Rattle.st_policy.proofs.Symbols.{piece_symbols, ArePrintable, ArePrintable-append}
+use Rattle.st_reread.proofs.Headers.{IsReadableBinary}
+use Rattle.st_reread.proofs.Names.{IsReadableName}
+use Rattle.st_reread.proofs.PrintedClauses.{AreIds, IsReadableAction, IsReadableCondition, IsReadableGrant, IsReadablePredicate}
+use Rattle.st_reread.proofs.PrintedExpressions.{IsReadableFormula, sum-first}
+use Rattle.st_reread.proofs.PrintedFilters.{IsReadableFilter}
+use Rattle.st_reread.proofs.PrintedTexts.{symbols_in-print, printable_symbols}
+use Rattle.st_base.proofs.Each.{each-append}
+use Rattle.st_reread.proofs.Rows.{AreReadable, IsReadablePolicy, readable_rows, are_rows, well_set}
+use Rattle.st_reread.proofs.Symbols.{piece_symbols, ArePrintable, ArePrintable-append}
 use Rattle.st_relearn.specs.Writable.{AreGranted, AreWritable, HasWritableTests, IsWritableAction, IsWritableBinary, IsWritableExpression, IsWritableFilter, IsWritableGrant, IsWritableName, IsWritablePolicy, IsWritablePredicate, joins_of}
 
 -- ---- names

@@ -1,6 +1,6 @@
 -- What a script gives, so that what its run learns can be written.
 use Rattle.std.specs.List.{All}
-use Rattle.st_policy.specs.Readable.{HasPlainDollars, HasSmallIds}
+use Rattle.st_reread.specs.Readable.{HasPlainDollars, HasSmallIds}
 use Rattle.st_script.specs.declared.reading.ReadScript.{ReadScript}
 use Rattle.st_relearn.specs.Plain.{HasPlainTexts}
 use Rattle.st_relearn.specs.Writable.{IsWritableFilter}

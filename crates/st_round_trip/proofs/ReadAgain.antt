@@ -27,7 +27,7 @@ use Rattle.st_law.proofs.Laws.{run_lawful}
 use Rattle.st_learn.specs.Learnt.{learnt_policies}
 use Rattle.st_outside.specs.Files.{FileView, Unknown, Absent, FileBytes, CanHold}
 use Rattle.st_policy.specs.Grammar.{Reads}
-use Rattle.st_policy.specs.Readable.{AreTextBytes, HasPlainDollars, HasSmallIds, WasRead, Nothing, Behind}
+use Rattle.st_reread.specs.Readable.{AreTextBytes, HasPlainDollars, HasSmallIds, WasRead, Nothing, Behind}
 use Rattle.st_policy.specs.declared.env.Env.{Env}
 use Rattle.st_reading.specs.Meaning.{Held, Means, Runs}
 use Rattle.st_reading.specs.Runnable.{IsRunnable}

@@ -5,7 +5,7 @@ use Rattle.st_command.specs.Words.{Word}
 use Rattle.st_filter.specs.declared.set.BinaryPolicy.{BinaryPolicy}
 use Rattle.st_outside.specs.Files.{FileView, Unknown, Absent, FileBytes, CanHold}
 use Rattle.st_policy.specs.Grammar.{Reads}
-use Rattle.st_policy.specs.Readable.{AreTextBytes}
+use Rattle.st_reread.specs.Readable.{AreTextBytes}
 use Rattle.st_policy.specs.declared.env.Env.{Env}
 use Rattle.st_reading.specs.Meaning.{Held}
 use Rattle.st_script.specs.Reading.{script_in}

@@ -14,7 +14,7 @@ use Rattle.st_names.specs.Name.{printed_name}
 use Rattle.st_names.specs.declared.limits.TheConstants.{LONGEST_NAME}
 use Rattle.st_lex.specs.Rows.{rows}
 use Rattle.st_lex.specs.Tokens.{lexed_text}
-use Rattle.st_policy.proofs.Rows.{each-append}
+use Rattle.st_base.proofs.Each.{each-append}
 use Rattle.st_script_faults.specs.Faults.{Whole, first_fault, threads_behind}
 use Rattle.st_script_faults.specs.Names.{Name, Names, has_name, no_names, with_says}
 use Rattle.st_statements.specs.Lines.{looked_at}

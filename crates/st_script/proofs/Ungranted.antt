@@ -14,7 +14,7 @@ use Rattle.st_filter.specs.declared.filter.FilterName.TheVariants as name
 use Rattle.st_filter.specs.declared.filter.Grant.{Grant}
 use Rattle.st_filter.specs.declared.set.BinaryPolicy.{BinaryPolicy}
 use Rattle.st_law.specs.Schedules.{sets_ids as call_sets_ids}
-use Rattle.st_policy.proofs.Rows.{each-append}
+use Rattle.st_base.proofs.Each.{each-append, each-parts}
 use Rattle.st_policy.specs.Grammar.{AreRows, NoRow, Blank, Header, FilterRow, IsFilter, IsTail, Plain, Logs, Grants, GrantsAndLogs, LogsAndGrants, MayGrant, Reads}
 use Rattle.st_policy.specs.Symbol.{Symbol}
 use Rattle.st_policy.specs.Words.{is_set_id, sets_ids}
@@ -53,10 +53,6 @@ filter_ungranted env row f filter is = ungranted env f.name f.action filter.tail
 
 -- ---- policies
 
-pub each_parts : {A : Type 0} (P : A → Type 0) (xs ys : List A) → AllByRecursion P (xs ++ ys) → AllByRecursion P xs × AllByRecursion P ys
-each_parts P [] ys all = (tt, all)
-each_parts P (x ∷ xs) ys all = let rest : AllByRecursion P xs × AllByRecursion P ys = each_parts P xs ys all.1 in ((all.0, rest.0), rest.1)
-
 abbrev IsUngrantedPolicy : BinaryPolicy → Type 0
 IsUngrantedPolicy policy = All IsUngrantedForSetting policy.filters
 
@@ -66,7 +62,7 @@ rows_ungranted env (Blank ts ps rows) = rows_ungranted env rows
 rows_ungranted env (Header ts row ps binary rows is) =
     each-append IsUngrantedPolicy ps (record { binary = binary; filters = [] } ∷ []) (rows_ungranted env rows) (All-from_recursion IsUngrantedForSetting [] tt, tt)
 rows_ungranted env (FilterRow ts row ps p f rows is) =
-    let before : AllByRecursion IsUngrantedPolicy ps × AllByRecursion IsUngrantedPolicy (p ∷ []) = each_parts IsUngrantedPolicy ps (p ∷ []) (rows_ungranted env rows) in
+    let before : AllByRecursion IsUngrantedPolicy ps × AllByRecursion IsUngrantedPolicy (p ∷ []) = each-parts IsUngrantedPolicy ps (p ∷ []) (rows_ungranted env rows) in
     let one : All IsUngrantedForSetting (f ∷ []) = All-from_recursion IsUngrantedForSetting (f ∷ []) (filter_ungranted env row f is, tt) in
     each-append IsUngrantedPolicy ps (with_filter p f ∷ []) before.0 (All-append IsUngrantedForSetting p.filters (f ∷ []) before.1.0 one, tt)
 

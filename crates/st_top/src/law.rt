@@ -8,7 +8,7 @@ ghost use Rattle.st_law.specs.Machine.{run};
 ghost use Rattle.st_law.specs.declared.input.Input.{Input};
 ghost use Rattle.st_law.specs.declared.input.Mode.TheVariants.{Learn};
 ghost use Rattle.st_law.specs.declared.input.ReadSchedule.{ReadSchedule};
-ghost use Rattle.st_policy.specs.Canon.{canon};
+ghost use Rattle.st_printing.specs.Canon.{canon};
 ghost use Rattle.st_reading.specs.Meaning.{Held, AreTold, Means, Runs};
 ghost use Rattle.st_top.specs.Ends.{names_asked};
 ghost use Rattle.st_top.specs.Learning.{PermitsWhatWasMade, policies_behind};

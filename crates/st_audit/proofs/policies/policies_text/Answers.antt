@@ -3,7 +3,7 @@ use Rattle.std.proofs.lemmas.Result.{IfOk-weaker}
 use Rattle.st_law.specs.History.{session_at}
 use Rattle.st_law.specs.Sessions.{SessionFilter}
 use Rattle.st_learn.specs.Learnt.{learnt_policies}
-use Rattle.st_policy.specs.Canon.{canon}
+use Rattle.st_printing.specs.Canon.{canon}
 use Rattle.st_trace.specs.declared.entry.Entry.{Entry}
 use Rattle.st_audit.specs.PolicyText.{policy_text}
 use Rattle.st_audit.proofs.policies.policies_text.Goals as goal

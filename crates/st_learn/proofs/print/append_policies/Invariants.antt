@@ -1,6 +1,6 @@
 use Rattle.std.proofs.Common.{◌≡◌, ◌++◌, map, take}
 use Rattle.st_learn.specs.Learnt.{with_session}
-use Rattle.st_policy.specs.Canon.{canon}
+use Rattle.st_printing.specs.Canon.{canon}
 use Rattle.st_learn.proofs.print.append_policies.Given as goal
 
 -- the policies so far stand behind the text

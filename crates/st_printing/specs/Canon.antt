@@ -1,0 +1,174 @@
+-- The canonical text of policies, piece by piece.
+use Rattle.std.specs.Prelude.{ℕ, ◌==◌, if◌then◌else◌, Bool, true, false, List, [], ◌∷◌, ◌++◌, codes, decimal, Option, Some, None}
+use Rattle.std.specs.List.{flat_map}
+use Rattle.st_base.specs.declared.errno.Errno.{Errno}
+use Rattle.st_base.specs.declared.errno.Errno.TheVariants.{EPERM}
+use Rattle.st_base.specs.Errno.{word_of_error}
+use Rattle.st_calls.specs.Call.{name_of_rule}
+use Rattle.st_lex.specs.declared.token.TokenKind.TheVariants as kind
+use Rattle.st_lex.specs.Pieces.{Piece, PlainWord, QuotedText, Sign, Space, print, is_word_text}
+use Rattle.st_filter.specs.declared.filter.Action.{Action}
+use Rattle.st_filter.specs.declared.filter.Action.TheVariants.{Permit, Deny, Ask}
+use Rattle.st_filter.specs.declared.filter.Cmp.{Cmp}
+use Rattle.st_filter.specs.declared.filter.Cmp.TheVariants as cmp
+use Rattle.st_filter.specs.declared.filter.FilterName.{FilterName}
+use Rattle.st_filter.specs.declared.filter.FilterName.TheVariants as name
+use Rattle.st_filter.specs.declared.filter.Grant.{Grant}
+use Rattle.st_filter.specs.declared.filter.Op.{Op}
+use Rattle.st_filter.specs.declared.filter.Op.TheVariants as op
+use Rattle.st_filter.specs.declared.filter.Predicate.{Predicate}
+use Rattle.st_filter.specs.declared.filter.Who.{Who}
+use Rattle.st_filter.specs.declared.filter.Who.TheVariants as who
+use Rattle.st_filter.specs.declared.set.BinaryPolicy.{BinaryPolicy}
+use Rattle.st_filter.specs.Formula.{Formula, True, Test, Not, And, Or, FilterValue, Level, Operand, Conjunction, Disjunction}
+
+-- ---- expressions
+
+-- how a policy writes an operator
+abbrev pub word_of_op : Op → List ℕ
+word_of_op op.Match = codes "match"
+word_of_op op.Eq = codes "eq"
+word_of_op op.Neq = codes "neq"
+word_of_op op.Sub = codes "sub"
+word_of_op op.Nsub = codes "nsub"
+word_of_op op.Inpath = codes "inpath"
+
+-- index 0 isn't printed
+abbrev pub index_pieces : ℕ → List Piece
+index_pieces index =
+    if index == 0 then [] else Sign kind.OpenBracket ∷ PlainWord (decimal index) ∷ Sign kind.CloseBracket ∷ []
+
+-- a test, as it is printed
+abbrev pub test_pieces : List ℕ → ℕ → Op → List ℕ → List Piece
+test_pieces label index op text =
+    PlainWord label ∷ index_pieces index ++ Space ∷ PlainWord (word_of_op op) ∷ Space ∷ QuotedText text ∷ []
+
+-- whether an expression stands at a level without parentheses
+abbrev pub needs_no_parens : Level → Formula → Bool
+needs_no_parens Operand (And f g) = false
+needs_no_parens Operand (Or f g) = false
+needs_no_parens Conjunction (Or f g) = false
+needs_no_parens level f = true
+
+-- the pieces of an expression, between parentheses where it doesn't fit without them
+abbrev pub in_parens : Bool → List Piece → List Piece
+in_parens true pieces = pieces
+in_parens false pieces = Sign kind.Open ∷ pieces ++ Sign kind.Close ∷ []
+
+-- `and` and `or` bind to the left, so a right operand of the same operator has parentheses
+abbrev pub expression_pieces : Formula → List Piece
+expression_pieces True = PlainWord (codes "true") ∷ []
+expression_pieces (Test label index op text) = test_pieces label index op text
+expression_pieces (Not f) = PlainWord (codes "not") ∷ Space ∷ in_parens (needs_no_parens Operand f) (expression_pieces f)
+expression_pieces (And f g) =
+    in_parens (needs_no_parens Conjunction f) (expression_pieces f) ++ Space ∷ PlainWord (codes "and") ∷ Space ∷
+    in_parens (needs_no_parens Operand g) (expression_pieces g)
+expression_pieces (Or f g) =
+    in_parens (needs_no_parens Disjunction f) (expression_pieces f) ++ Space ∷ PlainWord (codes "or") ∷ Space ∷
+    in_parens (needs_no_parens Conjunction g) (expression_pieces g)
+
+-- where every call is meant, the short form has no expression
+abbrev pub condition_pieces : Formula → List Piece
+condition_pieces True = []
+condition_pieces f = expression_pieces f ++ Space ∷ PlainWord (codes "then") ∷ Space ∷ []
+
+-- ---- actions and what follows them
+
+-- whether an error is EPERM
+abbrev pub is_eperm : Errno → Bool
+is_eperm EPERM = true
+is_eperm _ = false
+
+-- EPERM isn't printed
+abbrev pub deny_pieces : Errno → List Piece
+deny_pieces errno =
+    if is_eperm errno then PlainWord (codes "deny") ∷ []
+    else PlainWord (codes "deny") ∷ Sign kind.OpenBracket ∷ PlainWord (word_of_error errno) ∷ Sign kind.CloseBracket ∷ []
+
+-- an action, as it is printed
+abbrev pub action_pieces : Action → List Piece
+action_pieces Permit = PlainWord (codes "permit") ∷ []
+action_pieces (Deny errno) = deny_pieces errno
+action_pieces Ask = PlainWord (codes "ask") ∷ []
+
+-- the user of a grant, if there is one
+abbrev pub user_pieces : Option ℕ → List Piece
+user_pieces None = []
+user_pieces (Some id) = PlainWord (decimal id) ∷ []
+
+-- the group of a grant, if there is one, behind a colon
+abbrev pub group_pieces : Option ℕ → List Piece
+group_pieces None = []
+group_pieces (Some id) = Sign kind.Colon ∷ PlainWord (decimal id) ∷ []
+
+-- a grant behind `as`, if there is one
+abbrev pub grant_pieces : Option Grant → List Piece
+grant_pieces None = []
+grant_pieces (Some g) = Space ∷ PlainWord (codes "as") ∷ Space ∷ user_pieces g.user ++ group_pieces g.group
+
+-- `log`, where a filter has it
+abbrev pub log_pieces : Bool → List Piece
+log_pieces false = []
+log_pieces true = Space ∷ PlainWord (codes "log") ∷ []
+
+-- how a policy writes whose id a predicate looks at
+abbrev pub word_of_who : Who → List ℕ
+word_of_who who.User = codes "user"
+word_of_who who.Group = codes "group"
+
+-- the sign of a comparison of ids
+abbrev pub cmp_piece : Cmp → Piece
+cmp_piece cmp.Same = Sign kind.Equal
+cmp_piece cmp.Other = Sign kind.NotEqual
+cmp_piece cmp.Below = Sign kind.Less
+cmp_piece cmp.Above = Sign kind.Greater
+
+-- a predicate behind `if`, if there is one
+abbrev pub predicate_pieces : Option Predicate → List Piece
+predicate_pieces None = []
+predicate_pieces (Some p) =
+    Sign kind.Comma ∷ Space ∷ PlainWord (codes "if") ∷ Space ∷ PlainWord (word_of_who p.who) ∷ Space ∷ cmp_piece p.cmp ∷ Space ∷
+    PlainWord (decimal p.id) ∷ []
+
+-- ---- rows
+
+-- the rule or the call that a filter is for, as it is written behind `native-`
+abbrev pub call_word : FilterName → List ℕ
+call_word (name.Rule rule) = name_of_rule rule
+call_word (name.Other word) = word
+
+-- a filter, as it is printed in its row
+abbrev pub filter_pieces : FilterValue → List Piece
+filter_pieces f =
+    PlainWord (codes "native-" ++ call_word f.name) ∷ Sign kind.Colon ∷ Space ∷
+    condition_pieces f.formula ++ action_pieces f.action ++ grant_pieces f.grant ++ log_pieces f.log ++ predicate_pieces f.predicate
+
+-- the canonical text of one filter
+abbrev pub canon_filter : FilterValue → List ℕ
+canon_filter f = print (filter_pieces f)
+
+-- a binary is a Word where its bytes allow it
+abbrev pub binary_piece : List ℕ → Piece
+binary_piece binary = if is_word_text binary then PlainWord binary else QuotedText binary
+
+-- the header of a binary's policy, as it is printed in its row
+abbrev pub header_pieces : List ℕ → List Piece
+header_pieces binary =
+    PlainWord (codes "Policy") ∷ Sign kind.Colon ∷ Space ∷ binary_piece binary ∷ Sign kind.Comma ∷ Space ∷
+    PlainWord (codes "Emulation") ∷ Sign kind.Colon ∷ Space ∷ PlainWord (codes "native") ∷ []
+
+-- each row ends with a newline
+abbrev pub row_pieces : List Piece → List Piece
+row_pieces pieces = pieces ++ Sign kind.Line ∷ []
+
+-- a policy, as it is printed: the row of its header, and the rows of its filters
+abbrev pub policy_pieces : BinaryPolicy → List Piece
+policy_pieces p = row_pieces (header_pieces p.binary) ++ flat_map (λ f. row_pieces (filter_pieces f)) p.filters
+
+-- the policies of a set, as they are printed, in order
+abbrev pub set_pieces : List BinaryPolicy → List Piece
+set_pieces policies = flat_map policy_pieces policies
+
+-- the canonical text of a set of policies
+abbrev pub canon : List BinaryPolicy → List ℕ
+canon policies = print (set_pieces policies)

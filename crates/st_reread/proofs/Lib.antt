@@ -1,0 +1,11 @@
+pub mod Headers
+pub mod Joins
+pub mod Names
+pub mod Numbers
+pub mod PrintedClauses
+pub mod PrintedExpressions
+pub mod PrintedFilters
+pub mod PrintedTexts
+pub mod Readings
+pub mod Rows
+pub mod Symbols

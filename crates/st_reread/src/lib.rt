@@ -1,0 +1,4 @@
+//! The canonical text of policies is read again as the same policies.
+#![tactic(auto)]
+
+pub mod law;
