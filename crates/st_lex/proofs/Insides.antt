@@ -123,7 +123,7 @@ positive zero zero never = absurd (never refl refl)
 positive zero (suc y) never = omega arith
 positive (suc x) y never = omega arith
 
-hex_byte_is : (h l : ℕ) → ((is_ascii_hexdigit h && is_ascii_hexdigit l) && not ((h == 48) && (l == 48))) ≡ true → IsHexDigit h × IsHexDigit l × IsHexByte h l
+pub hex_byte_is : (h l : ℕ) → ((is_ascii_hexdigit h && is_ascii_hexdigit l) && not ((h == 48) && (l == 48))) ≡ true → IsHexDigit h × IsHexDigit l × IsHexByte h l
 hex_byte_is h l e =
     let p = and_parts (is_ascii_hexdigit h && is_ascii_hexdigit l) (not ((h == 48) && (l == 48))) e in
     let q = and_parts (is_ascii_hexdigit h) (is_ascii_hexdigit l) p.0 in
@@ -206,7 +206,7 @@ closes_first b c cs small next pair rest n e f =
     (λ l. byte_is b 92 P (λ m. subst (λ (x : ℕ). Closes (x ∷ c ∷ cs)) (sym m) (closes_pair c cs next pair) n e f)
     (λ m. closes_plain b (c ∷ cs) small q l m rest n e f)))
 
-closing_len-one : (b : ℕ) → b ≢ 34 → closing_len (b ∷ []) ≡ None
+pub closing_len-one : (b : ℕ) → b ≢ 34 → closing_len (b ∷ []) ≡ None
 closing_len-one b q = grind (arith, nat_tests)
 
 -- what a quoted text without a fault has between its quotes

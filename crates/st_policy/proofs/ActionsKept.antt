@@ -115,7 +115,7 @@ module _ (env : Env) (old : List BinaryPolicy) (rows front : List Symbol) (w : G
       (subst (λ (us : List Symbol). OperandFront env w.name [] w.parens w.joins us) (sym f.none)
       (record { opens = Front; parens_are = f.no_parens; joins_are = f.no_joins; few = omega (arith, f.no_joins) }))
 
-  clause-operands : Facts env old rows front place.Clause w d set → Facts env old rows front place.Operand w d set
+  pub clause-operands : Facts env old rows front place.Clause w d set → Facts env old rows front place.Operand w d set
   clause-operands h = (clause-plain h, filter-map env old rows front w.filters w.name set _ _ h first-operand)
 
   first-action : (us : List Symbol) → IsFirst w d us → ActionFront env w.name d.expression.formula [] us
@@ -123,7 +123,7 @@ module _ (env : Env) (old : List BinaryPolicy) (rows front : List Symbol) (w : G
       subst (λ (d : Draft). ActionFront env w.name d.expression.formula [] us) (sym f.first)
       (record { condition = []; parts = f.none; condition_is = Short })
 
-  clause-actions : Facts env old rows front place.Clause w d set → Facts env old rows front place.Action w d set
+  pub clause-actions : Facts env old rows front place.Clause w d set → Facts env old rows front place.Action w d set
   clause-actions h = (clause-plain h, filter-map env old rows front w.filters w.name set _ _ h first-action)
 
   kept-clause_ask : Facts env old rows front place.Clause w d set → HasFacts env old rows (front ++ Word (codes "ask") ∷ []) (read_step env (places_of_reading place.Clause w d set) at (Word (codes "ask")))

@@ -31,7 +31,7 @@ is_below (p ∷ ps) = true
 abbrev pub AtRows : List BinaryPolicy → List BinaryPolicy → Reading → Type 0
 AtRows old ps = At (row_place (is_below ps)) (old ++ ps) (HasFilters (filters_in (old ++ ps)))
 
-below-last : (ps : List BinaryPolicy) (p : BinaryPolicy) → is_below (ps ++ p ∷ []) ≡ true
+pub below-last : (ps : List BinaryPolicy) (p : BinaryPolicy) → is_below (ps ++ p ∷ []) ≡ true
 below-last [] p = refl
 below-last (q ∷ qs) p = refl
 
@@ -82,7 +82,7 @@ module _ (env : Env) (old : List BinaryPolicy) where
   fewer-with : (ps : List BinaryPolicy) (p : BinaryPolicy) (f : FilterValue) → filters_in (old ++ (ps ++ with_filter p f ∷ [])) ≤ MOST_FILTERS → filters_in (old ++ (ps ++ p ∷ [])) ≤ MOST_FILTERS
   fewer-with ps p f few = omega (arith, few, filters-with (old ++ ps) p f, ap filters_in (append_assoc old ps (p ∷ [])), ap filters_in (append_assoc old ps (with_filter p f ∷ [])))
 
-  passes-rows : {ts : List Symbol} {ps : List BinaryPolicy} → AreRows env ts ps → AreNew old ps → filters_in (old ++ ps) ≤ MOST_FILTERS → Passes env (AtRows old []) ts (AtRows old ps)
+  pub passes-rows : {ts : List Symbol} {ps : List BinaryPolicy} → AreRows env ts ps → AreNew old ps → filters_in (old ++ ps) ≤ MOST_FILTERS → Passes env (AtRows old []) ts (AtRows old ps)
   passes-rows NoRow new few = passes-none env (AtRows old []) (AtRows old []) (λ r a. a)
   passes-rows (Blank ts ps rows) new few = passes-append env _ _ _ ts (Line ∷ []) (passes-rows rows new few) (passes-one env _ _ Line (step-blank env (old ++ ps) (filters_in (old ++ ps)) (is_below ps)))
   passes-rows (Header ts row ps binary rows h) new few =
@@ -121,7 +121,7 @@ from-over env text (t ∷ ts) r = behind-followed env text ts (from-over env tex
 at-set : (p : Place) (set : List BinaryPolicy) (H : GrammarState → Draft → Type 0) (r : Reading) → At p set H r → r.set ≡ set
 at-set p set H r (stands w d h) = refl
 
-first-rows : (old : List BinaryPolicy) → AtRows old [] (first_reading old)
+pub first-rows : (old : List BinaryPolicy) → AtRows old [] (first_reading old)
 first-rows old =
     subst (λ (xs : List BinaryPolicy). At place.Start xs (HasFilters (filters_in xs)) (first_reading old)) (sym (append-nil old))
     (stands (first_reading old).walk (first_reading old).draft (record { filters_are = refl }))

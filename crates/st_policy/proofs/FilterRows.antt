@@ -142,7 +142,7 @@ row_place true = place.Row
 row_place false = place.Start
 
 module _ (env : Env) (set : List BinaryPolicy) (n : ℕ) where
-  step-policy : (b : Bool) → Step1 env (At (row_place b) set (HasFilters n)) (Word (codes "Policy")) (At place.PolicyColon set (HasFilters n))
+  pub step-policy : (b : Bool) → Step1 env (At (row_place b) set (HasFilters n)) (Word (codes "Policy")) (At place.PolicyColon set (HasFilters n))
   step-policy false at r (stands w d h) = record { reading = places_of_reading place.PolicyColon w d set; step = refl; holds = stands w d h }
   step-policy true at r (stands w d h) = record { reading = places_of_reading place.PolicyColon w first_draft set; step = refl; holds = stands w first_draft (record { filters_are = h.filters_are }) }
 

@@ -25,4 +25,3 @@ pub mod Sound
 pub mod Stacks
 pub mod TailsKept
 pub mod Texts
-pub mod WaysOn

@@ -158,13 +158,13 @@ line-is_sound env old rows front p w d set at h = tt
 -- ---- texts
 
 -- what the symbols so far have spelled
-record Stands (env : Env) (old : List BinaryPolicy) (done : List Symbol) (r : Reading) : Type 0 where
-  rows : List Symbol
-  front : List Symbol
-  parts : done ≡ rows ++ front
-  facts : Facts env old rows front r.walk.place r.walk r.draft r.set
+pub record Stands (env : Env) (old : List BinaryPolicy) (done : List Symbol) (r : Reading) : Type 0 where
+  pub rows : List Symbol
+  pub front : List Symbol
+  pub parts : done ≡ rows ++ front
+  pub facts : Facts env old rows front r.walk.place r.walk r.draft r.set
 
-abbrev StandsAfter : Env → List BinaryPolicy → List Symbol → Read → Type 0
+abbrev pub StandsAfter : Env → List BinaryPolicy → List Symbol → Read → Type 0
 StandsAfter env old done (Ok r) = Stands env old done r
 StandsAfter env old done (Err fault) = Unit {0}
 
@@ -176,7 +176,7 @@ by-line : (env : Env) (old : List BinaryPolicy) (rows front done : List Symbol) 
 by-line env old rows front done e (Ok r) h = record { rows = (rows ++ front) ++ Line ∷ []; front = []; parts = ap (λ (ts : List Symbol). ts ++ Line ∷ []) e ∙ sym (append-nil ((rows ++ front) ++ Line ∷ [])); facts = h.facts }
 by-line env old rows front done e (Err fault) h = tt
 
-stands-step : (env : Env) (old : List BinaryPolicy) (done : List Symbol) (r : Reading) (at : ℕ) (s : Symbol) → Stands env old done r → StandsAfter env old (done ++ s ∷ []) (read_step env r at s)
+pub stands-step : (env : Env) (old : List BinaryPolicy) (done : List Symbol) (r : Reading) (at : ℕ) (s : Symbol) → Stands env old done r → StandsAfter env old (done ++ s ∷ []) (read_step env r at s)
 stands-step env old done r at Line h = by-line env old h.rows h.front done h.parts (read_step env r at Line) (line-is_sound env old h.rows h.front r.walk.place r.walk r.draft r.set at h.facts)
 stands-step env old done r at s h = by-holds env old h.rows h.front done s h.parts (read_step env r at s) (line-keeps env old h.rows h.front r.walk.place r.walk r.draft r.set at s refl h.facts)
 
@@ -193,7 +193,7 @@ module _ (env : Env) (text : List ℕ) (old : List BinaryPolicy) where
   sound-from [] done r h = subst (λ (us : List Symbol). LineHolds env old (us ++ Line ∷ []) (read_step env r (length text) Line)) (sym (append-nil done)) (line-step env old done r (length text) h)
   sound-from (t ∷ ts) done r h = sound-behind ts (symbol_of text t) (sound-from ts) done (read_step env r t.at (symbol_of text t)) (stands-step env old done r t.at (symbol_of text t) h)
 
-  first-stands : filters_in old ≤ MOST_FILTERS → Stands env old [] (first_reading old)
+  pub first-stands : filters_in old ≤ MOST_FILTERS → Stands env old [] (first_reading old)
   first-stands few = record {
     rows = [];
     front = [];
@@ -203,15 +203,15 @@ module _ (env : Env) (text : List ℕ) (old : List BinaryPolicy) where
 
 -- ---- what is no token fits nowhere
 
-abbrev IsFault : Read → Type 0
+abbrev pub IsFault : Read → Type 0
 IsFault (Ok r) = ⊥
 IsFault (Err fault) = Unit {0}
 
-fault-test : (env : Env) (r : Reading) (s : Symbol) (b : Bool) (x y : PolicyFault) → IsFault (reading_step env r s (if b then Err x else Err y))
+pub fault-test : (env : Env) (r : Reading) (s : Symbol) (b : Bool) (x y : PolicyFault) → IsFault (reading_step env r s (if b then Err x else Err y))
 fault-test env r s true x y = tt
 fault-test env r s false x y = tt
 
-broken-step : (env : Env) (p : Place) (w : GrammarState) (d : Draft) (set : List BinaryPolicy) (at : ℕ) → IsFault (read_step env (places_of_reading p w d set) at Broken)
+pub broken-step : (env : Env) (p : Place) (w : GrammarState) (d : Draft) (set : List BinaryPolicy) (at : ℕ) → IsFault (read_step env (places_of_reading p w d set) at Broken)
 broken-step env place.Label w d set at = fault-test env (places_of_reading place.Label w d set) Broken (may_test w.name w.label 0) (Expected at) (UnknownArgument w.label_at)
 broken-step env place.Index w d set at = fault-test env (places_of_reading place.Index w d set) Broken (may_test_label w.name w.label) (Expected at) (UnknownArgument w.label_at)
 broken-step env p w d set at = tt

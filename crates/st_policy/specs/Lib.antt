@@ -2,7 +2,6 @@ pub mod Between
 pub mod Diagram
 pub mod Draft
 pub mod Grammar
-pub mod Leftmost
 pub mod OneFilter
 pub mod Refusals
 pub mod Stack

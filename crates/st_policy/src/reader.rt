@@ -6,7 +6,6 @@ ghost use Rattle.st_policy.specs.Grammar.{Reads, if_absolute, binary_of};
 ghost use Rattle.st_filter.specs.Policies.{filters_in, add_filter};
 ghost use Rattle.st_policy.specs.Diagram.{lexical, fault_in};
 ghost use Rattle.st_policy.specs.Refusals.{place_from, place_in, refusal_in};
-ghost use Rattle.st_policy.specs.Leftmost.{HasNoWayOn};
 ghost use Rattle.st_policy.specs.Draft.{is_between_rows, is_binary_place, ends_filter, filter_of, first_draft, draft_after, set_after, as_reading, read_step, read_end, read_from, first_reading, set_of, policies_in};
 ghost use Rattle.st_filter.specs.declared.set.TheConstants.{MOST_FILTERS};
 
@@ -250,12 +249,9 @@ pub fn read_policies(
     Ok(())
 }
 
-/// A text has one reading at most, and one exactly where it has no fault. Where it has a fault, no text is read that is the same up
-/// to the token that doesn't fit, whatever follows there.
+/// A text has one reading at most, and one exactly where it has no fault.
 pub fn reading_is_one()
     ensures one { (text : List ℕ) (env : Env) (old a b : List BinaryPolicy) → Reads text env old a → Reads text env old b → a ≡ b }
     ensures faultless { (text : List ℕ) (env : Env) (old : List BinaryPolicy) → filters_in old ≤ MOST_FILTERS →
         (fault_in text env old ≡ None) ↔ ((set : List BinaryPolicy) × Reads text env old set) }
-    ensures leftmost { (text : List ℕ) (env : Env) (old : List BinaryPolicy) (fault : PolicyFault) → fault_in text env old ≡ Some fault →
-        HasNoWayOn text env old }
 {}

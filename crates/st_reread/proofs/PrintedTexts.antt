@@ -19,7 +19,7 @@ use Rattle.st_policy.specs.Grammar.{symbols_in}
 use Rattle.st_reread.specs.Readable.{AreTextBytes, HasPlainDollars}
 use Rattle.st_reread.proofs.Symbols.{spelled_symbol, piece_symbols, IsPrintable, ArePrintable}
 
-spelled-symbols : (text : List ℕ) (tokens : List Token) → map (symbol_of text) tokens ≡ map spelled_symbol (spelled_tokens text tokens)
+pub spelled-symbols : (text : List ℕ) (tokens : List Token) → map (symbol_of text) tokens ≡ map spelled_symbol (spelled_tokens text tokens)
 spelled-symbols text [] = refl
 spelled-symbols text (t ∷ ts) = ap (λ (us : List Symbol). symbol_of text t ∷ us) (spelled-symbols text ts)
 

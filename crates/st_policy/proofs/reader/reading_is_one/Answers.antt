@@ -1,5 +1,4 @@
 use Rattle.st_policy.proofs.Complete.{reads-once, faultless-iff}
-use Rattle.st_policy.proofs.WaysOn.{leftmost}
 use Rattle.st_policy.proofs.reader.reading_is_one.Goals as goal
 
 pub returns-clause-one : goal.returns-clause-one
@@ -7,6 +6,3 @@ returns-clause-one c = reads-once
 
 pub returns-clause-faultless : goal.returns-clause-faultless
 returns-clause-faultless c = faultless-iff
-
-pub returns-clause-leftmost : goal.returns-clause-leftmost
-returns-clause-leftmost c = leftmost

@@ -1,0 +1,109 @@
+-- A text has one first fault at most: the definition tells it from all others.
+use Rattle.std.proofs.Common.{◌≡◌, inl, inr, ℕ, ◌≤◌, List, [], ◌∷◌, ◌++◌, length, Option, None, Some, Ok, Err, refl, ap, sym, subst, ◌∙◌, append_assoc}
+use Rattle.std.proofs.lemmas.List.{map-append}
+use Rattle.st_lex.specs.declared.token.LexFault.{LexFault}
+use Rattle.st_lex.specs.declared.token.Token.{Token}
+use Rattle.st_lex.specs.Tokens.{lexed_text}
+use Rattle.st_policy.specs.declared.env.Env.{Env}
+use Rattle.st_policy.specs.declared.fault.PolicyFault.{PolicyFault}
+use Rattle.st_filter.specs.declared.set.BinaryPolicy.{BinaryPolicy}
+use Rattle.st_filter.specs.declared.set.TheConstants.{MOST_FILTERS}
+use Rattle.st_filter.specs.Policies.{filters_in}
+use Rattle.st_policy.specs.Draft.{Reading, read_step}
+use Rattle.st_first_fault.specs.FirstFault.{symbol_at_end, symbol_here, place_here, symbols_at, GoesOn, IsSpecial, Tells, Specially, Otherwise, IsFirstFault}
+use Rattle.st_policy.specs.Symbol.{Symbol, Line, symbol_of}
+use Rattle.st_first_fault.proofs.Completions.{Ending, MayEnd, a-line, ends-place}
+use Rattle.st_first_fault.proofs.MayStand.{goes-here}
+use Rattle.st_policy.proofs.Readings.{Read}
+use Rattle.st_policy.proofs.Sound.{IsFault, Stands, StandsAfter, stands-step, broken-step}
+use Rattle.st_first_fault.proofs.SpecialFaults.{Only, special-only}
+use Rattle.st_first_fault.proofs.WaysOn.{text-goes_on, goes-read, stands-behind}
+
+-- ---- two ways to cut the same tokens
+
+data Cuts (xs behind ys rest : List Token) : Type 0 where
+  Same : xs ≡ ys → behind ≡ rest → Cuts xs behind ys rest
+  Longer : (t : Token) (more : List Token) → ys ≡ xs ++ t ∷ more → behind ≡ t ∷ (more ++ rest) → Cuts xs behind ys rest
+  Shorter : (t : Token) (more : List Token) → xs ≡ ys ++ t ∷ more → rest ≡ t ∷ (more ++ behind) → Cuts xs behind ys rest
+
+cuts-more : (x y : Token) (xs behind ys rest : List Token) → x ≡ y → Cuts xs behind ys rest → Cuts (x ∷ xs) behind (y ∷ ys) rest
+cuts-more x y xs behind ys rest e (Same p q) = Same (ap (λ (ts : List Token). x ∷ ts) p ∙ ap (λ (t : Token). t ∷ ys) e) q
+cuts-more x y xs behind ys rest e (Longer t more p q) = Longer t more (ap (λ (ts : List Token). y ∷ ts) p ∙ ap (λ (t' : Token). t' ∷ (xs ++ t ∷ more)) (sym e)) q
+cuts-more x y xs behind ys rest e (Shorter t more p q) = Shorter t more (ap (λ (ts : List Token). x ∷ ts) p ∙ ap (λ (t' : Token). t' ∷ (ys ++ t ∷ more)) e) q
+
+cuts : (xs behind ys rest : List Token) → xs ++ behind ≡ ys ++ rest → Cuts xs behind ys rest
+cuts [] behind [] rest e = Same refl e
+cuts [] behind (y ∷ ys) rest e = Longer y ys refl e
+cuts (x ∷ xs) behind [] rest e = Shorter x xs refl (sym e)
+cuts (x ∷ xs) behind (y ∷ ys) rest e =
+    let others : xs ++ behind ≡ ys ++ rest = cc in
+    let first : x ≡ y = cc in
+    cuts-more x y xs behind ys rest first (cuts xs behind ys rest others)
+
+-- ---- what goes on
+
+goes-shorter : (env : Env) (old : List BinaryPolicy) (xs ys : List Symbol) → GoesOn env old (xs ++ ys) → GoesOn env old xs
+goes-shorter env old xs ys g = record { other = g.other; more = ys ++ g.more; set = g.set; parts = g.parts ∙ append_assoc xs ys g.more; reads = g.reads }
+
+module _ (text : List ℕ) (env : Env) (old : List BinaryPolicy) where
+  -- where a text goes on with more tokens it does with the first of them
+  goes-first : (xs behind ys rest : List Token) (t : Token) (more : List Token) → ys ≡ xs ++ t ∷ more → behind ≡ t ∷ (more ++ rest) → GoesOn env old (symbols_at text ys) → GoesOn env old (symbols_at text xs ++ symbol_here text behind ∷ [])
+  goes-first xs behind ys rest t more p q g =
+      let front : List Symbol = symbols_at text xs in
+      let whole : symbols_at text ys ≡ (front ++ symbol_of text t ∷ []) ++ symbols_at text more =
+      ap (symbols_at text) p ∙ map-append (symbol_of text) xs (t ∷ more) ∙ sym (append_assoc front (symbol_of text t ∷ []) (symbols_at text more)) in
+      let here : symbol_of text t ≡ symbol_here text behind = ap (symbol_here text) (sym q) in
+      subst (λ (s : Symbol). GoesOn env old (front ++ s ∷ [])) here (goes-shorter env old (front ++ symbol_of text t ∷ []) (symbols_at text more) (subst (GoesOn env old) whole g))
+
+  end-goes : (before : List Token) → (lexed_text text).tokens ≡ before ++ [] → (broken : Option LexFault) (r q : Reading) (at : ℕ) → read_step env r at (symbol_at_end broken) ≡ Ok q → Ending env old (symbols_at text before ++ symbol_at_end broken ∷ []) → GoesOn env old (symbols_at text before ++ symbol_at_end broken ∷ [])
+  end-goes before parts None r q at e ending = text-goes_on text env old before [] parts (Line ∷ []) a-line ending
+  end-goes before parts (Some broken) r q at e ending = absurd (subst IsFault e (broken-step env r.walk.place r.walk r.draft r.set at))
+
+  -- with a symbol behind which a row can be ended the text goes on
+  fits-on : (before behind : List Token) → (lexed_text text).tokens ≡ before ++ behind → (r q : Reading) → Stands env old (symbols_at text before) r → read_step env r (place_here text behind) (symbol_here text behind) ≡ Ok q → MayEnd q.walk.place q.walk → GoesOn env old (symbols_at text before ++ symbol_here text behind ∷ [])
+  fits-on before [] parts r q h e m =
+      let s : Symbol = symbol_here text [] in
+      let k : Stands env old (symbols_at text before ++ s ∷ []) q = subst (StandsAfter env old (symbols_at text before ++ s ∷ [])) e (stands-step env old (symbols_at text before) r (length text) s h) in
+      end-goes before parts (lexed_text text).fault r q (length text) e (subst (Ending env old) (sym k.parts) (ends-place env old k.rows k.front q.walk.place q.walk q.draft q.set m k.facts))
+  fits-on before (t ∷ ts) parts r q h e m =
+      let s : Symbol = symbol_of text t in
+      let k : Stands env old (symbols_at text before ++ s ∷ []) q = subst (StandsAfter env old (symbols_at text before ++ s ∷ [])) e (stands-step env old (symbols_at text before) r t.at s h) in
+      let same : symbols_at text (before ++ t ∷ []) ≡ symbols_at text before ++ s ∷ [] = map-append (symbol_of text) before (t ∷ []) in
+      let cut : (lexed_text text).tokens ≡ (before ++ t ∷ []) ++ ts = parts ∙ sym (append_assoc before (t ∷ []) ts) in
+      subst (GoesOn env old) same (goes-here text env old (before ++ t ∷ []) ts cut k.rows k.front (same ∙ k.parts) (ends-place env old k.rows k.front q.walk.place q.walk q.draft q.set m k.facts))
+
+  -- ---- what is told
+
+  told-by : (at : ℕ) (a b : PolicyFault) (x : Read) → ((q : Reading) → x ≡ Ok q → MayEnd q.walk.place q.walk → ⊥) → Only at a x → Only at b x → a ≡ b
+  told-by at a b (Err found) stops h k = sym h ∙ k
+  told-by at a b (Ok q) stops (inl m) k = absurd (stops q refl m)
+  told-by at a b (Ok q) stops (inr h) (inl m) = absurd (stops q refl m)
+  told-by at a b (Ok q) stops (inr h) (inr k) = h ∙ sym k
+
+  special-once : filters_in old ≤ MOST_FILTERS → (before behind : List Token) → (lexed_text text).tokens ≡ before ++ behind → GoesOn env old (symbols_at text before) → (GoesOn env old (symbols_at text before ++ symbol_here text behind ∷ []) → ⊥) → (a b : PolicyFault) →
+      IsSpecial text env old before (place_here text behind) (symbol_here text behind) a → IsSpecial text env old before (place_here text behind) (symbol_here text behind) b → a ≡ b
+  special-once few before behind parts goes stops a b h k =
+      let g = goes-read text env old before goes in
+      let at : ℕ = place_here text behind in
+      let s : Symbol = symbol_here text behind in
+      let stands : Stands env old (symbols_at text before) g.0 = stands-behind text env old before g.0 few g.1 in
+      told-by at a b (read_step env g.0 at s) (λ q e m. stops (fits-on before behind parts g.0 q stands e m))
+      (special-only text env old before g.0 g.1 at s a h) (special-only text env old before g.0 g.1 at s b k)
+
+  told-once : filters_in old ≤ MOST_FILTERS → (before behind : List Token) → (lexed_text text).tokens ≡ before ++ behind → GoesOn env old (symbols_at text before) → (GoesOn env old (symbols_at text before ++ symbol_here text behind ∷ []) → ⊥) → (a b : PolicyFault) →
+      Tells text env old before behind a → Tells text env old before behind b → a ≡ b
+  told-once few before behind parts goes stops a b (Specially fault h) (Specially other k) = special-once few before behind parts goes stops fault other h k
+  told-once few before behind parts goes stops a b (Specially fault h) (Otherwise none) = absurd (none fault h)
+  told-once few before behind parts goes stops a b (Otherwise none) (Specially other k) = absurd (none other k)
+  told-once few before behind parts goes stops a b (Otherwise none) (Otherwise no_other) = refl
+
+  once-by : filters_in old ≤ MOST_FILTERS → (a b : PolicyFault) (f : IsFirstFault text env old a) (g : IsFirstFault text env old b) → Cuts f.before f.behind g.before g.behind → a ≡ b
+  once-by few a b f g (Same p q) =
+      told-once few f.before f.behind f.parts f.goes_on f.stops a b f.told
+      (subst (λ (ts : List Token). Tells text env old ts f.behind b) (sym p) (subst (λ (ts : List Token). Tells text env old g.before ts b) (sym q) g.told))
+  once-by few a b f g (Longer t more p q) = absurd (f.stops (goes-first f.before f.behind g.before g.behind t more p q g.goes_on))
+  once-by few a b f g (Shorter t more p q) = absurd (g.stops (goes-first g.before g.behind f.before f.behind t more p q f.goes_on))
+
+  -- a text has one first fault at most
+  pub first-once : filters_in old ≤ MOST_FILTERS → (a b : PolicyFault) → IsFirstFault text env old a → IsFirstFault text env old b → a ≡ b
+  first-once few a b f g = once-by few a b f g (cuts f.before f.behind g.before g.behind (sym f.parts ∙ g.parts))

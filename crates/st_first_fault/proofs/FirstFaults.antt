@@ -1,0 +1,174 @@
+-- The first fault of a text is the one that is told of the first token that doesn't fit.
+use Rattle.std.proofs.Common.{◌≡◌, inl, inr, ℕ, ◌≤◌, false, List, [], ◌∷◌, ◌++◌, length, Option, None, Some, Ok, Err, refl, ap, sym, subst, ◌∙◌, append_assoc, append-nil}
+use Rattle.std.proofs.lemmas.List.{map-append}
+use Rattle.st_lex.specs.declared.token.LexFault.{LexFault}
+use Rattle.st_lex.specs.declared.token.Token.{Token}
+use Rattle.st_lex.specs.Tokens.{lexed_text}
+use Rattle.st_policy.specs.declared.env.Env.{Env}
+use Rattle.st_policy.specs.declared.fault.PolicyFault.{PolicyFault}
+use Rattle.st_policy.specs.declared.fault.PolicyFault.TheVariants.{Expected, UnknownArgument}
+use Rattle.st_policy.specs.declared.place.Place.{Place}
+use Rattle.st_policy.specs.declared.place.Place.TheVariants as place
+use Rattle.st_filter.specs.declared.set.BinaryPolicy.{BinaryPolicy}
+use Rattle.st_filter.specs.declared.set.TheConstants.{MOST_FILTERS}
+use Rattle.st_filter.specs.Policies.{filters_in}
+use Rattle.st_policy.specs.Diagram.{StepResult, lexical, next, binaries, fault_in}
+use Rattle.st_policy.specs.Draft.{Reading, reading_step, read_step, first_reading}
+use Rattle.st_first_fault.specs.FirstFault.{symbol_here, place_here, fault_by, plain_fault, symbols_at, GoesOn, IsLabelAt, IsSpecial, NoCall, ManyFilters, Twice, NoNative, ManyOpening, ManyJoining, NoLabel, NoIndex, NoRe, Learns, NoError, NoIds, SetsIds, NoUser, Tells, Specially, Otherwise, IsFirstFault}
+use Rattle.st_policy.specs.Symbol.{Symbol, Word, symbol_of}
+use Rattle.st_policy.specs.Words.{may_test_label}
+use Rattle.st_policy.proofs.Complete.{placed}
+use Rattle.st_first_fault.proofs.Completions.{ends-place}
+use Rattle.st_first_fault.proofs.FaultKinds.{Outcome, IsPlain, IsTold, Unlabelled, IndexAsked, outcome-of, judged}
+use Rattle.st_first_fault.proofs.LabelsRead.{LabelAt, BracketAt, label-at, bracket-at, label-ends}
+use Rattle.st_first_fault.proofs.MayStand.{goes-here, operand-taken}
+use Rattle.st_policy.proofs.Readings.{read_over, reading_followed, places_of_reading}
+use Rattle.st_policy.proofs.Sound.{Stands}
+use Rattle.st_first_fault.proofs.SpecialFaults.{Only, special-only}
+use Rattle.st_first_fault.proofs.WaysOn.{Accepted, accepted, accepted-at, anywhere, end_fault, told_fault, StopsIn, fault-stops, stands-behind}
+
+-- ---- what is told at the end of a text
+
+-- every fault but that something was not expected
+abbrev pub IsOther : PolicyFault → Type 0
+IsOther (Expected at) = ⊥
+IsOther fault = Unit {0}
+
+lexical-other : (broken : LexFault) (fault : PolicyFault) → IsOther fault → lexical broken fault ≡ fault
+lexical-other broken (Expected at) h = absurd h
+lexical-other broken fault h = refl
+
+end-other : (broken : Option LexFault) (fault : PolicyFault) → IsOther fault → end_fault broken fault ≡ fault
+end-other None fault h = refl
+end-other (Some broken) fault h = lexical-other broken fault h
+
+told-other : (text : List ℕ) (behind : List Token) (fault : PolicyFault) → IsOther fault → told_fault text behind fault ≡ fault
+told-other text [] fault h = end-other (lexed_text text).fault fault h
+told-other text (t ∷ ts) fault h = refl
+
+end-plain : (broken : Option LexFault) (at : ℕ) → end_fault broken (Expected at) ≡ fault_by at broken
+end-plain None at = refl
+end-plain (Some broken) at = refl
+
+told-plain : (text : List ℕ) (behind : List Token) → told_fault text behind (Expected (place_here text behind)) ≡ plain_fault text behind
+told-plain text [] = end-plain (lexed_text text).fault (length text)
+told-plain text (t ∷ ts) = refl
+
+is-other : {text : List ℕ} {env : Env} {old : List BinaryPolicy} {before : List Token} {at : ℕ} {s : Symbol} {fault : PolicyFault} → IsSpecial text env old before at s fault → IsOther fault
+is-other (NoCall ps p word a n) = tt
+is-other (ManyFilters ps p word name a n m) = tt
+is-other (Twice rows ps here binary e a b h) = tt
+is-other (NoNative front word e) = tt
+is-other (ManyOpening here o t) = tt
+is-other (ManyJoining here o t) = tt
+is-other (NoLabel word l t) = tt
+is-other (NoIndex front label bracket word index e l b i) = tt
+is-other (NoRe g) = tt
+is-other (Learns l t) = tt
+is-other (NoError front word e) = tt
+is-other (NoIds n p) = tt
+is-other (SetsIds n p) = tt
+is-other (NoUser word g) = tt
+
+failed : (env : Env) (r : Reading) (s : Symbol) (x : StepResult) (found : PolicyFault) → reading_step env r s x ≡ Err found → x ≡ Err found
+failed env r s (Ok v) found e = absurd (cc)
+failed env r s (Err fault) found e = cc
+
+-- ---- the parts of the theorem
+
+module _ (text : List ℕ) (env : Env) (old : List BinaryPolicy) (few : filters_in old ≤ MOST_FILTERS) where
+  -- with a symbol at which the reading stops no text goes on
+  stops-here : (before : List Token) (r : Reading) → read_over env (first_reading old) (placed text before) ≡ Ok r → (at : ℕ) (s : Symbol) (found : PolicyFault) → read_step env r at s ≡ Err found → GoesOn env old (symbols_at text before ++ s ∷ []) → ⊥
+  stops-here before r read at s found e g =
+      let a : Accepted env old r (at ∷ []) (s ∷ []) = accepted-at text env old before r read (at ∷ []) (s ∷ []) g in
+      let two : Err found ≡ Ok a.reading = ap (reading_followed (λ r. Ok r)) (sym e) ∙ a.over in
+      absurd (cc)
+
+  -- with a label which no argument has none goes on
+  stops-label : (before : List Token) (r : Reading) → read_over env (first_reading old) (placed text before) ≡ Ok r → r.walk.place ≡ place.Label → may_test_label r.walk.name r.walk.label ≡ false → (l : LabelAt text env old before r) → GoesOn env old (symbols_at text l.front ++ symbol_of text l.label ∷ []) → ⊥
+  stops-label before r read e none l g =
+      let cut : symbols_at text l.front ++ symbol_of text l.label ∷ [] ≡ symbols_at text before ++ [] = sym (append-nil (symbols_at text before) ∙ ap (symbols_at text) l.parts ∙ map-append (symbol_of text) l.front (l.label ∷ [])) in
+      let a : Accepted env old r [] [] = accepted text env old before r read [] (subst (GoesOn env old) cut g) in
+      let same : r ≡ a.reading = cc (a.over) in
+      let over : read_over env r (anywhere a.more) ≡ Ok a.last = ap (λ (q : Reading). read_over env q (anywhere a.more)) same ∙ a.over_more in
+      label-ends env r.walk r.draft r.set none a.policies old a.more a.last a.at_rows (subst (λ (p : Place). read_over env (places_of_reading p r.walk r.draft r.set) (anywhere a.more) ≡ Ok a.last) e over)
+
+  -- an operand may stand where the label stands
+  label-takes : (before behind : List Token) (r : Reading) → (lexed_text text).tokens ≡ before ++ behind → (l : LabelAt text env old before r) → IsLabelAt text env old l.front l.label
+  label-takes before behind r parts l =
+      let cut : (lexed_text text).tokens ≡ l.front ++ (l.label ∷ behind) = parts ∙ ap (λ (ts : List Token). ts ++ behind) l.parts ∙ append_assoc l.front (l.label ∷ []) behind in
+      record { word = r.walk.label; symbol_is = l.symbol_is; labels = l.labels; takes = operand-taken text env old l.front (l.label ∷ behind) cut l.rows l.us l.front_is r.walk r.draft r.set l.facts }
+
+  -- a label which no argument has is the first token that doesn't fit
+  first-label : (before behind : List Token) (r : Reading) → (lexed_text text).tokens ≡ before ++ behind → read_over env (first_reading old) (placed text before) ≡ Ok r → r.walk.place ≡ place.Label → may_test_label r.walk.name r.walk.label ≡ false → (l : LabelAt text env old before r) → IsFirstFault text env old (UnknownArgument l.label.at)
+  first-label before behind r parts read e none l =
+      let t : IsLabelAt text env old l.front l.label = label-takes before behind r parts l in
+      let cut : (lexed_text text).tokens ≡ l.front ++ (l.label ∷ behind) = parts ∙ ap (λ (ts : List Token). ts ++ behind) l.parts ∙ append_assoc l.front (l.label ∷ []) behind in
+      record {
+        before = l.front;
+        behind = l.label ∷ behind;
+        parts = cut;
+        goes_on = goes-here text env old l.front (l.label ∷ behind) cut l.rows l.us l.front_is (ends-place env old l.rows l.us place.Operand r.walk r.draft r.set tt l.facts);
+        stops = stops-label before r read e none l;
+        told = Specially (UnknownArgument l.label.at) (subst (λ (s : Symbol). IsSpecial text env old l.front l.label.at s (UnknownArgument l.label.at)) (sym t.symbol_is) (NoLabel t.word t.labels t.takes));
+      }
+
+  index-asked : (before behind : List Token) (at : ℕ) (r : Reading) → (lexed_text text).tokens ≡ before ++ behind → BracketAt text env old before r → IndexAsked text env old before r.walk at place.Index
+  index-asked before behind at r parts b word index i =
+      let l : LabelAt text env old b.front b.reading = b.label in
+      let cut : (lexed_text text).tokens ≡ b.front ++ (b.bracket ∷ behind) = parts ∙ ap (λ (ts : List Token). ts ++ behind) b.parts ∙ append_assoc b.front (b.bracket ∷ []) behind in
+      let whole : before ≡ l.front ++ l.label ∷ b.bracket ∷ [] = b.parts ∙ ap (λ (ts : List Token). ts ++ b.bracket ∷ []) l.parts ∙ append_assoc l.front (l.label ∷ []) (b.bracket ∷ []) in
+      subst (λ (n : ℕ). IsSpecial text env old before at (Word word) (UnknownArgument n)) (sym (b.at_is ∙ l.at_is))
+      (NoIndex l.front l.label b.bracket word index whole (label-takes b.front (b.bracket ∷ behind) b.reading cut l) b.bracket_is i)
+
+  asked : (before behind : List Token) (at : ℕ) (r : Reading) → (lexed_text text).tokens ≡ before ++ behind → read_over env (first_reading old) (placed text before) ≡ Ok r → (p : Place) → r.walk.place ≡ p → IndexAsked text env old before r.walk at p
+  asked before behind at r parts read place.Index e = index-asked before behind at r parts (bracket-at text env old few before r read e)
+  asked before behind at r parts read p e = tt
+
+  -- of what was not expected nothing special is told
+  not-plain : (before behind : List Token) (r : Reading) → read_over env (first_reading old) (placed text before) ≡ Ok r → read_step env r (place_here text behind) (symbol_here text behind) ≡ Err (Expected (place_here text behind)) →
+      (fault : PolicyFault) → IsSpecial text env old before (place_here text behind) (symbol_here text behind) fault → ⊥
+  not-plain before behind r read stops fault s =
+      let same : Expected (place_here text behind) ≡ fault = subst (Only (place_here text behind) fault) stops (special-only text env old before r read (place_here text behind) (symbol_here text behind) fault s) in
+      subst IsOther (sym same) (is-other s)
+
+  -- where the reading stops, by what is told of it
+  first-by : (before behind : List Token) (r : Reading) (found fault : PolicyFault) → (lexed_text text).tokens ≡ before ++ behind → read_over env (first_reading old) (placed text before) ≡ Ok r → (h : Stands env old (symbols_at text before) r) →
+      read_step env r (place_here text behind) (symbol_here text behind) ≡ Err found → fault ≡ told_fault text behind found → Outcome text env old before r.walk.place r.walk (place_here text behind) (symbol_here text behind) found → IsFirstFault text env old fault
+  first-by before behind r found fault parts read h stops told (IsPlain m) = record {
+    before = before;
+    behind = behind;
+    parts = parts;
+    goes_on = goes-here text env old before behind parts h.rows h.front h.parts (ends-place env old h.rows h.front r.walk.place r.walk r.draft r.set m h.facts);
+    stops = stops-here before r read (place_here text behind) (symbol_here text behind) (Expected (place_here text behind)) stops;
+    told = subst (Tells text env old before behind) (sym (told ∙ told-plain text behind)) (Otherwise (λ f s. not-plain before behind r read stops f s));
+  }
+  first-by before behind r found fault parts read h stops told (IsTold special m s) = record {
+    before = before;
+    behind = behind;
+    parts = parts;
+    goes_on = goes-here text env old before behind parts h.rows h.front h.parts (ends-place env old h.rows h.front r.walk.place r.walk r.draft r.set m h.facts);
+    stops = stops-here before r read (place_here text behind) (symbol_here text behind) special stops;
+    told = subst (Tells text env old before behind) (sym (told ∙ told-other text behind special (is-other s))) (Specially special s);
+  }
+  first-by before behind r found fault parts read h stops told (Unlabelled (inl e) none) =
+      let l : LabelAt text env old before r = label-at text env old few before r read e in
+      subst (IsFirstFault text env old) (sym (told ∙ told-other text behind (UnknownArgument r.walk.label_at) tt ∙ ap (λ (n : ℕ). UnknownArgument n) l.at_is)) (first-label before behind r parts read e none l)
+  first-by before behind r found fault parts read h stops told (Unlabelled (inr e) none) =
+      let b : BracketAt text env old before r = bracket-at text env old few before r read e in
+      let cut : (lexed_text text).tokens ≡ b.front ++ (b.bracket ∷ behind) = parts ∙ ap (λ (ts : List Token). ts ++ behind) b.parts ∙ append_assoc b.front (b.bracket ∷ []) behind in
+      let named : may_test_label b.reading.walk.name b.reading.walk.label ≡ false = ap (may_test_label b.reading.walk.name) (sym b.label_is) ∙ ap (λ n. may_test_label n r.walk.label) (sym b.name_is) ∙ none in
+      subst (IsFirstFault text env old) (sym (told ∙ told-other text behind (UnknownArgument r.walk.label_at) tt ∙ ap (λ (n : ℕ). UnknownArgument n) (b.at_is ∙ b.label.at_is))) (first-label b.front (b.bracket ∷ behind) b.reading cut b.read b.place_is named b.label)
+
+  pub first-fault : (fault : PolicyFault) → fault_in text env old ≡ Some fault → IsFirstFault text env old fault
+  first-fault fault e =
+      let st : StopsIn env text (first_reading old) (lexed_text text).tokens fault = fault-stops text env old fault e in
+      let r : Reading = st.reading in
+      let at : ℕ = place_here text st.behind in
+      let s : Symbol = symbol_here text st.behind in
+      let h : Stands env old (symbols_at text st.before) r = stands-behind text env old st.before r few st.read in
+      let o : Outcome text env old st.before r.walk.place r.walk at s st.found =
+      outcome-of st.found
+      (judged text env old st.before st.behind st.parts h.rows h.front h.parts r.walk r.draft r.set at r.walk.place (asked st.before st.behind at r st.parts st.read r.walk.place refl) h.facts s)
+      (failed env r s (next env (binaries r.set) r.walk at s) st.found st.stops) in
+      first-by st.before st.behind r st.found fault st.parts st.read h st.stops st.told o

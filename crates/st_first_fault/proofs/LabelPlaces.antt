@@ -1,0 +1,260 @@
+-- Where the label that was read last stands.
+use Rattle.std.proofs.Common.{◌≡◌, ℕ, ◌+◌, ◌-◌, Bool, true, false, ◌&&◌, ◌||◌, ◌==◌, nat_lt, codes, List, [], ◌∷◌, ◌++◌, Option, None, Some, Ok, Err, if◌then◌else◌, refl, ap, sym, subst, ◌∙◌}
+use Rattle.std.specs.Str.{bytes_eq}
+use Rattle.std.specs.List.{list_any}
+use Rattle.std.proofs.lemmas.List.{map-append}
+use Rattle.st_base.specs.declared.errno.Errno.{Errno}
+use Rattle.st_lex.specs.declared.token.Token.{Token}
+use Rattle.st_policy.specs.declared.env.Env.{Env}
+use Rattle.st_policy.specs.declared.env.NamedId.{NamedId}
+use Rattle.st_policy.specs.declared.fault.PolicyFault.{PolicyFault}
+use Rattle.st_policy.specs.declared.fault.PolicyFault.TheVariants.{Expected, UnknownCall, UnknownArgument, UnknownError, UnknownUser, DuplicatePolicy, ElevateWithoutIds, ElevateOnSetId, NotSupported, AskWithLearn, TooMany}
+use Rattle.st_policy.specs.declared.fault.Unsupported.TheVariants as unsupported
+use Rattle.st_policy.specs.declared.place.Place.{Place}
+use Rattle.st_policy.specs.declared.place.Place.TheVariants as place
+use Rattle.st_filter.specs.declared.filter.Cmp.{Cmp}
+use Rattle.st_filter.specs.declared.filter.FilterName.{FilterName}
+use Rattle.st_filter.specs.declared.filter.Op.{Op}
+use Rattle.st_filter.specs.declared.filter.Who.{Who}
+use Rattle.st_filter.specs.declared.set.BinaryPolicy.{BinaryPolicy}
+use Rattle.st_filter.specs.declared.set.TheConstants.{MOST_FILTERS}
+use Rattle.st_policy.specs.Diagram.{GrammarState, StepResult, step_to, expected, only, step, joined, step_start, step_name, step_row, step_binary, step_system, step_operand, step_op, step_operator, step_label, step_indexed, step_index, step_joint, step_action, is_action, step_clause, step_as, step_tail, step_denial, step_errno, step_error, step_known, step_id, step_grant, step_user, step_who, step_comparison, word_who, is_colon, is_comma, is_keyword, is_close_bracket, is_quoted, is_line, next, binaries}
+use Rattle.st_policy.specs.Draft.{Reading, reading_step, read_step, first_reading}
+use Rattle.st_policy.specs.Grammar.{binary_of, comparison, most_joins}
+use Rattle.st_base.specs.Errno.{error_named}
+use Rattle.st_policy.specs.Symbol.{Symbol, Word, Colon, Comma, Open, Close, OpenBracket, Line, symbol_of}
+use Rattle.st_policy.specs.Words.{is_label, filter_name, sets_ids, may_test, may_test_label, op_named, index_in, id_in, names_for}
+use Rattle.st_policy.proofs.Complete.{placed, followed-ok}
+use Rattle.st_policy.proofs.Readings.{Placed, Read, read_over}
+use Rattle.st_first_fault.proofs.WaysOn.{over-parts}
+
+-- ---- steps to a label
+
+-- a label stands where its symbol is read, and its bracket follows it
+abbrev pub Labelled : GrammarState → ℕ → GrammarState → Place → Type 0
+Labelled w at v place.Label = v.label_at ≡ at
+Labelled w at v place.Index = (w.place ≡ place.Label) × (v.label_at ≡ w.label_at) × (v.label ≡ w.label) × (v.name ≡ w.name)
+Labelled w at v p = Unit {0}
+
+pub data Comes (w : GrammarState) (at : ℕ) : StepResult → Type 0 where
+  Goes : (v : GrammarState) → Labelled w at v v.place → Comes w at (Ok v)
+  Stops : (fault : PolicyFault) → Comes w at (Err fault)
+
+labelled-after : (w : GrammarState) (at : ℕ) (v : GrammarState) → Comes w at (Ok v) → Labelled w at v v.place
+labelled-after w at v c = by c refl where
+  by : {x : StepResult} → Comes w at x → x ≡ Ok v → Labelled w at v v.place
+  by (Goes u h) e = let same : u ≡ v = cc in subst (λ (x : GrammarState). Labelled w at x x.place) same h
+  by (Stops fault) e = absurd (cc)
+
+by-if : {w : GrammarState} {at : ℕ} {x y : StepResult} (b : Bool) → Comes w at x → Comes w at y → Comes w at (if b then x else y)
+by-if true p q = p
+by-if false p q = q
+
+module _ (w u : GrammarState) (at : ℕ) where
+  to : (p : Place) → Labelled w at (record u { place = p }) p → Comes w at (step_to u p)
+  to p h = Goes (record u { place = p }) h
+
+  no-more : Comes w at (expected at)
+  no-more = Stops (Expected at)
+
+  comes-only : (b : Bool) (p : Place) → Labelled w at (record u { place = p }) p → Comes w at (only u at b p)
+  comes-only b p h = by-if b (to p h) no-more
+
+  comes-start : (s : Symbol) → Comes w at (step_start u at s)
+  comes-start Line = to place.Start tt
+  comes-start (Word word) = comes-only (bytes_eq word (codes "Policy")) place.PolicyColon tt
+  comes-start s = no-more
+
+  comes-name : (o : Option FilterName) → Comes w at (step_name u at o)
+  comes-name None = Stops (UnknownCall at)
+  comes-name (Some name) = by-if (nat_lt u.filters MOST_FILTERS) (Goes (record u { place = place.NameColon; filters = u.filters + 1; name = name; parens = 0; joins = 0 }) tt) (Stops (TooMany at))
+
+  comes-row : (s : Symbol) → Comes w at (step_row u at s)
+  comes-row Line = to place.Row tt
+  comes-row (Word word) = by-if (bytes_eq word (codes "Policy")) (to place.PolicyColon tt) (comes-name (filter_name word))
+  comes-row s = no-more
+
+  comes-binary : (known : List (List ℕ)) (o : Option (List ℕ)) → Comes w at (step_binary known u at o)
+  comes-binary known None = no-more
+  comes-binary known (Some binary) = by-if (list_any (λ b. bytes_eq b binary) known) (Stops (DuplicatePolicy at)) (to place.Comma tt)
+
+  comes-system : (s : Symbol) → Comes w at (step_system u at s)
+  comes-system (Word word) = by-if (bytes_eq word (codes "native")) (to place.HeaderEnd tt) (Stops (NotSupported at unsupported.Emulation))
+  comes-system s = no-more
+
+  comes-joined : Comes w at (joined u at)
+  comes-joined = by-if (nat_lt u.joins most_joins) (Goes (record u { place = place.Operand; joins = u.joins + 1 }) tt) (Stops (TooMany at))
+
+  comes-op : (word : List ℕ) (o : Option Op) → Comes w at (step_op u at word o)
+  comes-op word (Some o) = to place.Text tt
+  comes-op word None = by-if (bytes_eq word (codes "re")) (Stops (NotSupported at unsupported.Re)) no-more
+
+  comes-operator : (s : Symbol) → Comes w at (step_operator u at s)
+  comes-operator (Word word) = comes-op word (op_named word)
+  comes-operator s = no-more
+
+  comes-indexed : (o : Option ℕ) → Comes w at (step_indexed u at o)
+  comes-indexed (Some index) = by-if (may_test u.name u.label index) (to place.IndexEnd tt) (Stops (UnknownArgument u.label_at))
+  comes-indexed None = by-if (may_test_label u.name u.label) no-more (Stops (UnknownArgument u.label_at))
+
+  comes-index : (s : Symbol) → Comes w at (step_index u at s)
+  comes-index (Word word) = comes-indexed (index_in word)
+  comes-index s = comes-indexed None
+
+  comes-action : (env : Env) (s : Symbol) → Comes w at (step_action env u at s)
+  comes-action env (Word word) =
+      by-if (bytes_eq word (codes "permit")) (to (place.Tail true true) tt)
+      (by-if (bytes_eq word (codes "deny")) (to place.Denial tt)
+      (by-if (bytes_eq word (codes "ask")) (by-if env.learn (Stops (AskWithLearn at)) (to (place.Tail false true) tt)) no-more))
+  comes-action env s = no-more
+
+  comes-as : (env : Env) (log : Bool) → Comes w at (step_as env u at log)
+  comes-as env log = by-if env.elevate (by-if (sets_ids u.name) (Stops (ElevateOnSetId at)) (to (place.Grant log) tt)) (Stops (ElevateWithoutIds at))
+
+  comes-tail : (env : Env) (grant log : Bool) (s : Symbol) → Comes w at (step_tail env grant log u at s)
+  comes-tail env grant log Line = to place.Row tt
+  comes-tail env grant log Comma = to place.If tt
+  comes-tail env grant log (Word word) = by-if (bytes_eq word (codes "as") && grant) (comes-as env log) (comes-only (bytes_eq word (codes "log") && log) (place.Tail grant false) tt)
+  comes-tail env grant log s = no-more
+
+  comes-denial : (env : Env) (s : Symbol) → Comes w at (step_denial env u at s)
+  comes-denial env OpenBracket = to place.Error tt
+  comes-denial env s = comes-tail env false true s
+
+  comes-errno : (o : Option Errno) → Comes w at (step_errno u at o)
+  comes-errno (Some errno) = to place.ErrorEnd tt
+  comes-errno None = Stops (UnknownError at)
+
+  comes-error : (s : Symbol) → Comes w at (step_error u at s)
+  comes-error (Word word) = comes-errno (error_named word)
+  comes-error s = no-more
+
+  comes-known : (p : Place) → Labelled w at (record u { place = p }) p → (o : Option ℕ) → Comes w at (step_known u at p o)
+  comes-known p h (Some id) = to p h
+  comes-known p h None = Stops (UnknownUser at)
+
+  comes-id : (names : List NamedId) (p : Place) → Labelled w at (record u { place = p }) p → (s : Symbol) → Comes w at (step_id names u at p s)
+  comes-id names p h (Word word) = comes-known p h (id_in names word)
+  comes-id names p h s = no-more
+
+  comes-grant : (env : Env) (log : Bool) (s : Symbol) → Comes w at (step_grant env log u at s)
+  comes-grant env log Colon = to (place.Group log) tt
+  comes-grant env log s = comes-id env.users (place.User log) tt s
+
+  comes-user : (env : Env) (log : Bool) (s : Symbol) → Comes w at (step_user env log u at s)
+  comes-user env log Colon = to (place.Group log) tt
+  comes-user env log s = comes-tail env false log s
+
+  comes-who : (o : Option Who) → Comes w at (step_who u at o)
+  comes-who (Some who) = to (place.Comparison who) tt
+  comes-who None = no-more
+
+  comes-comparison : (who : Who) (o : Option Cmp) → Comes w at (step_comparison who u at o)
+  comes-comparison who (Some cmp) = to (place.Id who) tt
+  comes-comparison who None = no-more
+
+comes-operand : (w u : GrammarState) (at : ℕ) (s : Symbol) → Comes w at (step_operand u at s)
+comes-operand w u at Open = comes-joined w (record u { parens = u.parens + 1 }) at
+comes-operand w u at (Word word) =
+    by-if (bytes_eq word (codes "not")) (comes-joined w u at)
+    (by-if (bytes_eq word (codes "true")) (to w u at place.Joint tt)
+    (by-if (is_label word) (Goes (record u { place = place.Label; label = word; label_at = at }) refl) (no-more w u at)))
+comes-operand w u at s = no-more w u at
+
+comes-joint : (w u : GrammarState) (at : ℕ) (s : Symbol) → Comes w at (step_joint u at s)
+comes-joint w u at Close = by-if (nat_lt 0 u.parens) (Goes (record u { place = place.Joint; parens = u.parens - 1 }) tt) (no-more w u at)
+comes-joint w u at (Word word) =
+    by-if (bytes_eq word (codes "and") || bytes_eq word (codes "or")) (comes-joined w u at) (comes-only w u at (bytes_eq word (codes "then") && u.parens == 0) place.Action tt)
+comes-joint w u at s = no-more w u at
+
+comes-clause : (env : Env) (w u : GrammarState) (at : ℕ) (s : Symbol) → Comes w at (step_clause env u at s)
+comes-clause env w u at s = by-if (is_action s) (comes-action w u at env s) (comes-operand w u at s)
+
+comes-label : (w : GrammarState) (at : ℕ) (s : Symbol) → Comes (record w { place = place.Label }) at (step_label (record w { place = place.Label }) at s)
+comes-label w at OpenBracket = Goes (record w { place = place.Index }) (refl, refl, refl, refl)
+comes-label w at s =
+    let u : GrammarState = record w { place = place.Label } in
+    by-if (may_test w.name w.label 0) (comes-operator u u at s) (Stops (UnknownArgument w.label_at))
+
+pub comes : (env : Env) (known : List (List ℕ)) (w : GrammarState) (at : ℕ) (s : Symbol) (p : Place) → Comes (record w { place = p }) at (step env known (record w { place = p }) at s p)
+comes env known w at s place.Start = comes-start (record w { place = place.Start }) (record w { place = place.Start }) at s
+comes env known w at s place.Row = comes-row (record w { place = place.Row }) (record w { place = place.Row }) at s
+comes env known w at s place.PolicyColon = comes-only (record w { place = place.PolicyColon }) (record w { place = place.PolicyColon }) at (is_colon s) place.Binary tt
+comes env known w at s place.Binary = comes-binary (record w { place = place.Binary }) (record w { place = place.Binary }) at known (binary_of env s)
+comes env known w at s place.Comma = comes-only (record w { place = place.Comma }) (record w { place = place.Comma }) at (is_comma s) place.Emulation tt
+comes env known w at s place.Emulation = comes-only (record w { place = place.Emulation }) (record w { place = place.Emulation }) at (is_keyword (codes "Emulation") s) place.EmulationColon tt
+comes env known w at s place.EmulationColon = comes-only (record w { place = place.EmulationColon }) (record w { place = place.EmulationColon }) at (is_colon s) place.System tt
+comes env known w at s place.System = comes-system (record w { place = place.System }) (record w { place = place.System }) at s
+comes env known w at s place.NameColon = comes-only (record w { place = place.NameColon }) (record w { place = place.NameColon }) at (is_colon s) place.Clause tt
+comes env known w at s place.Clause = comes-clause env (record w { place = place.Clause }) (record w { place = place.Clause }) at s
+comes env known w at s place.Operand = comes-operand (record w { place = place.Operand }) (record w { place = place.Operand }) at s
+comes env known w at s place.Label = comes-label w at s
+comes env known w at s place.Index = comes-index (record w { place = place.Index }) (record w { place = place.Index }) at s
+comes env known w at s place.IndexEnd = comes-only (record w { place = place.IndexEnd }) (record w { place = place.IndexEnd }) at (is_close_bracket s) place.Operator tt
+comes env known w at s place.Operator = comes-operator (record w { place = place.Operator }) (record w { place = place.Operator }) at s
+comes env known w at s place.Text = comes-only (record w { place = place.Text }) (record w { place = place.Text }) at (is_quoted s) place.Joint tt
+comes env known w at s place.Joint = comes-joint (record w { place = place.Joint }) (record w { place = place.Joint }) at s
+comes env known w at s place.Action = comes-action (record w { place = place.Action }) (record w { place = place.Action }) at env s
+comes env known w at s place.Denial = comes-denial (record w { place = place.Denial }) (record w { place = place.Denial }) at env s
+comes env known w at s place.Error = comes-error (record w { place = place.Error }) (record w { place = place.Error }) at s
+comes env known w at s place.ErrorEnd = comes-only (record w { place = place.ErrorEnd }) (record w { place = place.ErrorEnd }) at (is_close_bracket s) (place.Tail false true) tt
+comes env known w at s (place.Tail grant log) = comes-tail (record w { place = place.Tail grant log }) (record w { place = place.Tail grant log }) at env grant log s
+comes env known w at s (place.Grant log) = comes-grant (record w { place = place.Grant log }) (record w { place = place.Grant log }) at env log s
+comes env known w at s (place.User log) = comes-user (record w { place = place.User log }) (record w { place = place.User log }) at env log s
+comes env known w at s (place.Group log) = comes-id (record w { place = place.Group log }) (record w { place = place.Group log }) at env.groups (place.Tail false log) tt s
+comes env known w at s place.If = comes-only (record w { place = place.If }) (record w { place = place.If }) at (is_keyword (codes "if") s) place.Who tt
+comes env known w at s place.Who = comes-who (record w { place = place.Who }) (record w { place = place.Who }) at (word_who s)
+comes env known w at s (place.Comparison who) = comes-comparison (record w { place = place.Comparison who }) (record w { place = place.Comparison who }) at who (comparison s)
+comes env known w at s (place.Id who) = comes-id (record w { place = place.Id who }) (record w { place = place.Id who }) at (names_for env who) place.FilterEnd tt s
+comes env known w at s place.HeaderEnd = comes-only (record w { place = place.HeaderEnd }) (record w { place = place.HeaderEnd }) at (is_line s) place.Row tt
+comes env known w at s place.FilterEnd = comes-only (record w { place = place.FilterEnd }) (record w { place = place.FilterEnd }) at (is_line s) place.Row tt
+
+-- ---- the last token that was read
+
+pub record LastRead (text : List ℕ) (env : Env) (old : List BinaryPolicy) (before : List Token) (r : Reading) : Type 0 where
+  pub front : List Token
+  pub last : Token
+  pub parts : before ≡ front ++ last ∷ []
+  pub reading : Reading
+  pub read : read_over env (first_reading old) (placed text front) ≡ Ok reading
+  pub labelled : Labelled reading.walk last.at r.walk r.walk.place
+
+data LastOf (ts : List Token) : Type 0 where
+  NoLast : ts ≡ [] → LastOf ts
+  HasLast : (front : List Token) (last : Token) → ts ≡ front ++ last ∷ [] → LastOf ts
+
+last-more : (t : Token) (ts : List Token) → LastOf ts → LastOf (t ∷ ts)
+last-more t ts (NoLast e) = HasLast [] t (ap (λ (us : List Token). t ∷ us) e)
+last-more t ts (HasLast front last e) = HasLast (t ∷ front) last (ap (λ (us : List Token). t ∷ us) e)
+
+last-of : (ts : List Token) → LastOf ts
+last-of [] = NoLast refl
+last-of (t ∷ ts) = last-more t ts (last-of ts)
+
+stepped : (env : Env) (r : Reading) (s : Symbol) (x : StepResult) (q : Reading) → reading_step env r s x ≡ Ok q → x ≡ Ok q.walk
+stepped env r s (Ok v) q e = let same : Ok v ≡ Ok q.walk = ap (λ (x : Read). elim x [ Ok m ↦ Ok m.walk | Err fault ↦ Err fault ]) e in same
+stepped env r s (Err fault) q e = absurd (cc)
+
+last-by : (text : List ℕ) (env : Env) (old : List BinaryPolicy) (before : List Token) (r : Reading) → LastOf before → (r.walk.place ≡ place.Start → ⊥) → read_over env (first_reading old) (placed text before) ≡ Ok r → LastRead text env old before r
+last-by text env old before r (NoLast none) other e =
+    let read : Ok (first_reading old) ≡ Ok r = ap (λ (ts : List Token). read_over env (first_reading old) (placed text ts)) (sym none) ∙ e in
+    let same : first_reading old ≡ r = cc in
+    absurd (other (sym (ap (λ (q : Reading). q.walk.place) same)))
+last-by text env old before r (HasLast front last is) other e =
+    let z : Placed = record { at = last.at; symbol = symbol_of text last } in
+    let cut : placed text (front ++ last ∷ []) ≡ placed text front ++ z ∷ [] = map-append (λ (t : Token). record { at = t.at; symbol = symbol_of text t }) front (last ∷ []) in
+    let two = over-parts env (placed text front) (z ∷ []) (first_reading old) r (ap (read_over env (first_reading old)) (sym cut) ∙ ap (λ (ts : List Token). read_over env (first_reading old) (placed text ts)) (sym is) ∙ e) in
+    let q : Reading = two.0 in
+    let one : read_step env q last.at (symbol_of text last) ≡ Ok r = followed-ok (read_step env q last.at (symbol_of text last)) ∙ two.2 in
+    let at : next env (binaries q.set) q.walk last.at (symbol_of text last) ≡ Ok r.walk = stepped env q (symbol_of text last) (next env (binaries q.set) q.walk last.at (symbol_of text last)) r one in
+    record {
+      front = front;
+      last = last;
+      parts = is;
+      reading = q;
+      read = two.1;
+      labelled = labelled-after q.walk last.at r.walk (subst (Comes q.walk last.at) at (comes env (binaries q.set) q.walk last.at (symbol_of text last) q.walk.place));
+    }
+
+pub last-read : (text : List ℕ) (env : Env) (old : List BinaryPolicy) (before : List Token) (r : Reading) → (r.walk.place ≡ place.Start → ⊥) → read_over env (first_reading old) (placed text before) ≡ Ok r → LastRead text env old before r
+last-read text env old before r other e = last-by text env old before r (last-of before) other e

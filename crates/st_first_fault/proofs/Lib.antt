@@ -1,0 +1,11 @@
+pub mod Completions
+pub mod Cuts
+pub mod FaultKinds
+pub mod FaultsOnce
+pub mod FirstFaults
+pub mod LabelPlaces
+pub mod LabelsRead
+pub mod MayStand
+pub mod PlacesTold
+pub mod SpecialFaults
+pub mod WaysOn

@@ -1,0 +1,99 @@
+-- What may stand at a place of the grammar.
+use Rattle.std.proofs.Common.{◌≡◌, ℕ, zero, suc, ◌+◌, ◌-◌, true, List, [], ◌∷◌, ◌++◌, codes, refl, ap, sym, subst, ◌∙◌, arith, append_assoc, append-nil}
+use Rattle.st_lex.specs.declared.token.Token.{Token}
+use Rattle.st_lex.specs.Tokens.{lexed_text}
+use Rattle.st_policy.specs.declared.env.Env.{Env}
+use Rattle.st_policy.specs.declared.place.Place.TheVariants as place
+use Rattle.st_filter.specs.declared.set.BinaryPolicy.{BinaryPolicy}
+use Rattle.st_policy.specs.Diagram.{GrammarState}
+use Rattle.st_policy.specs.Draft.{Draft, Reading, draft_after}
+use Rattle.st_first_fault.specs.FirstFault.{symbols_at, GoesOn, EndsOperand, InParens, Whole, TakesOperand, TakesOperator, TakesAction, TakesId}
+use Rattle.st_policy.specs.Symbol.{Symbol, Word, Quoted, Close, OpenBracket, Line, symbol_of}
+use Rattle.st_first_fault.proofs.Completions.{Ending, Printed, printed-more, a-word, a-quoted, a-close, an-open_bracket, a-line, line-ends, facts-close, facts-then, facts-true, ends-tail, ends-joint, ends-error}
+use Rattle.st_policy.proofs.Fronts.{Facts}
+use Rattle.st_policy.proofs.Sound.{line-keeps, RowEnded}
+use Rattle.st_first_fault.proofs.WaysOn.{text-goes_on}
+
+nothing : Printed []
+nothing = record { pieces = []; spelled = λ ps. refl; well = λ ps h. h }
+
+-- ---- tokens of symbols
+
+pub record TokenCut (text : List ℕ) (tokens : List Token) (ts us : List Symbol) : Type 0 where
+  pub front : List Token
+  pub back : List Token
+  pub parts : tokens ≡ front ++ back
+  pub front_is : symbols_at text front ≡ ts
+  pub back_is : symbols_at text back ≡ us
+
+-- where the symbols have two parts the tokens do
+pub token-cut : (text : List ℕ) (ts us : List Symbol) (tokens : List Token) → symbols_at text tokens ≡ ts ++ us → TokenCut text tokens ts us
+token-cut text [] us tokens e = record { front = []; back = tokens; parts = refl; front_is = refl; back_is = e }
+token-cut text (t ∷ ts) us [] e = absurd (cc)
+token-cut text (t ∷ ts) us (x ∷ xs) e =
+    let same : symbols_at text xs ≡ ts ++ us = cc in
+    let first : symbol_of text x ≡ t = cc in
+    let c : TokenCut text xs ts us = token-cut text ts us xs same in
+    record { front = x ∷ c.front; back = c.back; parts = ap (λ (ys : List Token). x ∷ ys) c.parts; front_is = ap (λ (ys : List Symbol). symbol_of text x ∷ ys) c.front_is ∙ ap (λ (s : Symbol). s ∷ ts) first; back_is = c.back_is }
+
+-- ---- what may stand behind tokens
+
+module _ (text : List ℕ) (env : Env) (old : List BinaryPolicy) (before behind : List Token) (parts : (lexed_text text).tokens ≡ before ++ behind) (rows front : List Symbol) (is : symbols_at text before ≡ rows ++ front) where
+  goes : (xs : List Symbol) → Printed xs → Ending env old (rows ++ (front ++ xs)) → GoesOn env old (symbols_at text before ++ xs)
+  goes xs p e = text-goes_on text env old before behind parts xs p (subst (Ending env old) (sym (append_assoc rows front xs) ∙ ap (λ (ts : List Symbol). ts ++ xs) (sym is)) e)
+
+  pub goes-here : Ending env old (rows ++ front) → GoesOn env old (symbols_at text before)
+  goes-here e = subst (GoesOn env old) (append-nil (symbols_at text before)) (text-goes_on text env old before behind parts [] nothing (subst (Ending env old) (sym is ∙ sym (append-nil (symbols_at text before))) e))
+
+  goes-two : (s t : Symbol) → Printed (s ∷ []) → Printed (t ∷ []) → Ending env old (rows ++ ((front ++ s ∷ []) ++ t ∷ [])) → GoesOn env old (symbols_at text before ++ s ∷ t ∷ [])
+  goes-two s t p q e = goes (s ∷ t ∷ []) (printed-more (s ∷ []) (t ∷ []) p q) (subst (Ending env old) (ap (λ (ts : List Symbol). rows ++ ts) (append_assoc front (s ∷ []) (t ∷ []))) e)
+
+  -- an id, and the end of the row
+  pub id-line : (r : Reading) → RowEnded env old ((rows ++ (front ++ Word (codes "0") ∷ [])) ++ Line ∷ []) r → TakesId env old (symbols_at text before)
+  id-line r h =
+      let s : Symbol = Word (codes "0") in
+      goes-two s Line (a-word (codes "0") refl) a-line (subst (Ending env old) (append_assoc rows (front ++ s ∷ []) (Line ∷ [])) (line-ends env old ((rows ++ (front ++ s ∷ [])) ++ Line ∷ []) r h))
+
+  -- the text of a test, behind its operator
+  pub operator-text : (w : GrammarState) (d : Draft) (set : List BinaryPolicy) → Facts env old rows (front ++ Word (codes "eq") ∷ []) place.Text w d set → TakesOperator env old (symbols_at text before)
+  operator-text w d set h =
+      let s : Symbol = Word (codes "eq") in
+      let t : Symbol = Quoted (codes "\"\"") in
+      goes-two s t (a-word (codes "eq") refl) a-quoted (ends-joint env old rows w.parens ((front ++ s ∷ []) ++ t ∷ []) w (draft_after env w.label d t place.Text) set refl (line-keeps env old rows (front ++ s ∷ []) place.Text w d set 0 t refl h))
+
+  -- the bracket behind `deny`
+  pub denial-bracket : (w : GrammarState) (d : Draft) (set : List BinaryPolicy) → Facts env old rows (front ++ Word (codes "deny") ∷ []) place.Denial w d set → TakesAction env old (symbols_at text before)
+  denial-bracket w d set h =
+      let s : Symbol = Word (codes "deny") in
+      goes-two s OpenBracket (a-word (codes "deny") refl) an-open_bracket (ends-error env old rows ((front ++ s ∷ []) ++ OpenBracket ∷ []) w (draft_after env w.label d OpenBracket place.Denial) set (line-keeps env old rows (front ++ s ∷ []) place.Denial w d set 0 OpenBracket refl h))
+
+  -- behind symbols that end an operand
+  joint-whole : (ys : List Symbol) → Printed ys → (w : GrammarState) (d : Draft) (set : List BinaryPolicy) → w.parens ≡ 0 → Facts env old rows (front ++ ys) place.Joint w d set → EndsOperand env old (symbols_at text before ++ ys)
+  joint-whole ys p w d set e h =
+      let s : Symbol = Word (codes "then") in
+      let t : Symbol = Word (codes "permit") in
+      let d' : Draft = draft_after env w.label d s place.Joint in
+      let acted : Facts env old rows ((front ++ ys) ++ s ∷ []) place.Action w d' set = facts-then env old rows (front ++ ys) w d set e h in
+      let ending : Ending env old (rows ++ (((front ++ ys) ++ s ∷ []) ++ t ∷ [])) = ends-tail env old rows (((front ++ ys) ++ s ∷ []) ++ t ∷ []) w (draft_after env w.label d' t place.Action) set true true (line-keeps env old rows ((front ++ ys) ++ s ∷ []) place.Action w d' set 0 t refl acted) in
+      let same : ((front ++ ys) ++ s ∷ []) ++ t ∷ [] ≡ front ++ (ys ++ s ∷ t ∷ []) = append_assoc (front ++ ys) (s ∷ []) (t ∷ []) ∙ append_assoc front ys (s ∷ t ∷ []) in
+      let two : Printed (s ∷ t ∷ []) = printed-more (s ∷ []) (t ∷ []) (a-word (codes "then") refl) (a-word (codes "permit") refl) in
+      Whole (subst (GoesOn env old) (sym (append_assoc (symbols_at text before) ys (s ∷ t ∷ []))) (goes (ys ++ s ∷ t ∷ []) (printed-more ys (s ∷ t ∷ []) p two) (subst (Ending env old) (ap (λ (ts : List Symbol). rows ++ ts) same) ending)))
+
+  joint-in_parens : (n : ℕ) (ys : List Symbol) → Printed ys → (w : GrammarState) (d : Draft) (set : List BinaryPolicy) → w.parens ≡ suc n → Facts env old rows (front ++ ys) place.Joint w d set → EndsOperand env old (symbols_at text before ++ ys)
+  joint-in_parens n ys p w d set e h =
+      let ending : Ending env old (rows ++ ((front ++ ys) ++ Close ∷ [])) = ends-joint env old rows n ((front ++ ys) ++ Close ∷ []) (record w { parens = w.parens - 1 }) (draft_after env w.label d Close place.Joint) set (omega (arith, e)) (facts-close env old rows (front ++ ys) w d set (omega (arith, e)) h) in
+      InParens (subst (GoesOn env old) (sym (append_assoc (symbols_at text before) ys (Close ∷ []))) (goes (ys ++ Close ∷ []) (printed-more ys (Close ∷ []) p a-close) (subst (Ending env old) (ap (λ (ts : List Symbol). rows ++ ts) (append_assoc front ys (Close ∷ []))) ending)))
+
+  joint-by : (n : ℕ) (ys : List Symbol) → Printed ys → (w : GrammarState) (d : Draft) (set : List BinaryPolicy) → w.parens ≡ n → Facts env old rows (front ++ ys) place.Joint w d set → EndsOperand env old (symbols_at text before ++ ys)
+  joint-by zero ys p w d set e h = joint-whole ys p w d set e h
+  joint-by (suc n) ys p w d set e h = joint-in_parens n ys p w d set e h
+
+  pub joint-ends : (w : GrammarState) (d : Draft) (set : List BinaryPolicy) → Facts env old rows front place.Joint w d set → EndsOperand env old (symbols_at text before)
+  joint-ends w d set h =
+      subst (EndsOperand env old) (append-nil (symbols_at text before))
+      (joint-by w.parens [] nothing w d set refl (subst (λ (ts : List Symbol). Facts env old rows ts place.Joint w d set) (sym (append-nil front)) h))
+
+  pub operand-taken : (w : GrammarState) (d : Draft) (set : List BinaryPolicy) → Facts env old rows front place.Operand w d set → TakesOperand env old (symbols_at text before)
+  operand-taken w d set h =
+      let s : Symbol = Word (codes "true") in
+      joint-by w.parens (s ∷ []) (a-word (codes "true") refl) w (draft_after env w.label d s place.Operand) set refl (facts-true env old rows front w d set h)

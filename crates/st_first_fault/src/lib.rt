@@ -1,0 +1,6 @@
+//! The first fault of a policy's text is pinned by the grammar alone.
+#![tactic(auto)]
+
+pub mod law;
+
+pub use law::{a_cut_text_keeps_its_tokens, the_first_fault_is_the_grammars};
