@@ -88,10 +88,10 @@ escape_kept (h ∷ l ∷ rest) ys c m e i x =
     let two = behind 1 one.0 (closing_len rest) (sym (closing_len-plain l rest (λ z. omega (arith, digits.1.low)) (λ z. omega (arith, digits.1.low)) digits.1.no_mark) ∙ one.2) in
     let long : 2 ≤ m = omega (arith, one.1, two.1) in
     cut m long where
-  cut : (m : ℕ) → 2 ≤ m → is_byte_escape (take m (h ∷ l ∷ rest) ++ ys) ≡ true
-  cut zero long = absurd (omega (arith, long))
-  cut (suc zero) long = absurd (omega (arith, long))
-  cut (suc (suc m)) long = x
+      cut : (m : ℕ) → 2 ≤ m → is_byte_escape (take m (h ∷ l ∷ rest) ++ ys) ≡ true
+      cut zero long = absurd (omega (arith, long))
+      cut (suc zero) long = absurd (omega (arith, long))
+      cut (suc (suc m)) long = x
 
 -- what stands behind the closing quote doesn't matter
 pub Kept : List ℕ → List ℕ → Type 0
@@ -117,13 +117,13 @@ kept_pair b bs ys n z x ih c m h i =
     let less = behind 2 c (closing_len bs) (sym (closing_len-pair b bs n) ∙ h.closes) in
     let faultless = no_fault 2 (inner_fault bs) (sym (inner_fault-pair b bs z x) ∙ h.faultless) in
     cut m less.0 less.1 less.2 faultless i where
-  cut : (m d : ℕ) → 2 + d ≡ c → closing_len bs ≡ Some d → inner_fault bs ≡ None → c ≤ m → ClosesAt (take m (92 ∷ b ∷ bs) ++ ys) c
-  cut zero d same closes faultless i = absurd (omega (arith, same, i))
-  cut (suc zero) d same closes faultless i = absurd (omega (arith, same, i))
-  cut (suc (suc m)) d same closes faultless i =
-      let inside : d ≤ m = omega (arith, same, i) in
-      subst (ClosesAt (92 ∷ b ∷ (take m bs ++ ys))) same
-      (pair_first b d (take m bs ++ ys) n z (λ e. escape_kept bs ys d m closes inside (x e)) (ih d m (record { closes = closes; faultless = faultless }) inside))
+      cut : (m d : ℕ) → 2 + d ≡ c → closing_len bs ≡ Some d → inner_fault bs ≡ None → c ≤ m → ClosesAt (take m (92 ∷ b ∷ bs) ++ ys) c
+      cut zero d same closes faultless i = absurd (omega (arith, same, i))
+      cut (suc zero) d same closes faultless i = absurd (omega (arith, same, i))
+      cut (suc (suc m)) d same closes faultless i =
+          let inside : d ≤ m = omega (arith, same, i) in
+          subst (ClosesAt (92 ∷ b ∷ (take m bs ++ ys))) same
+          (pair_first b d (take m bs ++ ys) n z (λ e. escape_kept bs ys d m closes inside (x e)) (ih d m (record { closes = closes; faultless = faultless }) inside))
 
 never : (bs ys : List ℕ) → ((c : ℕ) → ClosesAt bs c → ⊥) → Kept bs ys
 unfolding Kept
@@ -135,12 +135,12 @@ kept_mark b bs ys ih =
     byte_is b 10 P (λ e. never (92 ∷ b ∷ bs) ys (λ c h. let none : closing_len (92 ∷ 10 ∷ bs) ≡ Some c = subst (λ (x : ℕ). closing_len (92 ∷ x ∷ bs) ≡ Some c) e h.closes in cc))
     (λ n. byte_is b 0 P (λ e. never (92 ∷ b ∷ bs) ys (λ c h. let none : inner_fault (92 ∷ 0 ∷ bs) ≡ None = subst (λ (x : ℕ). inner_fault (92 ∷ x ∷ bs) ≡ None) e h.faultless in cc))
     (λ z. by_escape (is_byte_escape bs) refl n z)) where
-  by_escape : (t : Bool) → is_byte_escape bs ≡ t → b ≢ 10 → b ≢ 0 → Kept (92 ∷ b ∷ bs) ys
-  by_escape true x n z = kept_pair b bs ys n z (λ _. x) ih
-  by_escape false x n z =
-      byte_is b 120 (Kept (92 ∷ b ∷ bs) ys)
-      (λ e. never (92 ∷ b ∷ bs) ys (λ c h. let none : inner_fault (92 ∷ 120 ∷ bs) ≡ None = subst (λ (y : ℕ). inner_fault (92 ∷ y ∷ bs) ≡ None) e h.faultless in let bad = inner_fault-escape bs x in cc))
-      (λ e. kept_pair b bs ys n z (λ same. absurd (e same)) ih)
+      by_escape : (t : Bool) → is_byte_escape bs ≡ t → b ≢ 10 → b ≢ 0 → Kept (92 ∷ b ∷ bs) ys
+      by_escape true x n z = kept_pair b bs ys n z (λ _. x) ih
+      by_escape false x n z =
+          byte_is b 120 (Kept (92 ∷ b ∷ bs) ys)
+          (λ e. never (92 ∷ b ∷ bs) ys (λ c h. let none : inner_fault (92 ∷ 120 ∷ bs) ≡ None = subst (λ (y : ℕ). inner_fault (92 ∷ y ∷ bs) ≡ None) e h.faultless in let bad = inner_fault-escape bs x in cc))
+          (λ e. kept_pair b bs ys n z (λ same. absurd (e same)) ih)
 
 kept_first : (b c : ℕ) (cs ys : List ℕ) → Kept cs ys → Kept (c ∷ cs) ys → Kept (b ∷ c ∷ cs) ys
 kept_first b c cs ys pair rest =
@@ -355,9 +355,9 @@ cut_is_read text kept after pieces e well =
     let size : length (take end text) ≡ end = length-take-le end text (omega (arith, c.to)) in
     let at_end : end - 0 ≡ end = omega arith in
     let read : lexed_text cut ≡ record { tokens = kept ++ tokens_at end c.next (Space ∷ pieces); fault = None } =
-        ap (λ (n : ℕ). lexed_text (take n text ++ print (Space ∷ pieces))) (sym at_end) ∙ c.same ∙ ap (before kept) (tokens_from-print (Space ∷ pieces) end c.next well) in
+    ap (λ (n : ℕ). lexed_text (take n text ++ print (Space ∷ pieces))) (sym at_end) ∙ c.same ∙ ap (before kept) (tokens_from-print (Space ∷ pieces) end c.next well) in
     let behind_it : spelled_tokens cut (tokens_at end c.next (Space ∷ pieces)) ≡ piece_tokens pieces =
-        ap (λ (n : ℕ). spelled_tokens cut (tokens_at n c.next (Space ∷ pieces))) (sym size) ∙ spelled-tokens_at (take end text) (Space ∷ pieces) c.next in
+    ap (λ (n : ℕ). spelled_tokens cut (tokens_at n c.next (Space ∷ pieces))) (sym size) ∙ spelled-tokens_at (take end text) (Space ∷ pieces) c.next in
     record {
       faultless = ap (λ (lexed : Lexed). lexed.fault) read;
       in_order = ap (λ (lexed : Lexed). spelled_tokens cut lexed.tokens) read

@@ -20,7 +20,7 @@ use Rattle.st_policy.specs.Symbol.{Symbol, Line, Broken, symbol_of}
 use Rattle.st_policy.proofs.Complete.{AtRows, placed, rows-read}
 use Rattle.st_first_fault.proofs.Completions.{Ending, Printed}
 use Rattle.st_policy.proofs.Faults.{result_after, error_in, faults-agree}
-use Rattle.st_policy.proofs.PrintedTexts.{spelled-symbols}
+use Rattle.st_reread.proofs.PrintedTexts.{spelled-symbols}
 use Rattle.st_policy.proofs.Readings.{Placed, symbols, Read, read_over, reading_followed, over-append, Leads}
 use Rattle.st_policy.proofs.Sound.{Stands, StandsAfter, stands-step, first-stands}
 use Rattle.st_reread.proofs.Symbols.{spelled_symbol, piece_symbols}

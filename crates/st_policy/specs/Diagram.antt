@@ -1,5 +1,5 @@
 -- What may stand at each place of the grammar, what each place leads to, and the fault of everything else.
-use Rattle.std.specs.Prelude.{ℕ, ◌+◌, ◌-◌, Bool, true, false, ◌&&◌, ◌||◌, ◌==◌, if◌then◌else◌, nat_lt, List, [], ◌∷◌, ◌++◌, length, map, codes, Option, Some, None, option_map, option_to_list, Result, Ok, Err}
+use Rattle.std.specs.Prelude.{◌≡◌, ◌≢◌, ℕ, ◌+◌, ◌-◌, Bool, true, false, ◌&&◌, ◌||◌, ◌==◌, if◌then◌else◌, nat_lt, List, [], ◌∷◌, ◌++◌, length, map, codes, Option, Some, None, option_map, option_to_list, Result, Ok, Err}
 use Rattle.std.specs.List.{list_any}
 use Rattle.std.specs.Str.{bytes_eq}
 use Rattle.st_base.specs.declared.errno.Errno.{Errno}
@@ -10,7 +10,7 @@ use Rattle.st_lex.specs.Tokens.{lexed_text}
 use Rattle.st_policy.specs.declared.env.Env.{Env}
 use Rattle.st_policy.specs.declared.env.NamedId.{NamedId}
 use Rattle.st_policy.specs.declared.fault.PolicyFault.{PolicyFault}
-use Rattle.st_policy.specs.declared.fault.PolicyFault.TheVariants.{Lex, Expected, UnknownCall, UnknownArgument, UnknownError, UnknownUser, DuplicatePolicy, ElevateWithoutIds, ElevateOnSetId, NotSupported, AskWithLearn, TooMany}
+use Rattle.st_policy.specs.declared.fault.PolicyFault.TheVariants.{Lex, Expected, UnknownCall, UnknownArgument, UnknownError, UnknownUser, DuplicatePolicy, ElevateWithoutIds, ElevateOnSetId, NotSupported, AskWithLearn, TooMany, NoMemory}
 use Rattle.st_policy.specs.declared.fault.Unsupported.TheVariants as unsupported
 use Rattle.st_filter.specs.declared.filter.Cmp.{Cmp}
 use Rattle.st_filter.specs.declared.filter.FilterName.{FilterName}
@@ -43,6 +43,11 @@ pub record GrammarState : Type 0 where
 -- what a symbol comes to: how far the grammar has come behind it, or a fault
 abbrev pub StepResult : Type 0
 StepResult = Result GrammarState PolicyFault
+
+-- a step of the reader that answers so and leaves this state behind comes to this, unless memory was wanting
+abbrev pub IsStepped : Result (Unit {0}) PolicyFault → GrammarState → StepResult → Type 0
+IsStepped (Ok nothing) w step = step ≡ Ok w
+IsStepped (Err fault) w step = fault ≢ NoMemory → step ≡ Err fault
 
 -- the symbol may stand here, and this place is next
 abbrev pub step_to : GrammarState → Place → StepResult

@@ -1,5 +1,5 @@
 -- What waits for its right operand, as it is kept.
-use Rattle.std.specs.Prelude.{Bool, true, false, List, [], ◌∷◌, map, reverse}
+use Rattle.std.specs.Prelude.{Bool, true, false, box_value, List, [], ◌∷◌, map, reverse}
 use Rattle.st_policy.specs.declared.stack.PendingOperand.{PendingOperand}
 use Rattle.st_policy.specs.declared.stack.PendingOperand.TheVariants as kept
 use Rattle.st_filter.specs.Formula.{Formula, formula}
@@ -10,8 +10,8 @@ use Rattle.st_policy.specs.Draft as spec
 abbrev pub waiting : PendingOperand → spec.PendingOperand
 waiting kept.Negation = spec.Negation
 waiting kept.Group = spec.Group
-waiting (kept.Both e) = spec.Both (formula e)
-waiting (kept.Either e) = spec.Either (formula e)
+waiting (kept.Both e) = spec.Both (formula (box_value e))
+waiting (kept.Either e) = spec.Either (formula (box_value e))
 
 -- the newest first
 abbrev pub stacked : List PendingOperand → List spec.PendingOperand

@@ -58,6 +58,21 @@ impl Draft {
         }
     }
 
+    /// The front of another row. The memory of what waits is kept, so that rows of deep expressions don't take it anew.
+    pub(crate) fn clear(&mut self)
+        ensures { self.new ≡ first_draft }
+    {
+        self.pending.clear();
+        self.expr = Expr::True;
+        self.index = 0;
+        self.op = Op::Eq;
+        self.action = Action::Permit;
+        self.grant = None;
+        self.log = false;
+        self.cmp = Cmp::Same;
+        self.predicate = None;
+    }
+
     /// This waits for what comes next.
     pub(crate) fn wait(&mut self, pending: PendingOperand) -> Result<(), AllocError>
         ensures { OnOk result (self.new ≡ with_pending self.old (waiting pending)) }
@@ -81,19 +96,21 @@ impl Draft {
     }
 
     /// `and` joins what was read with what comes next.
-    pub(crate) fn join_both(&mut self) -> Result<(), AllocError>
+    pub(crate) fn join_both(&mut self, alloc: Global) -> Result<(), AllocError>
         ensures { OnOk result (self.new ≡ record self.old { expression = joins_both self.old.expression }) }
     {
         let left = replace(&mut self.expr, Expr::True);
-        self.pending.push(PendingOperand::Both(left))
+        self.pending
+            .push(PendingOperand::Both(Box::new(alloc, left)?))
     }
 
     /// The same for `or`, behind a complete conjunction.
-    pub(crate) fn join_either(&mut self) -> Result<(), AllocError>
+    pub(crate) fn join_either(&mut self, alloc: Global) -> Result<(), AllocError>
         ensures { OnOk result (self.new ≡ record self.old { expression = joins_either self.old.expression }) }
     {
         let left = replace(&mut self.expr, Expr::True);
-        self.pending.push(PendingOperand::Either(left))
+        self.pending
+            .push(PendingOperand::Either(Box::new(alloc, left)?))
     }
 
     /// A parenthesis is closed, behind a complete conjunction.
@@ -104,17 +121,20 @@ impl Draft {
         self.pending.settle(alloc, &mut self.expr)
     }
 
-    /// The filter of this name that the row has spelled.
-    pub(crate) fn filter(self, name: FilterName) -> Filter
-        ensures { result ≡ filter_of name self }
+    /// The filter of this name that the row has spelled; another row may begin.
+    pub(crate) fn take_filter(&mut self, name: FilterName) -> Filter
+        ensures filter { result ≡ filter_of name self.old }
+        ensures front { self.new ≡ first_draft }
     {
-        Filter::new(
+        let filter = Filter::new(
             name,
-            self.expr,
+            replace(&mut self.expr, Expr::True),
             self.action,
             self.grant,
             self.log,
             self.predicate,
-        )
+        );
+        self.clear();
+        filter
     }
 }

@@ -57,7 +57,7 @@ fn filter_at_end(
 fn begin_filter<'a>(alloc: Global, at: u32, symbol: &Symbol<'a>) -> Result<Reader<'a>, PolicyFault>
     ensures walk { IfOk result (λ reader. begin_filter at (seen symbol.now) ≡ Ok reader.walk) }
     ensures draft { IfOk result (λ reader. reader.draft ≡ first_draft) }
-    ensures fault { IfErr result (λ f. begin_filter at (seen symbol.now) ≡ Err f) }
+    ensures fault { IfErr result (λ f. f ≢ PolicyFault.NoMemory → begin_filter at (seen symbol.now) ≡ Err f) }
 {
     let Symbol::Word(word) = *symbol else {
         return Err(PolicyFault::Expected(at));

@@ -9,7 +9,6 @@ ghost use Rattle.st_policy.specs.Refusals.{place_from, place_in, refusal_in};
 ghost use Rattle.st_policy.specs.Draft.{is_between_rows, is_binary_place, ends_filter, filter_of, first_draft, draft_after, set_after, as_reading, read_step, read_end, read_from, first_reading, set_of, policies_in};
 ghost use Rattle.st_filter.specs.declared.set.TheConstants.{MOST_FILTERS};
 
-use crate::draft::Draft;
 use crate::env::Env;
 use crate::fault::{PolicyFault, PolicyRefusal};
 use crate::steps::Reader;
@@ -18,7 +17,6 @@ use st_base::Text;
 use st_filter::{Filter, PolicySet};
 use st_lex::{LexFault, Token, tokens, unquote};
 use std::alloc::{AllocError, Global};
-use std::mem::replace;
 
 fn if_absolute(name: Text) -> Option<Text>
     ensures { result ≡ if_absolute name }
@@ -58,7 +56,8 @@ pub(crate) fn lexical(fault: LexFault, found: PolicyFault) -> PolicyFault
 
 // Rows, and what they add to the policies.
 impl<'a> Reader<'a> {
-    // Behind `Policy:`.
+    // Behind `Policy:`. Kept out of line, since few symbols are binaries.
+    #[inline(never)]
     fn read_binary(
         &mut self,
         alloc: Global,
@@ -78,6 +77,19 @@ impl<'a> Reader<'a> {
         self.walk.begin_policy(set, at, binary.bytes())?;
         set.begin(alloc, binary)?;
         Ok(())
+    }
+
+    // The end of a filter's row adds it to the policies. Kept out of line, since most symbols end no row.
+    #[inline(never)]
+    fn end_filter(&mut self, alloc: Global, set: &mut PolicySet) -> Result<(), AllocError>
+        requires { filters_in set.old < MOST_FILTERS }
+        ensures ok { OnOk result (set.new ≡ add_filter set.old (filter_of self.old.walk.name self.old.draft)) }
+        ensures draft { OnOk result (self.new.draft ≡ first_draft) }
+        ensures walk { self.new.walk ≡ self.old.walk }
+        ensures same { OnErr result (set.new ≡ set.old) }
+    {
+        let filter = self.take_filter(alloc)?;
+        set.add_filter(filter)
     }
 
     // At every other place; the end of a filter's row adds it to the policies.
@@ -100,7 +112,7 @@ impl<'a> Reader<'a> {
         let ends = symbol.is_line() && self.walk.place().ends_filter();
         self.step(alloc, env, at, symbol)?;
         if ends {
-            set.add_filter(self.take_filter(alloc)?)?;
+            self.end_filter(alloc, set)?;
         }
         Ok(())
     }

@@ -14,9 +14,9 @@ pub(crate) enum PendingOperand {
     Negation,
     Group,
     /// Joined by `and` with what comes next.
-    Both(Expr),
+    Both(Box<Expr>),
     /// Joined by `or` with what comes next.
-    Either(Expr),
+    Either(Box<Expr>),
 }
 
 impl PendingOperand {
@@ -61,14 +61,8 @@ impl PendingOperand {
         match self {
             PendingOperand::Negation => Ok(Expr::Not(Box::new(alloc, right)?)),
             PendingOperand::Group => Ok(right),
-            PendingOperand::Both(left) => Ok(Expr::And(
-                Box::new(alloc, left)?,
-                Box::new(alloc, right)?,
-            )),
-            PendingOperand::Either(left) => Ok(Expr::Or(
-                Box::new(alloc, left)?,
-                Box::new(alloc, right)?,
-            )),
+            PendingOperand::Both(left) => Ok(Expr::And(left, Box::new(alloc, right)?)),
+            PendingOperand::Either(left) => Ok(Expr::Or(left, Box::new(alloc, right)?)),
         }
     }
 }
@@ -102,6 +96,13 @@ impl Stack {
         Stack {
             items: Vec::new(alloc),
         }
+    }
+
+    /// Nothing waits any more; the memory is kept for the next row.
+    pub(crate) fn clear(&mut self)
+        ensures { self.new ≡ [] }
+    {
+        self.items.clear();
     }
 
     pub(crate) fn push(&mut self, pending: PendingOperand) -> Result<(), AllocError>
@@ -149,9 +150,30 @@ impl Stack {
         }
     }
 
-    /// An operand is complete: what waits and binds it takes it.
+    // Whether the newest takes an operand at once.
+    fn is_binding(&self) -> bool
+        ensures { result ≡ newest_is is_tight self.now }
+    {
+        match self.items.last() {
+            Some(pending) => pending.is_tight(),
+            None => false,
+        }
+    }
+
+    // Whether the newest is an `or`.
+    fn is_joining(&self) -> bool
+        ensures { result ≡ newest_is is_either self.now }
+    {
+        match self.items.last() {
+            Some(pending) => pending.is_either(),
+            None => false,
+        }
+    }
+
+    // What waits and binds takes the operand. Kept out of line, since mostly nothing does.
+    #[inline(never)]
     #[tactic(auto, using(crate::proofs::Settling::settle_binds, crate::proofs::Settling::settle_stops))]
-    pub(crate) fn settle(&mut self, alloc: Global, operand: &mut Expr) -> Result<(), AllocError>
+    fn bind(&mut self, alloc: Global, operand: &mut Expr) -> Result<(), AllocError>
         ensures { OnOk result (reduced self.new (formula operand.new) ≡ settle self.old (formula operand.old)) }
     {
         while let Some(pending) = self.pop_binding() {
@@ -161,13 +183,23 @@ impl Stack {
         Ok(())
     }
 
-    /// A conjunction is complete: an `or` that waits takes it.
+    /// An operand is complete: what waits and binds takes it.
+    #[inline]
+    #[tactic(auto, using(crate::proofs::Settling::settle_stops))]
+    pub(crate) fn settle(&mut self, alloc: Global, operand: &mut Expr) -> Result<(), AllocError>
+        ensures { OnOk result (reduced self.new (formula operand.new) ≡ settle self.old (formula operand.old)) }
+    {
+        if self.is_binding() {
+            self.bind(alloc, operand)
+        } else {
+            Ok(())
+        }
+    }
+
+    // An `or` that waits takes the conjunction. Kept out of line, as `bind` is.
+    #[inline(never)]
     #[tactic(auto, using(crate::proofs::Settling::close_either_joins, crate::proofs::Settling::close_either_stops))]
-    pub(crate) fn close_either(
-        &mut self,
-        alloc: Global,
-        conjunction: &mut Expr,
-    ) -> Result<(), AllocError>
+    fn bind_either(&mut self, alloc: Global, conjunction: &mut Expr) -> Result<(), AllocError>
         ensures { OnOk result (reduced self.new (formula conjunction.new) ≡ close_either self.old (formula conjunction.old)) }
     {
         if let Some(pending) = self.pop_either() {
@@ -175,6 +207,23 @@ impl Stack {
             *conjunction = pending.with_right_operand(alloc, right)?;
         }
         Ok(())
+    }
+
+    /// A conjunction is complete: an `or` that waits takes it.
+    #[inline]
+    #[tactic(auto, using(crate::proofs::Settling::close_either_stops))]
+    pub(crate) fn close_either(
+        &mut self,
+        alloc: Global,
+        conjunction: &mut Expr,
+    ) -> Result<(), AllocError>
+        ensures { OnOk result (reduced self.new (formula conjunction.new) ≡ close_either self.old (formula conjunction.old)) }
+    {
+        if self.is_joining() {
+            self.bind_either(alloc, conjunction)
+        } else {
+            Ok(())
+        }
     }
 
     /// The innermost parenthesis is closed.

@@ -1,6 +1,6 @@
 ghost use Rattle.std.specs.Prelude.{◌≡◌, ◌≢◌, ℕ, List, [], Ok, Err, false, unwrap_or, IfOk, IfErr, OnOk};
 ghost use Rattle.st_policy.specs.Symbol.{seen, Word};
-ghost use Rattle.st_policy.specs.Diagram.{is_quoted, only, step_start, step_row, step_system, step_operand, step_operator, step_label, step_indexed, step_index, step_joint, step_action, step_clause, step_as, step_tail, step_denial, step_error, step_id, step_grant, step_user, step_who, word_who, step_comparison, next};
+ghost use Rattle.st_policy.specs.Diagram.{IsStepped, is_quoted, only, step_start, step_row, step_system, step_operand, step_operator, step_label, step_indexed, step_index, step_joint, step_action, step_clause, step_as, step_tail, step_denial, step_error, step_id, step_grant, step_user, step_who, word_who, step_comparison, next};
 ghost use Rattle.st_policy.specs.Grammar.{comparison};
 ghost use Rattle.st_policy.specs.Words.{names_for};
 ghost use Rattle.st_policy.specs.Draft.{first_draft, filter_of, is_binary_place, draft_row, draft_operand, draft_operator, draft_index, draft_text, draft_joint, draft_action, draft_clause, draft_error, draft_tail, draft_grant, draft_group, draft_comparison, draft_id, draft_step};
@@ -17,7 +17,6 @@ use st_base::{Errno, Text};
 use st_filter::{Action, Cmp, Expr, Filter, FilterName, Grant, Predicate, Who};
 use st_lex::unquote;
 use std::alloc::{AllocError, Global};
-use std::mem::replace;
 
 /// How far a text is read, but for its policies. Each step takes one symbol in: the grammar goes on, and the row's draft gets what the
 /// symbol spells.
@@ -42,17 +41,15 @@ impl<'a> Reader<'a> {
 
     // One thing alone may stand here, which adds nothing.
     fn only(&mut self, at: u32, fits: bool, next: Place) -> Result<(), PolicyFault>
-        ensures walk { OnOk result (only self.old.walk at fits next ≡ Ok self.new.walk) }
+        ensures walk { IsStepped result self.new.walk (only self.old.walk at fits next) }
         ensures draft { self.new.draft ≡ self.old.draft }
-        ensures fault { IfErr result (λ f. only self.old.walk at fits next ≡ Err f) }
     {
         self.walk.only(at, fits, next)
     }
 
     fn step_start(&mut self, at: u32, symbol: &Symbol<'a>) -> Result<(), PolicyFault>
-        ensures walk { OnOk result (step_start self.old.walk at (seen symbol.now) ≡ Ok self.new.walk) }
+        ensures walk { IsStepped result self.new.walk (step_start self.old.walk at (seen symbol.now)) }
         ensures draft { self.new.draft ≡ self.old.draft }
-        ensures fault { IfErr result (λ f. step_start self.old.walk at (seen symbol.now) ≡ Err f) }
     {
         match *symbol {
             Symbol::Line => {
@@ -64,10 +61,9 @@ impl<'a> Reader<'a> {
         }
     }
 
-    fn step_row(&mut self, alloc: Global, at: u32, symbol: &Symbol<'a>) -> Result<(), PolicyFault>
-        ensures walk { OnOk result (step_row self.old.walk at (seen symbol.now) ≡ Ok self.new.walk) }
+    fn step_row(&mut self, at: u32, symbol: &Symbol<'a>) -> Result<(), PolicyFault>
+        ensures walk { IsStepped result self.new.walk (step_row self.old.walk at (seen symbol.now)) }
         ensures draft { OnOk result (self.new.draft ≡ draft_row self.old.draft (seen symbol.now)) }
-        ensures fault { IfErr result (λ f. step_row self.old.walk at (seen symbol.now) ≡ Err f) }
     {
         match *symbol {
             Symbol::Line => {
@@ -75,7 +71,7 @@ impl<'a> Reader<'a> {
                 Ok(())
             }
             Symbol::Word(word) => {
-                self.draft = Draft::new(alloc);
+                self.draft.clear();
                 if is(word, b"Policy") {
                     self.walk.go(Place::PolicyColon);
                     Ok(())
@@ -88,9 +84,8 @@ impl<'a> Reader<'a> {
     }
 
     fn step_system(&mut self, at: u32, symbol: &Symbol<'a>) -> Result<(), PolicyFault>
-        ensures walk { OnOk result (step_system self.old.walk at (seen symbol.now) ≡ Ok self.new.walk) }
+        ensures walk { IsStepped result self.new.walk (step_system self.old.walk at (seen symbol.now)) }
         ensures draft { self.new.draft ≡ self.old.draft }
-        ensures fault { IfErr result (λ f. step_system self.old.walk at (seen symbol.now) ≡ Err f) }
     {
         match *symbol {
             Symbol::Word(word) => {
@@ -113,9 +108,8 @@ impl<'a> Reader<'a> {
         at: u32,
         symbol: &Symbol<'a>,
     ) -> Result<(), PolicyFault>
-        ensures walk { OnOk result (step_operand self.old.walk at (seen symbol.now) ≡ Ok self.new.walk) }
+        ensures walk { IsStepped result self.new.walk (step_operand self.old.walk at (seen symbol.now)) }
         ensures draft { OnOk result (self.new.draft ≡ draft_operand self.old.draft (seen symbol.now)) }
-        ensures fault { IfErr result (λ f. f ≢ PolicyFault.NoMemory → step_operand self.old.walk at (seen symbol.now) ≡ Err f) }
     {
         match *symbol {
             Symbol::Open => {
@@ -142,9 +136,8 @@ impl<'a> Reader<'a> {
     }
 
     fn step_operator(&mut self, at: u32, symbol: &Symbol<'a>) -> Result<(), PolicyFault>
-        ensures walk { OnOk result (step_operator self.old.walk at (seen symbol.now) ≡ Ok self.new.walk) }
+        ensures walk { IsStepped result self.new.walk (step_operator self.old.walk at (seen symbol.now)) }
         ensures draft { OnOk result (self.new.draft ≡ draft_operator self.old.draft (seen symbol.now)) }
-        ensures fault { IfErr result (λ f. step_operator self.old.walk at (seen symbol.now) ≡ Err f) }
     {
         let Symbol::Word(word) = *symbol else {
             return Err(PolicyFault::Expected(at));
@@ -161,9 +154,8 @@ impl<'a> Reader<'a> {
     }
 
     fn step_label(&mut self, at: u32, symbol: &Symbol<'a>) -> Result<(), PolicyFault>
-        ensures walk { OnOk result (step_label self.old.walk at (seen symbol.now) ≡ Ok self.new.walk) }
+        ensures walk { IsStepped result self.new.walk (step_label self.old.walk at (seen symbol.now)) }
         ensures draft { OnOk result (self.new.draft ≡ draft_operator self.old.draft (seen symbol.now)) }
-        ensures fault { IfErr result (λ f. step_label self.old.walk at (seen symbol.now) ≡ Err f) }
     {
         match *symbol {
             Symbol::OpenBracket => {
@@ -177,9 +169,8 @@ impl<'a> Reader<'a> {
 
     // The index that is spelled, if one is.
     fn step_indexed(&mut self, at: u32, index: Option<u32>) -> Result<(), PolicyFault>
-        ensures walk { OnOk result (step_indexed self.old.walk at index ≡ Ok self.new.walk) }
+        ensures walk { IsStepped result self.new.walk (step_indexed self.old.walk at index) }
         ensures draft { OnOk result (self.new.draft ≡ record self.old.draft { index = unwrap_or index self.old.draft.index }) }
-        ensures fault { IfErr result (λ f. step_indexed self.old.walk at index ≡ Err f) }
     {
         match index {
             Some(index) if self.walk.may_test(index) => {
@@ -193,9 +184,8 @@ impl<'a> Reader<'a> {
     }
 
     fn step_index(&mut self, at: u32, symbol: &Symbol<'a>) -> Result<(), PolicyFault>
-        ensures walk { OnOk result (step_index self.old.walk at (seen symbol.now) ≡ Ok self.new.walk) }
+        ensures walk { IsStepped result self.new.walk (step_index self.old.walk at (seen symbol.now)) }
         ensures draft { OnOk result (self.new.draft ≡ draft_index self.old.draft (seen symbol.now)) }
-        ensures fault { IfErr result (λ f. step_index self.old.walk at (seen symbol.now) ≡ Err f) }
     {
         match *symbol {
             Symbol::Word(word) => self.step_indexed(at, index_of(word)),
@@ -210,9 +200,8 @@ impl<'a> Reader<'a> {
         at: u32,
         symbol: &Symbol<'a>,
     ) -> Result<(), PolicyFault>
-        ensures walk { OnOk result (only self.old.walk at (is_quoted (seen symbol.now)) Place.Joint ≡ Ok self.new.walk) }
+        ensures walk { IsStepped result self.new.walk (only self.old.walk at (is_quoted (seen symbol.now)) Place.Joint) }
         ensures draft { OnOk result (self.new.draft ≡ draft_text env.now self.old.walk.label self.old.draft (seen symbol.now)) }
-        ensures fault { IfErr result (λ f. f ≢ PolicyFault.NoMemory → only self.old.walk at (is_quoted (seen symbol.now)) Place.Joint ≡ Err f) }
     {
         let Symbol::Quoted(source) = *symbol else {
             return Err(PolicyFault::Expected(at));
@@ -230,17 +219,16 @@ impl<'a> Reader<'a> {
 
     // `and`, `or`, or `then` behind an operand.
     fn step_joint_word(&mut self, alloc: Global, at: u32, word: &'a [u8]) -> Result<(), PolicyFault>
-        ensures walk { OnOk result (step_joint self.old.walk at (Word word.now) ≡ Ok self.new.walk) }
+        ensures walk { IsStepped result self.new.walk (step_joint self.old.walk at (Word word.now)) }
         ensures draft { OnOk result (self.new.draft ≡ draft_joint self.old.draft (Word word.now)) }
-        ensures fault { IfErr result (λ f. f ≢ PolicyFault.NoMemory → step_joint self.old.walk at (Word word.now) ≡ Err f) }
     {
         if is(word, b"and") {
             self.walk.join(at)?;
-            self.draft.join_both()?;
+            self.draft.join_both(alloc)?;
         } else if is(word, b"or") {
             self.walk.join(at)?;
             self.draft.end_conjunction(alloc)?;
-            self.draft.join_either()?;
+            self.draft.join_either(alloc)?;
         } else {
             let ends = is(word, b"then") && self.walk.is_closed();
             self.only(at, ends, Place::Action)?;
@@ -250,9 +238,8 @@ impl<'a> Reader<'a> {
     }
 
     fn step_joint(&mut self, alloc: Global, at: u32, symbol: &Symbol<'a>) -> Result<(), PolicyFault>
-        ensures walk { OnOk result (step_joint self.old.walk at (seen symbol.now) ≡ Ok self.new.walk) }
+        ensures walk { IsStepped result self.new.walk (step_joint self.old.walk at (seen symbol.now)) }
         ensures draft { OnOk result (self.new.draft ≡ draft_joint self.old.draft (seen symbol.now)) }
-        ensures fault { IfErr result (λ f. f ≢ PolicyFault.NoMemory → step_joint self.old.walk at (seen symbol.now) ≡ Err f) }
     {
         match *symbol {
             Symbol::Close => {
@@ -270,9 +257,8 @@ impl<'a> Reader<'a> {
 // Actions and what follows them.
 impl<'a> Reader<'a> {
     fn step_action(&mut self, env: &Env, at: u32, symbol: &Symbol<'a>) -> Result<(), PolicyFault>
-        ensures walk { OnOk result (step_action env.now self.old.walk at (seen symbol.now) ≡ Ok self.new.walk) }
+        ensures walk { IsStepped result self.new.walk (step_action env.now self.old.walk at (seen symbol.now)) }
         ensures draft { OnOk result (self.new.draft ≡ draft_action self.old.draft (seen symbol.now)) }
-        ensures fault { IfErr result (λ f. step_action env.now self.old.walk at (seen symbol.now) ≡ Err f) }
     {
         let Symbol::Word(word) = *symbol else {
             return Err(PolicyFault::Expected(at));
@@ -308,9 +294,8 @@ impl<'a> Reader<'a> {
         at: u32,
         symbol: &Symbol<'a>,
     ) -> Result<(), PolicyFault>
-        ensures walk { OnOk result (step_clause env.now self.old.walk at (seen symbol.now) ≡ Ok self.new.walk) }
+        ensures walk { IsStepped result self.new.walk (step_clause env.now self.old.walk at (seen symbol.now)) }
         ensures draft { OnOk result (self.new.draft ≡ draft_clause self.old.draft (seen symbol.now)) }
-        ensures fault { IfErr result (λ f. f ≢ PolicyFault.NoMemory → step_clause env.now self.old.walk at (seen symbol.now) ≡ Err f) }
     {
         if symbol.is_action() {
             self.step_action(env, at, symbol)
@@ -320,9 +305,8 @@ impl<'a> Reader<'a> {
     }
 
     fn step_as(&mut self, env: &Env, at: u32, log: bool) -> Result<(), PolicyFault>
-        ensures walk { OnOk result (step_as env.now self.old.walk at log ≡ Ok self.new.walk) }
+        ensures walk { IsStepped result self.new.walk (step_as env.now self.old.walk at log) }
         ensures draft { self.new.draft ≡ self.old.draft }
-        ensures fault { IfErr result (λ f. step_as env.now self.old.walk at log ≡ Err f) }
     {
         if !env.elevate {
             return Err(PolicyFault::ElevateWithoutIds(at));
@@ -343,9 +327,8 @@ impl<'a> Reader<'a> {
         at: u32,
         word: &'a [u8],
     ) -> Result<(), PolicyFault>
-        ensures walk { OnOk result (step_tail env.now grant log self.old.walk at (Word word.now) ≡ Ok self.new.walk) }
+        ensures walk { IsStepped result self.new.walk (step_tail env.now grant log self.old.walk at (Word word.now)) }
         ensures draft { OnOk result (self.new.draft ≡ draft_tail self.old.draft (Word word.now)) }
-        ensures fault { IfErr result (λ f. step_tail env.now grant log self.old.walk at (Word word.now) ≡ Err f) }
     {
         if is(word, b"as") && grant {
             return self.step_as(env, at, log);
@@ -367,9 +350,8 @@ impl<'a> Reader<'a> {
         at: u32,
         symbol: &Symbol<'a>,
     ) -> Result<(), PolicyFault>
-        ensures walk { OnOk result (step_tail env.now grant log self.old.walk at (seen symbol.now) ≡ Ok self.new.walk) }
+        ensures walk { IsStepped result self.new.walk (step_tail env.now grant log self.old.walk at (seen symbol.now)) }
         ensures draft { OnOk result (self.new.draft ≡ draft_tail self.old.draft (seen symbol.now)) }
-        ensures fault { IfErr result (λ f. step_tail env.now grant log self.old.walk at (seen symbol.now) ≡ Err f) }
     {
         match *symbol {
             Symbol::Line => {
@@ -386,9 +368,8 @@ impl<'a> Reader<'a> {
     }
 
     fn step_denial(&mut self, env: &Env, at: u32, symbol: &Symbol<'a>) -> Result<(), PolicyFault>
-        ensures walk { OnOk result (step_denial env.now self.old.walk at (seen symbol.now) ≡ Ok self.new.walk) }
+        ensures walk { IsStepped result self.new.walk (step_denial env.now self.old.walk at (seen symbol.now)) }
         ensures draft { OnOk result (self.new.draft ≡ draft_tail self.old.draft (seen symbol.now)) }
-        ensures fault { IfErr result (λ f. step_denial env.now self.old.walk at (seen symbol.now) ≡ Err f) }
     {
         match *symbol {
             Symbol::OpenBracket => {
@@ -400,9 +381,8 @@ impl<'a> Reader<'a> {
     }
 
     fn step_error(&mut self, at: u32, symbol: &Symbol<'a>) -> Result<(), PolicyFault>
-        ensures walk { OnOk result (step_error self.old.walk at (seen symbol.now) ≡ Ok self.new.walk) }
+        ensures walk { IsStepped result self.new.walk (step_error self.old.walk at (seen symbol.now)) }
         ensures draft { OnOk result (self.new.draft ≡ draft_error self.old.draft (seen symbol.now)) }
-        ensures fault { IfErr result (λ f. step_error self.old.walk at (seen symbol.now) ≡ Err f) }
     {
         let Symbol::Word(word) = *symbol else {
             return Err(PolicyFault::Expected(at));
@@ -425,9 +405,8 @@ impl<'a> Reader<'a> {
         at: u32,
         symbol: &Symbol<'a>,
     ) -> Result<(), PolicyFault>
-        ensures walk { OnOk result (step_grant env.now log self.old.walk at (seen symbol.now) ≡ Ok self.new.walk) }
+        ensures walk { IsStepped result self.new.walk (step_grant env.now log self.old.walk at (seen symbol.now)) }
         ensures draft { OnOk result (self.new.draft ≡ draft_grant env.now self.old.draft (seen symbol.now)) }
-        ensures fault { IfErr result (λ f. step_grant env.now log self.old.walk at (seen symbol.now) ≡ Err f) }
     {
         let user = match *symbol {
             Symbol::Colon => {
@@ -454,9 +433,8 @@ impl<'a> Reader<'a> {
         at: u32,
         symbol: &Symbol<'a>,
     ) -> Result<(), PolicyFault>
-        ensures walk { OnOk result (step_user env.now log self.old.walk at (seen symbol.now) ≡ Ok self.new.walk) }
+        ensures walk { IsStepped result self.new.walk (step_user env.now log self.old.walk at (seen symbol.now)) }
         ensures draft { OnOk result (self.new.draft ≡ draft_tail self.old.draft (seen symbol.now)) }
-        ensures fault { IfErr result (λ f. step_user env.now log self.old.walk at (seen symbol.now) ≡ Err f) }
     {
         match *symbol {
             Symbol::Colon => {
@@ -474,9 +452,8 @@ impl<'a> Reader<'a> {
         at: u32,
         symbol: &Symbol<'a>,
     ) -> Result<(), PolicyFault>
-        ensures walk { OnOk result (step_id env.now.groups self.old.walk at (Place.Tail false log) (seen symbol.now) ≡ Ok self.new.walk) }
+        ensures walk { IsStepped result self.new.walk (step_id env.now.groups self.old.walk at (Place.Tail false log) (seen symbol.now)) }
         ensures draft { OnOk result (self.new.draft ≡ draft_group env.now self.old.draft (seen symbol.now)) }
-        ensures fault { IfErr result (λ f. step_id env.now.groups self.old.walk at (Place.Tail false log) (seen symbol.now) ≡ Err f) }
     {
         let Symbol::Word(word) = *symbol else {
             return Err(PolicyFault::Expected(at));
@@ -496,9 +473,8 @@ impl<'a> Reader<'a> {
     }
 
     fn step_who(&mut self, at: u32, symbol: &Symbol<'a>) -> Result<(), PolicyFault>
-        ensures walk { OnOk result (step_who self.old.walk at (word_who (seen symbol.now)) ≡ Ok self.new.walk) }
+        ensures walk { IsStepped result self.new.walk (step_who self.old.walk at (word_who (seen symbol.now))) }
         ensures draft { self.new.draft ≡ self.old.draft }
-        ensures fault { IfErr result (λ f. step_who self.old.walk at (word_who (seen symbol.now)) ≡ Err f) }
     {
         let Symbol::Word(word) = *symbol else {
             return Err(PolicyFault::Expected(at));
@@ -511,9 +487,8 @@ impl<'a> Reader<'a> {
     }
 
     fn step_comparison(&mut self, who: Who, at: u32, cmp: Option<Cmp>) -> Result<(), PolicyFault>
-        ensures walk { OnOk result (step_comparison who self.old.walk at cmp ≡ Ok self.new.walk) }
+        ensures walk { IsStepped result self.new.walk (step_comparison who self.old.walk at cmp) }
         ensures draft { OnOk result (self.new.draft ≡ draft_comparison self.old.draft cmp) }
-        ensures fault { IfErr result (λ f. step_comparison who self.old.walk at cmp ≡ Err f) }
     {
         let Some(cmp) = cmp else {
             return Err(PolicyFault::Expected(at));
@@ -530,9 +505,8 @@ impl<'a> Reader<'a> {
         at: u32,
         symbol: &Symbol<'a>,
     ) -> Result<(), PolicyFault>
-        ensures walk { OnOk result (step_id (names_for env.now who) self.old.walk at Place.FilterEnd (seen symbol.now) ≡ Ok self.new.walk) }
+        ensures walk { IsStepped result self.new.walk (step_id (names_for env.now who) self.old.walk at Place.FilterEnd (seen symbol.now)) }
         ensures draft { OnOk result (self.new.draft ≡ draft_id env.now who self.old.draft (seen symbol.now)) }
-        ensures fault { IfErr result (λ f. step_id (names_for env.now who) self.old.walk at Place.FilterEnd (seen symbol.now) ≡ Err f) }
     {
         let Symbol::Word(word) = *symbol else {
             return Err(PolicyFault::Expected(at));
@@ -561,13 +535,12 @@ impl<'a> Reader<'a> {
         symbol: &Symbol<'a>,
     ) -> Result<(), PolicyFault>
         requires { is_binary_place self.old.walk.place ≡ false }
-        ensures walk { (known : List (List ℕ)) → OnOk result (next env.now known self.old.walk at (seen symbol.now) ≡ Ok self.new.walk) }
+        ensures walk { (known : List (List ℕ)) → IsStepped result self.new.walk (next env.now known self.old.walk at (seen symbol.now)) }
         ensures draft { OnOk result (self.new.draft ≡ draft_step env.now self.old.walk.label self.old.draft (seen symbol.now) self.old.walk.place) }
-        ensures fault { (known : List (List ℕ)) → IfErr result (λ f. f ≢ PolicyFault.NoMemory → next env.now known self.old.walk at (seen symbol.now) ≡ Err f) }
     {
         match self.walk.place() {
             Place::Start => self.step_start(at, symbol),
-            Place::Row => self.step_row(alloc, at, symbol),
+            Place::Row => self.step_row(at, symbol),
             Place::PolicyColon => self.only(at, symbol.is_colon(), Place::Binary),
             Place::Binary => unreachable!(),
             Place::Comma => self.only(at, symbol.is_comma(), Place::Emulation),
@@ -616,6 +589,6 @@ impl<'a> Reader<'a> {
         ensures draft { OnOk result (self.new.draft ≡ first_draft) }
     {
         let name = self.walk.filter_name(alloc)?;
-        Ok(replace(&mut self.draft, Draft::new(alloc)).filter(name))
+        Ok(self.draft.take_filter(name))
     }
 }

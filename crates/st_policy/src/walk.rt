@@ -2,7 +2,7 @@ ghost use Rattle.std.specs.Prelude.{◌≡◌, ◌+◌, ◌==◌, [], Ok, Err, S
 ghost use Rattle.st_policy.specs.Words.{name_by, filter_name, may_test, may_test_label, sets_ids};
 ghost use Rattle.st_policy.specs.Symbol.{Close};
 ghost use Rattle.st_filter.specs.Policies.{has_policy};
-ghost use Rattle.st_policy.specs.Diagram.{only, step_name, step_binary, joined, step_joint, binaries};
+ghost use Rattle.st_policy.specs.Diagram.{IsStepped, only, step_name, step_binary, joined, step_joint, binaries};
 
 use crate::fault::PolicyFault;
 use crate::place::Place;
@@ -79,8 +79,7 @@ impl<'a> GrammarState<'a> {
 
     /// One thing alone may stand here.
     pub(crate) fn only(&mut self, at: u32, fits: bool, next: Place) -> Result<(), PolicyFault>
-        ensures ok { OnOk result (only self.old at fits next ≡ Ok self.new) }
-        ensures fault { IfErr result (λ f. only self.old at fits next ≡ Err f) }
+        ensures ok { IsStepped result self.new (only self.old at fits next) }
     {
         if !fits {
             return Err(PolicyFault::Expected(at));
@@ -97,8 +96,7 @@ impl<'a> GrammarState<'a> {
         at: u32,
         binary: &[u8],
     ) -> Result<(), PolicyFault>
-        ensures ok { OnOk result (step_binary (binaries known.now) self.old at (Some binary.now) ≡ Ok self.new) }
-        ensures fault { IfErr result (λ f. step_binary (binaries known.now) self.old at (Some binary.now) ≡ Err f) }
+        ensures ok { IsStepped result self.new (step_binary (binaries known.now) self.old at (Some binary.now)) }
         ensures new { OnOk result (has_policy known.now binary.now ≡ false) }
     {
         if known.has(binary) {
@@ -113,8 +111,7 @@ impl<'a> GrammarState<'a> {
 impl<'a> GrammarState<'a> {
     /// At the front of a row, where a filter's name stands.
     pub(crate) fn begin_filter(&mut self, at: u32, word: &'a [u8]) -> Result<(), PolicyFault>
-        ensures ok { OnOk result (step_name self.old at (filter_name word.now) ≡ Ok self.new) }
-        ensures fault { IfErr result (λ f. step_name self.old at (filter_name word.now) ≡ Err f) }
+        ensures ok { IsStepped result self.new (step_name self.old at (filter_name word.now)) }
     {
         let Some(name) = native_name(word) else {
             return Err(PolicyFault::UnknownCall(at));
@@ -153,8 +150,7 @@ impl<'a> GrammarState<'a> {
 impl<'a> GrammarState<'a> {
     /// One more of `not`, `and` and `or`.
     pub(crate) fn join(&mut self, at: u32) -> Result<(), PolicyFault>
-        ensures ok { OnOk result (joined self.old at ≡ Ok self.new) }
-        ensures fault { IfErr result (λ f. joined self.old at ≡ Err f) }
+        ensures ok { IsStepped result self.new (joined self.old at) }
     {
         if self.joins >= MOST_JOINS {
             return Err(PolicyFault::TooMany(at));
@@ -166,8 +162,7 @@ impl<'a> GrammarState<'a> {
 
     /// One more `(`.
     pub(crate) fn open(&mut self, at: u32) -> Result<(), PolicyFault>
-        ensures ok { OnOk result (joined (record self.old { parens = self.old.parens + 1 }) at ≡ Ok self.new) }
-        ensures fault { IfErr result (λ f. joined (record self.old { parens = self.old.parens + 1 }) at ≡ Err f) }
+        ensures ok { IsStepped result self.new (joined (record self.old { parens = self.old.parens + 1 }) at) }
     {
         if self.joins >= MOST_JOINS {
             return Err(PolicyFault::TooMany(at));
@@ -180,8 +175,7 @@ impl<'a> GrammarState<'a> {
 
     /// A `)`.
     pub(crate) fn close(&mut self, at: u32) -> Result<(), PolicyFault>
-        ensures ok { OnOk result (step_joint self.old at Close ≡ Ok self.new) }
-        ensures fault { IfErr result (λ f. step_joint self.old at Close ≡ Err f) }
+        ensures ok { IsStepped result self.new (step_joint self.old at Close) }
     {
         if self.parens == 0 {
             return Err(PolicyFault::Expected(at));

@@ -13,7 +13,7 @@ use st_filter::{Op, Who};
 pub(crate) fn is(word: &[u8], keyword: &[u8]) -> bool
     ensures { result ≡ bytes_eq word.now keyword.now }
 {
-    word == keyword
+    word.iter().eq(keyword)
 }
 
 /// Whether a word is a label: any word but those of the grammar.
