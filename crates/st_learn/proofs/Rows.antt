@@ -136,10 +136,8 @@ pub room_there : (rows : List PolicyPlaces) (policy : List ℕ) (v : Vec ℕ Glo
 room_there rows policy v is left = let had : length v.items < vec_capacity v = subst IsRoomLeft is left in let same : vec_len v ≡ length v.items = v.ok.0 in omega (arith, had, same)
 
 -- there are no places where there is no row
-pub no_places_there : (es : List PlacesEntry) (policy : List ℕ) (index : ℕ) → is_some (lookup (is_key policy) es) ≡ false → index < length (places_in (shown_rows es) policy) → ⊥
-no_places_there es policy index none inside =
-    let empty : length (places_in (shown_rows es) policy) ≡ 0 = ap (λ o. length (places_with o)) (sym (listing_kept es policy) ∙ none_shown (lookup (is_key policy) es) none) in
-    absurd (omega (arith, inside, empty))
+pub no_places_there : (es : List PlacesEntry) (policy : List ℕ) → is_some (lookup (is_key policy) es) ≡ false → places_in (shown_rows es) policy ≡ []
+no_places_there es policy none = ap places_with (sym (listing_kept es policy) ∙ none_shown (lookup (is_key policy) es) none)
 
 -- ---- room is made in a row
 

@@ -1,26 +1,28 @@
 // What a session's filters say of calls.
-ghost use Rattle.std.specs.Prelude.{◌≡◌, ◌++◌, ◌≤◌, ◌^◌, ℕ, suc, length, None, IfSome};
+ghost use Rattle.std.specs.Prelude.{◌≡◌, ◌≤◌, ◌^◌, ℕ, suc, length, None, IfSome};
 ghost use Rattle.st_calls.specs.declared.judged.Verdict.TheVariants.{Unmatched};
 ghost use Rattle.st_filter.specs.Fast.{first_answer};
 ghost use Rattle.st_filter.specs.Judging.{verdict_from};
-ghost use Rattle.st_filter.specs.Policies.{filters_of, read_filters};
+ghost use Rattle.st_filter.specs.Policies.{read_filters};
+ghost use Rattle.st_filter.specs.declared.set.TheConstants.{MOST_FILTERS};
 ghost use Rattle.st_law.specs.Sessions.{session_filters};
 ghost use Rattle.st_learn.specs.Deciding.{IsDeciding, NoneHolds};
 
 use crate::session::Session;
 use st_calls::{FastAnswer, Rule, Snapshot, Verdict};
-use st_filter::{Filter, Policy, PolicySet, fast_answer, verdict_of};
+use st_filter::{Filter, PolicySet, fast_answer, verdict_of};
 
-// How many filters a policy has for a rule.
-fn read_count(policy: &Policy, rule: Rule) -> usize
-    ensures is { result ≡ length (filters_of rule policy.now) }
-    ensures few { result ≤ length policy.now }
+/// How many filters that were read there are for a policy and a rule. Those of a session are numbered on behind them.
+pub fn read_count(policies: &PolicySet, policy: &[u8], rule: Rule) -> u32
+    ensures is { result ≡ length (read_filters policies.now policy.now rule) }
+    ensures few { result ≤ MOST_FILTERS }
 {
-    policy
+    policies
+        .get(policy)
         .as_slice()
         .iter()
         .filter(|filter| filter.is_for(rule))
-        .count()
+        .count() as u32
 }
 
 impl Session {
@@ -43,20 +45,11 @@ impl Session {
     {
         match self.deciding(copies) {
             Some((number, filter)) => {
-                let policy = policies.get(copies.policy.get().bytes());
-                let read = read_count(policy, copies.rule) as u32;
+                let read = read_count(policies, copies.policy.get().bytes(), copies.rule);
                 verdict_of(filter, read + number, copies.ids)
             }
             None => Verdict::Unmatched,
         }
-    }
-
-    /// The number that the next filter for a policy and a rule has, behind those that were read and those of the session.
-    pub fn next_number(&self, policies: &PolicySet, policy: &[u8], rule: Rule) -> u32
-        ensures { result ≡ suc (length (read_filters policies.now policy.now rule ++ session_filters self.now.filters policy.now rule)) }
-    {
-        let read = read_count(policies.get(policy), rule);
-        (read + self.count_of(policy, rule)) as u32 + 1
     }
 
     /// What the kernel answers by itself by the session's first filter for a policy and a rule; none where the session has none.

@@ -10,6 +10,7 @@ pub mod places;
 mod print;
 pub mod session;
 
+pub use answering::read_count;
 pub use kept::Kept;
 pub use learnt::learnt_filter;
 pub use places::Places;

@@ -1,4 +1,4 @@
-ghost use Rattle.std.specs.Prelude.{◌≡◌, ◌<◌, ℕ, List, [], length, Some, IfOk, OnOk, OnErr};
+ghost use Rattle.std.specs.Prelude.{◌≡◌, ◌<◌, ℕ, List, [], length, None, Some, IfOk, OnOk, OnErr};
 ghost use Rattle.st_learn.specs.Places.{places_in, row_of, GainsPlace, HasRoomAt, KeepsPlaces, LosesPlace};
 
 use indexmap::IndexMap;
@@ -44,6 +44,14 @@ impl Places {
             Some(places) => places.as_slice(),
             None => &[],
         }
+    }
+
+    /// The row where those of a policy stand, if it has one.
+    pub fn row_of(&self, policy: &[u8]) -> Option<usize>
+        ensures is { result ≡ row_of self.now policy.now }
+        ensures none { result ≡ None → places_in self.now policy.now ≡ [] }
+    {
+        self.rows.get_index_of(policy)
     }
 
     /// Those of the policy with a row.
@@ -93,15 +101,12 @@ impl Places {
         Ok(())
     }
 
-    /// Takes the place at an index out of those of a policy, which takes no memory.
-    pub fn take_out(&mut self, policy: &[u8], index: usize)
-        requires { index < length (places_in self.old policy.now) }
-        ensures { LosesPlace self.old policy.now index self.new }
+    /// Takes the place at an index out of those of the policy with a row, which takes no memory.
+    pub fn take_out_at(&mut self, row: usize, index: usize)
+        requires { (policy : List ℕ) × ((row_of self.old policy ≡ Some row) × (index < length (places_in self.old policy))) }
+        ensures { (policy : List ℕ) → row_of self.old policy ≡ Some row → LosesPlace self.old policy index self.new }
     {
-        let Some(i) = self.rows.get_index_of(policy) else {
-            unreachable!()
-        };
-        let places = &mut self.rows[i];
+        let places = &mut self.rows[row];
         places.remove(index);
     }
 }

@@ -1,4 +1,4 @@
-ghost use Rattle.std.specs.Prelude.{◌≡◌, ℕ, List, ◌≤◌, ◌<◌, ◌^◌, ◌&&◌, [], ◌∷◌, ◌++◌, length, slice_get, Some, OnOk, OnErr};
+ghost use Rattle.std.specs.Prelude.{◌≡◌, ℕ, List, ◌≤◌, ◌<◌, ◌^◌, ◌&&◌, [], ◌∷◌, ◌++◌, length, slice_get, Some, IfOk, OnOk, OnErr};
 ghost use Rattle.st_law.specs.Sessions.{session_filters};
 ghost use Rattle.st_learn.specs.Deciding.{asks_first, decides, first_at, lesser, NumberIs};
 ghost use Rattle.st_learn.specs.Places.{KeepsPlaces, MayGainPlace};
@@ -92,15 +92,17 @@ impl Session {
         }
     }
 
-    /// Adds a filter for a policy and a rule, at the end. Without memory all is as before; a session of `MOST_KEPT` filters takes no more
-    /// either.
+    /// Adds a filter for a policy and a rule, at the end, and gives how many there were for them. Without memory all is as before; a session of
+    /// `MOST_KEPT` filters takes no more either.
     pub fn add(
         &mut self,
         alloc: Global,
         policy: &[u8],
         rule: Rule,
         filter: Filter,
-    ) -> Result<(), AllocError>
+    ) -> Result<u32, AllocError>
+        ensures few { IfOk result (λ number. number ≤ 2 ^ 31) }
+        ensures number { IfOk result (λ number. number ≡ length (session_filters self.old.filters policy.now rule)) }
         ensures ok { OnOk result (self.new.filters ≡ self.old.filters ++ added policy.now rule filter ∷ []) }
         ensures err { OnErr result (self.new ≡ self.old) }
     {
@@ -121,7 +123,7 @@ impl Session {
         self.has_textless |= text.is_empty();
         self.numbers.push_reserved(number);
         self.kept.push_reserved(Kept::new(binary, rule, filter));
-        Ok(())
+        Ok(number)
     }
 
     /// The filters, in order.
@@ -185,15 +187,7 @@ impl Session {
         self.numbers[place]
     }
 
-    // How many filters there are for a policy and a rule: one more than before the last of them.
-    pub(crate) fn count_of(&self, policy: &[u8], rule: Rule) -> usize
-        ensures few { result ≤ 2 ^ 31 }
-        ensures is { result ≡ length (session_filters self.now.filters policy.now rule) }
-    {
-        self.count_at(self.places_of(policy), rule)
-    }
-
-    // How many filters for a rule stand at the places of a policy.
+    // How many filters for a rule stand at the places of a policy: one more than before the last of them.
     fn count_at(&self, places: &[usize], rule: Rule) -> usize
         requires { (policy : List ℕ) × (places.now ≡ places_of self.now.filters policy) }
         ensures few { result ≤ 2 ^ 31 }

@@ -1,4 +1,5 @@
-ghost use Rattle.std.specs.Prelude.{◌≡◌, ◌++◌, ◌∷◌, [], suc, true, false, length, slice_get, Some, IfOk, OnOk, OnErr};
+ghost use Rattle.std.specs.Prelude.{◌≡◌, ◌++◌, ◌∷◌, [], suc, true, false, length, slice_get, None, Some, IfSome, IfOk, OnOk, OnErr};
+ghost use Rattle.std.specs.List.{position};
 ghost use Rattle.st_filter.specs.Fast.{first_answer};
 ghost use Rattle.st_filter.specs.Judging.{verdict_from};
 ghost use Rattle.st_filter.specs.Policies.{read_filters};
@@ -8,12 +9,13 @@ ghost use Rattle.st_law.specs.State.{State, snapshot_in};
 ghost use Rattle.st_law.specs.declared.input.Input.{Input};
 ghost use Rattle.st_law.specs.declared.input.Mode.TheVariants.{AskText, Learn};
 ghost use Rattle.st_trace.specs.declared.entry.Entry.TheVariants.{Learned, Replied};
+ghost use Rattle.st_learn.specs.Places.{row_of};
 ghost use Rattle.st_operator.specs.Operator.{answers, is_for_rule, next_left, AreLeft, IsAdded};
 
 use st_calls::{FastAnswer, Rule, Snapshot, Verdict};
 use st_filter::{Filter, PolicySet, Reply};
 use st_law::{Input, Mode};
-use st_learn::{Places, Session, learnt_filter};
+use st_learn::{Places, Session, learnt_filter, read_count};
 use st_trace::Entry;
 use std::alloc::{AllocError, Global};
 use std::marker::Model;
@@ -105,14 +107,22 @@ impl<'a> Operator<'a> {
         }
     }
 
-    // Where among the replies left for a policy the first for a rule stands.
-    fn next_left(&self, policy: &[u8], rule: Rule) -> Option<usize>
-        ensures { result ≡ next_left self.now policy.now rule }
+    // Where among the places of some replies the first for a rule stands.
+    fn first_for(&self, places: &[usize], rule: Rule) -> Option<usize>
+        ensures { result ≡ position (λ place. is_for_rule rule (slice_get self.now.replies place)) places.now }
     {
-        self.left
-            .of(policy)
-            .iter()
-            .position(|place| self.is_for(*place, rule))
+        places.iter().position(|place| self.is_for(*place, rule))
+    }
+
+    // In which row the replies left for a policy stand, and where among them the first for a rule does.
+    fn next_left(&self, policy: &[u8], rule: Rule) -> Option<(usize, usize)>
+        ensures none { result ≡ None → next_left self.now policy.now rule ≡ None }
+        ensures row { IfSome result (λ found. row_of self.now.left policy.now ≡ Some found.0) }
+        ensures index { IfSome result (λ found. next_left self.now policy.now rule ≡ Some found.1) }
+    {
+        let row = self.left.row_of(policy)?;
+        let index = self.first_for(self.left.at(row), rule)?;
+        Some((row, index))
     }
 
     /// Whether the operator answers for a held call on which no filter decides, by the copies of its arguments: each is learnt, or there is a
@@ -144,9 +154,8 @@ impl<'a> Operator<'a> {
         ensures err { OnErr result (self.new ≡ self.old) }
     {
         let policy = copies.policy.get().bytes();
-        let number = self.session.next_number(policies, policy, copies.rule);
-        self.session.add(alloc, policy, copies.rule, filter)?;
-        Ok(number)
+        let before = self.session.add(alloc, policy, copies.rule, filter)?;
+        Ok(read_count(policies, policy, copies.rule) + before + 1)
     }
 
     // Keeps the filter that these copies teach.
@@ -169,25 +178,26 @@ impl<'a> Operator<'a> {
         })
     }
 
-    // Keeps the filter of the next reply for these copies, which stands at this index among those left for the policy.
+    // Keeps the filter of the next reply for these copies, which stands at this index of the row of those left for the policy.
     #[tactic(auto, using(crate::proofs::Replies::place_within))]
     fn reply(
         &mut self,
         alloc: Global,
         input: &Input,
         copies: &Snapshot,
+        row: usize,
         index: usize,
     ) -> Result<Entry, AllocError>
-        requires { next_left self.old copies.now.policy copies.now.rule ≡ Some index }
+        requires row { row_of self.old.left copies.now.policy ≡ Some row }
+        requires next { next_left self.old copies.now.policy copies.now.rule ≡ Some index }
         ensures law { IfOk result (λ entry. (st : State) → IsAdded input.now st self.old → snapshot_in st copies.now.seq ≡ Some copies.now →
             (question_entry input.now st copies.now.seq copies.now AskText ≡ Some entry) × IsAdded input.now (state_after input.now st entry) self.new) }
         ensures err { OnErr result (self.new ≡ self.old) }
     {
-        let policy = copies.policy.get().bytes();
-        let place = self.left.of(policy)[index];
+        let place = self.left.at(row)[index];
         let filter = self.replies[place].filter.copy(alloc)?;
         let number = self.keep(alloc, &input.policies, copies, filter)?;
-        self.left.take_out(policy, index);
+        self.left.take_out_at(row, index);
         Ok(Entry::Replied {
             seq: copies.seq,
             reply: place as u32 + 1,
@@ -212,10 +222,11 @@ impl<'a> Operator<'a> {
             Mode::Enforce => unreachable!(),
             Mode::Learn => self.learn(alloc, input, copies),
             Mode::AskText => {
-                let Some(index) = self.next_left(copies.policy.get().bytes(), copies.rule) else {
+                let policy = copies.policy.get().bytes();
+                let Some((row, index)) = self.next_left(policy, copies.rule) else {
                     unreachable!()
                 };
-                self.reply(alloc, input, copies, index)
+                self.reply(alloc, input, copies, row, index)
             }
         }
     }

@@ -5,7 +5,7 @@ use Rattle.st_law.specs.Sessions.{SessionFilter, session_filters}
 use Rattle.st_learn.specs.Asked.{asked_text}
 use Rattle.st_learn.specs.Deciding.{count_for}
 use Rattle.st_learn.specs.Places.{GainsPlace, MayGainPlace}
-use Rattle.st_learn.specs.Sessions.{firsts_of, numbers_behind, places_asking, places_of}
+use Rattle.st_learn.specs.Sessions.{Session, firsts_of, numbers_behind, places_asking, places_of}
 use Rattle.st_learn.proofs.Filters.{added_places, one_longer, some_text, still_texts}
 use Rattle.st_learn.proofs.Leading.{firsts_added}
 use Rattle.st_learn.proofs.Numbers.{number_added}
@@ -85,3 +85,11 @@ invariant_of-self-3 c = record {
       let most = c.if-place-ge-MOST_KEPT.false in
       omega (arith, items, longer, place, most);
 }
+
+pub returns-clause-few : goal.returns-clause-few
+returns-clause-few c = c.count_at-number.ensures.few
+
+pub returns-clause-number : goal.returns-clause-number
+returns-clause-number c =
+    c.count_at-number.ensures.is c.args.policy.now (c.at.ensures c.args.policy.now c.in_ok-row.ensures.room.is ∙ c.reserve.ensures.kept.places c.args.policy.now ∙ c.self.invariant.policies_are c.args.policy.now)
+    ∙ ap (λ (session : Session). length (session_filters session.filters c.args.policy.now c.args.rule)) c.self.view_is

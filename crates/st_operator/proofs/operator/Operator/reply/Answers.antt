@@ -3,7 +3,7 @@ use Rattle.std.proofs.lemmas.Option.{slice_get-get_or}
 use Rattle.st_filter.specs.Formula.{FilterValue}
 use Rattle.st_filter.specs.declared.set.Reply.{Reply}
 use Rattle.st_law.specs.Sessions.{kept_for}
-use Rattle.st_learn.specs.Places.{LosesPlace, PolicyPlaces, places_in}
+use Rattle.st_learn.specs.Places.{LosesPlace, PolicyPlaces, places_in, row_of}
 use Rattle.st_operator.specs.Operator.{Added}
 use Rattle.st_operator.proofs.Replies.{is_replied, place_there, place_within}
 use Rattle.st_operator.proofs.operator.Operator.reply.Goals as goal
@@ -13,17 +13,17 @@ returns-clause-law c = λ st is copies.
     let s = c.args.copies.now in
     let added = c.args.self.now in
     let reply = c.index-self-place.result in
-    let place = get_or c.of.result.now c.args.index 0 in
-    let policy : c.bytes-policy.result.now ≡ s.policy = c.bytes-policy.ensures ∙ c.get.ensures in
-    let read : c.of.result.now ≡ places_in added.left s.policy = c.of.ensures ∙ (λ k. places_in (c.self.view_is k).left (policy k)) in
+    let place = get_or c.at.result.now c.args.index 0 in
+    let rows : c.self.inside.left ≡ added.left = ap (λ (a : Added). a.left) c.self.view_is in
+    let read : c.at.result.now ≡ places_in added.left s.policy = c.at.ensures s.policy (subst (λ rows. row_of rows s.policy ≡ Some c.args.row) (sym rows) c.requires.row) ∙ ap (λ rows. places_in rows s.policy) rows in
     let at : get_or (places_in added.left s.policy) c.args.index 0 ≡ place = ap (λ (places : List ℕ). get_or places c.args.index 0) (sym read) in
     let replies : c.self.inside.replies.now ≡ added.replies = ap (λ (a : Added). a.replies) c.self.view_is in
-    let within : place < length added.replies = subst (λ (n : ℕ). n < length added.replies) at (place_within added s.policy s.rule c.args.index c.requires) in
+    let within : place < length added.replies = subst (λ (n : ℕ). n < length added.replies) at (place_within added s.policy s.rule c.args.index c.requires.next) in
     let left : c.self-2.inside.left ≡ added.left = ap (λ (a : Added). a.left) c.self-2.view_is ∙ c.in_ok-number.ensures.left in
-    is_replied c.args.input.now st added is s copies _ c.in_ok-number.number c.in_ok-number.ensures.number c.args.index place reply c.requires
-    (place_there added s.policy s.rule c.args.index c.requires ∙ ap Some at)
+    is_replied c.args.input.now st added is s copies _ c.in_ok-number.number c.in_ok-number.ensures.number c.args.index place reply c.requires.next
+    (place_there added s.policy s.rule c.args.index c.requires.next ∙ ap Some at)
     (slice_get-get_or added.replies place reply within ∙ ap Some (sym (c.index-self-place.is ∙ ap (λ (all : List Reply). get_or all place reply) replies)))
     (ap (λ (a : Added). a.filters) c.self-2.view_is ∙ c.in_ok-number.ensures.filters ∙ ap (λ (f : FilterValue). added.filters ++ kept_for f s ∷ []) (c.in_ok-filter.ensures ∙ ap (λ (r : Reply). r.filter) (sym c.index-self-place.is)))
     (ap (λ (a : Added). a.replies) c.self-2.view_is ∙ c.in_ok-number.ensures.replies)
-    (subst (λ (rows : List PolicyPlaces). LosesPlace rows s.policy c.args.index c.take_out.new.self) left
-    (subst (λ (binary : List ℕ). LosesPlace c.self-2.inside.left binary c.args.index c.take_out.new.self) policy c.take_out.ensures))
+    (subst (λ (rows : List PolicyPlaces). LosesPlace rows s.policy c.args.index c.take_out_at.new.self) left
+    (c.take_out_at.ensures s.policy (subst (λ (rows : List PolicyPlaces). row_of rows s.policy ≡ Some c.args.row) (sym left) c.requires.row)))
