@@ -22,7 +22,7 @@ use Rattle.st_law.specs.State.{State, decision_in, is_asked, is_live, is_live_by
 use Rattle.st_operator.specs.Operator.{Added, IsAdded, answers}
 use Rattle.st_operator.proofs.Replies.{asked_same}
 use Rattle.st_machine.specs.Machine.{IsMachine, IsStep, Running}
-use Rattle.st_machine.specs.Questions.{is_at_most, IsAtMost, IsLeastAmong, IsLeastFound, IsLeastWith, IsQuestion}
+use Rattle.st_machine.specs.Questions.{is_at_most, IsAtMost, IsFound, IsLeastAmong, IsLeastFound, IsLeastWith, IsQuestion}
 use Rattle.st_machine.specs.Thread.{ThreadRow, number_held}
 use Rattle.st_machine.specs.Ending.{HasNumber}
 use Rattle.st_machine.proofs.HeldEnds.{are_held}
@@ -57,6 +57,14 @@ above_all (Some found) seq e copies is = subst (λ (s : Snapshot). seq < s.seq) 
 ])
 
 module _ (m : Running) where
+  -- the copies of a question are those of its number
+  pub found_here : (seq : ℕ) (found : Option Snapshot) → IsQuestion m seq found → IsFound m found
+  found_here seq None question = tt
+  found_here seq (Some copies) question = λ st is.
+      let asks = question st is in
+      let same : copies.seq ≡ seq = seq_is st seq copies asks.1 in
+      (ap (is_question m.input st) same ∙ asks.0, ap (snapshot_in st) same ∙ asks.1)
+
   -- a question that has a smaller number or this one stays the least
   pub least_kept : (least : Option Snapshot) (seq : ℕ) → IsAtMost least seq → IsLeastWith m least seq least
   least_kept least seq low = record { question = λ x. x; before = λ other x. x; this = λ st is asks. low }
@@ -66,7 +74,7 @@ module _ (m : Running) where
   least_this least seq None low question st is = record { question = λ x. x; before = λ other x. x; this = λ state machine asks. absurd (true≢false (sym asks ∙ question state machine)) }
   least_this least seq (Some copies) low question st is =
       let same : copies.seq ≡ seq = seq_is st seq copies (question st is).1 in record {
-        question = λ x state machine. let y = question state machine in (ap (is_question m.input state) same ∙ y.0, ap (snapshot_in state) same ∙ y.1);
+        question = λ x. found_here seq (Some copies) question;
         before = λ other x. under least other low x same;
         this = λ state machine asks. omega (arith, same);
       } where
@@ -76,8 +84,8 @@ module _ (m : Running) where
 
   -- ---- from thread to thread
 
-  pub none_among : IsLeastAmong m 0 None
-  none_among = record { question = tt; least = λ t seq row low is held. absurd (outside t row low is) } where
+  pub none_among : (found : Option Snapshot) → IsFound m found → IsLeastAmong m 0 found
+  none_among found question = record { question = question; least = λ t seq row low is held. absurd (outside t row low is) } where
     outside : (t : ℕ) (row : ThreadRow) → t ≤ 0 → item_at_number m.threads t ≡ Some row → ⊥
     outside zero row low is = none-some row is
     outside (suc t) row low is = omega (arith, low)

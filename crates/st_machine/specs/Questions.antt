@@ -1,5 +1,6 @@
 -- Questions for the operator, as what runs finds them.
-use Rattle.std.specs.Prelude.{◌≡◌, ◌≤◌, ℕ, suc, Bool, true, false, ◌&&◌, ◌||◌, not, nat_le, length, Option, Some, None, is_some}
+use Rattle.std.specs.Prelude.{◌≡◌, ◌≤◌, ℕ, suc, Bool, true, false, ◌&&◌, ◌||◌, not, nat_le, List, length, Option, Some, None, is_some}
+use Rattle.std.specs.List.{fold}
 use Rattle.st_base.specs.Numbered.{item_at_number}
 use Rattle.st_calls.specs.declared.judged.Snapshot.{Snapshot}
 use Rattle.st_calls.specs.declared.judged.Verdict.{Verdict}
@@ -8,6 +9,7 @@ use Rattle.st_filter.specs.Judging.{verdict_from}
 use Rattle.st_messages.specs.declared.message.MsgState.{MsgState}
 use Rattle.st_messages.specs.declared.message.MsgState.TheVariants.{Answered}
 use Rattle.st_law.specs.declared.input.Input.{Input}
+use Rattle.st_learn.specs.Deciding.{lesser}
 use Rattle.st_law.specs.Machine.{least_question}
 use Rattle.st_law.specs.Sessions.{session_filters}
 use Rattle.st_law.specs.State.{State, is_live, is_question, read_for, snapshot_in}
@@ -18,6 +20,10 @@ use Rattle.st_machine.specs.Thread.{ThreadRow, number_held}
 abbrev pub is_unmatched : Option MsgState → Bool
 is_unmatched (Some (Answered Unmatched)) = true
 is_unmatched _ = false
+
+-- the least number that a thread holds, if one does
+abbrev pub least_held : List ThreadRow → Option ℕ
+least_held rows = fold (λ least row. lesser least (number_held row)) None rows
 
 -- what the session says of copies, its filters numbered on behind those that were read
 abbrev pub said_later : Running → Snapshot → Verdict

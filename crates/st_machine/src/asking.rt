@@ -3,7 +3,8 @@ ghost use Rattle.std.specs.Prelude.{◌≡◌, ◌&&◌, is_some, IfOk, OnOk, On
 ghost use Rattle.st_law.specs.Machine.{entry_of};
 ghost use Rattle.st_law.specs.State.{State, is_undecided};
 ghost use Rattle.st_machine.specs.Machine.{IsMachine, IsStep, Stands};
-ghost use Rattle.st_machine.specs.Questions.{is_at_most, is_unmatched, said_later, IsLeastFound, IsLeastWith, IsQuestion};
+ghost use Rattle.st_learn.specs.Deciding.{lesser};
+ghost use Rattle.st_machine.specs.Questions.{is_at_most, is_unmatched, least_held, said_later, IsLeastFound, IsLeastWith, IsQuestion};
 ghost use Rattle.st_operator.specs.Operator.{answers};
 ghost use Rattle.st_trace.specs.declared.entry.Choice.TheVariants.{Operator};
 
@@ -35,6 +36,17 @@ fn is_at_most(least: &Option<Shared<Snapshot>>, seq: Seq) -> bool
     match least {
         Some(copies) => copies.get().seq <= seq,
         None => false,
+    }
+}
+
+// The lesser of two numbers, where there are some.
+fn lesser_number(one: Option<Seq>, other: Option<Seq>) -> Option<Seq>
+    ensures { result ≡ lesser one other }
+{
+    match (one, other) {
+        (None, _) => other,
+        (Some(_), None) => one,
+        (Some(a), Some(b)) => { if b < a { other } else { one } }
     }
 }
 
@@ -81,11 +93,25 @@ impl<'a> Machine<'a> {
         Ok(self.question(alloc, seq)?.or(least))
     }
 
-    // The copies of the least question.
+    // The least number that a thread holds.
+    fn least_held(&self) -> Option<Seq>
+        ensures { result ≡ least_held self.now.threads }
+    {
+        let mut least = None;
+        for thread in &self.threads {
+            least = lesser_number(least, thread.number_held());
+        }
+        least
+    }
+
+    // The copies of the least question. Mostly it is the least number that is held, and then the copies of no other are looked at.
     fn least_question(&self, alloc: Global) -> Result<Option<Shared<Snapshot>>, AllocError>
         ensures { IfOk result (IsLeastFound self.now) }
     {
-        let mut least = None;
+        let mut least = match self.least_held() {
+            Some(seq) => self.question(alloc, seq)?,
+            None => None,
+        };
         for thread in &self.threads {
             if let Some(seq) = thread.number_held() {
                 least = self.lesser(alloc, least, seq)?;

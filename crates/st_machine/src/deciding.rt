@@ -84,10 +84,13 @@ impl<'a> Machine<'a> {
     {
         let rule = Rule::of(call, regs, self.input.options.aliasing);
         let policy = self.system.policy(pid).get().bytes();
-        self.answers
-            .get(policy, rule)
-            .or(self.operator.first_answer(policy, rule))
-            .unwrap_or(FastAnswer::Ask)
+        match self.answers.get(policy, rule) {
+            Some(answer) => answer,
+            None => self
+                .operator
+                .first_answer(policy, rule)
+                .unwrap_or(FastAnswer::Ask),
+        }
     }
 
     // A call that isn't held copies, looks and acts in one step.

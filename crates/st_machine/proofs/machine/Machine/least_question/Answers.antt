@@ -1,4 +1,4 @@
-use Rattle.std.proofs.Common.{◌≡◌, ◌+◌, ◌∙◌, suc, ℕ, Some, List, length, ap, arith, sym, subst}
+use Rattle.std.proofs.Common.{◌≡◌, ◌+◌, ◌∙◌, suc, ℕ, None, Some, List, length, ap, arith, sym, subst}
 use Rattle.std.proofs.lemmas.Option.{slice_get-get_or}
 use Rattle.std.specs.Prelude.{slice_get}
 use Rattle.st_base.specs.Numbered.{item_at_number}
@@ -6,9 +6,15 @@ use Rattle.st_workers.proofs.Turns.{number_within}
 use Rattle.st_machine.specs.Machine.{Running}
 use Rattle.st_machine.specs.Questions.{IsLeastAmong, IsLeastFound}
 use Rattle.st_machine.specs.Thread.{ThreadRow}
-use Rattle.st_machine.proofs.Asked.{among_free, among_held, found_by}
-use Rattle.st_machine.proofs.machine.Machine.least_question.Goals.{in-Some+in_ok-least, in_default}
+use Rattle.st_machine.proofs.Asked.{among_free, among_held, found_by, found_here, none_among}
+use Rattle.st_machine.proofs.machine.Machine.least_question.Goals.{in-None, in-Some+in_ok-least-in-Some, in-Some-number_held+in_ok-least, in_default}
 use Rattle.st_machine.proofs.machine.Machine.least_question.Goals as goal
+
+pub loop-thread-init : goal.loop-thread-init
+loop-thread-init c = elim c.match-least_held.branch [
+  | in-Some+in_ok-least-in-Some w ↦ subst (IsLeastAmong c.args.self.now 0) (sym w.least-is) (none_among c.args.self.now w.in_ok-least-in-Some.least (found_here c.args.self.now w.in-Some.seq w.in_ok-least-in-Some.least w.in_ok-least-in-Some.ensures))
+  | in-None w ↦ subst (IsLeastAmong c.args.self.now 0) (sym w.least-is) (none_among c.args.self.now None tt)
+]
 
 pub loop-thread-preserved : goal.loop-thread-preserved
 loop-thread-preserved c =
@@ -20,8 +26,8 @@ loop-thread-preserved c =
     let row_is : item_at_number c.args.self.now.threads (suc i) ≡ Some row = subst (λ (k : Running). item_at_number k.threads (suc i) ≡ Some row) c.self.view_is here in
     let next : suc i ≡ i + 1 = omega arith in
     subst (λ (n : ℕ). IsLeastAmong c.args.self.now n c.match-number_held.least) next (elim c.match-number_held.branch [
-      | in-Some+in_ok-least w ↦ subst (IsLeastAmong c.args.self.now (suc i)) (sym w.least-is)
-          (among_held c.args.self.now i c.loop-thread.least c.loop-thread.invariant row row_is w.in-Some.seq (sym c.number_held.ensures ∙ w.in-Some.is) w.in_ok-least.least w.in_ok-least.ensures)
+      | in-Some-number_held+in_ok-least w ↦ subst (IsLeastAmong c.args.self.now (suc i)) (sym w.least-is)
+          (among_held c.args.self.now i c.loop-thread.least c.loop-thread.invariant row row_is w.in-Some-number_held.seq (sym c.number_held.ensures ∙ w.in-Some-number_held.is) w.in_ok-least.least w.in_ok-least.ensures)
       | in_default w ↦ subst (IsLeastAmong c.args.self.now (suc i)) (sym w.least-is)
           (among_free c.args.self.now i c.loop-thread.least c.loop-thread.invariant row row_is (sym c.number_held.ensures ∙ w.in_default.is))
     ])
