@@ -144,7 +144,7 @@ impl<'a> Kernel<'a> {
             Some(entry) => {
                 let woken = woken_by(&self.machine, entry);
                 self.first = woken.cursor(&self.machine, self.first);
-                woken.wake(&self.machine, &mut self.asleep);
+                woken.wake(&self.machine, self.first, &mut self.asleep);
                 note_choice(&mut self.made, choice);
                 Ok(true)
             }

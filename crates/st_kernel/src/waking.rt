@@ -109,14 +109,16 @@ fn first_alike(machine: &Machine<'_>, message: &Head, first: Tid) -> Tid
     first
 }
 
-// Marks the threads that hold calls of the policy and the rule of a message as awake.
-fn wake_alike(machine: &Machine<'_>, message: &Head, asleep: &mut [bool])
+// Marks the threads that hold calls of the policy and the rule of a message as awake, none of which comes before this one.
+fn wake_alike(machine: &Machine<'_>, message: &Head, from: Tid, asleep: &mut [bool])
+    requires from { 1 ≤ from }
+    requires before { (t : ℕ) → 1 ≤ t → t < from → is_alike message.now (message_held machine.now t) ≡ false }
     ensures count { length asleep.new ≡ length asleep.old }
     ensures before { (place : ℕ) → is_asleep asleep.new place ≡ true → is_asleep asleep.old place ≡ true }
     ensures woken { (place : ℕ) → is_asleep asleep.new place ≡ true → is_alike message.now (message_held machine.now (suc place)) ≡ false }
     ensures others { (place : ℕ) → is_asleep asleep.old place ≡ true → is_alike message.now (message_held machine.now (suc place)) ≡ false → is_asleep asleep.new place ≡ true }
 {
-    for tid in 1..machine.thread_count() + 1 {
+    for tid in from..machine.thread_count() + 1 {
         if machine.holds_alike(tid, message) {
             mark_awake(tid, asleep);
         }
@@ -144,8 +146,10 @@ impl Woken {
         }
     }
 
-    /// Marks the threads that were woken as awake; thread t stands at t - 1.
-    pub fn wake(self, machine: &Machine<'_>, asleep: &mut [bool])
+    /// Marks the threads that were woken as awake, none of which comes before this one; thread t stands at t - 1.
+    pub fn wake(self, machine: &Machine<'_>, from: Tid, asleep: &mut [bool])
+        requires from { 1 ≤ from }
+        requires before { (t : ℕ) → 1 ≤ t → t < from → is_woken machine.now self t ≡ false }
         ensures count { length asleep.new ≡ length asleep.old }
         ensures before { (place : ℕ) → is_asleep asleep.new place ≡ true → is_asleep asleep.old place ≡ true }
         ensures woken { (place : ℕ) → is_asleep asleep.new place ≡ true → is_woken machine.now self (suc place) ≡ false }
@@ -155,7 +159,7 @@ impl Woken {
             Woken::Nobody => {}
             Woken::One(tid) => mark_awake(tid, asleep),
             Woken::Alike(seq) => match machine.message(seq) {
-                Some(message) => wake_alike(machine, message, asleep),
+                Some(message) => wake_alike(machine, message, from, asleep),
                 None => asleep.fill(false),
             },
             Woken::Everybody => asleep.fill(false),

@@ -6,9 +6,9 @@ use Rattle.st_kernel.proofs.waking.wake_alike.Goals.{then-holds_alike, else-hold
 
 pub loop-tid-init : goal.loop-tid-init
 loop-tid-init c = record {
-  from = omega arith;
+  from = c.requires.from;
   end = let count = c.thread_count-tid-end.ensures.threads in omega (arith, count);
-  so_far = record { count = refl; before = λ place asleep. asleep; woken = λ place below asleep. absurd (omega (arith, below)); others = λ place asleep other. asleep };
+  so_far = record { count = refl; before = λ place asleep. asleep; woken = λ place below asleep. c.requires.before (suc place) (omega arith) below; others = λ place asleep other. asleep };
 }
 
 pub loop-tid-preserved : goal.loop-tid-preserved
