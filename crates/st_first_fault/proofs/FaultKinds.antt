@@ -8,13 +8,13 @@ use Rattle.st_base.specs.declared.errno.Errno.TheVariants.{EPERM}
 use Rattle.st_base.specs.Errno.{error_named}
 use Rattle.st_lex.specs.declared.token.Token.{Token}
 use Rattle.st_lex.specs.Tokens.{lexed_text}
-use Rattle.st_policy.specs.declared.env.Env.{Env}
-use Rattle.st_policy.specs.declared.env.NamedId.{NamedId}
-use Rattle.st_policy.specs.declared.fault.PolicyFault.{PolicyFault}
-use Rattle.st_policy.specs.declared.fault.PolicyFault.TheVariants.{Expected, UnknownCall, UnknownArgument, UnknownError, UnknownUser, DuplicatePolicy, ElevateWithoutIds, ElevateOnSetId, NotSupported, AskWithLearn, TooMany}
-use Rattle.st_policy.specs.declared.fault.Unsupported.TheVariants as unsupported
-use Rattle.st_policy.specs.declared.place.Place.{Place}
-use Rattle.st_policy.specs.declared.place.Place.TheVariants as place
+use Rattle.st_grammar.specs.declared.env.Env.{Env}
+use Rattle.st_grammar.specs.declared.env.NamedId.{NamedId}
+use Rattle.st_grammar.specs.declared.fault.PolicyFault.{PolicyFault}
+use Rattle.st_grammar.specs.declared.fault.PolicyFault.TheVariants.{Expected, UnknownCall, UnknownArgument, UnknownError, UnknownUser, DuplicatePolicy, ElevateWithoutIds, ElevateOnSetId, NotSupported, AskWithLearn, TooMany}
+use Rattle.st_grammar.specs.declared.fault.Unsupported.TheVariants as unsupported
+use Rattle.st_grammar.specs.declared.place.Place.{Place}
+use Rattle.st_grammar.specs.declared.place.Place.TheVariants as place
 use Rattle.st_filter.specs.declared.filter.Action.{Action}
 use Rattle.st_filter.specs.declared.filter.Action.TheVariants.{Permit, Deny}
 use Rattle.st_filter.specs.declared.filter.Cmp.{Cmp}
@@ -24,20 +24,20 @@ use Rattle.st_filter.specs.declared.filter.Who.{Who}
 use Rattle.st_filter.specs.declared.set.BinaryPolicy.{BinaryPolicy}
 use Rattle.st_filter.specs.declared.set.TheConstants.{MOST_FILTERS}
 use Rattle.st_filter.specs.Policies.{filters_in, has_policy}
-use Rattle.st_policy.specs.Diagram.{GrammarState, StepResult, expected, only, joined, step_start, step_name, step_row, step_binary, step_system, step_operand, step_op, step_operator, step_label, step_indexed, step_index, step_joint, step_action, is_action, step_as, step_tail, step_denial, step_errno, step_error, step_known, step_id, step_grant, step_user, step_who, step_comparison, word_who, is_colon, is_comma, is_keyword, is_close_bracket, is_quoted, is_line, step, binaries}
-use Rattle.st_policy.specs.Draft.{Draft, draft_after}
+use Rattle.st_grammar.specs.Diagram.{GrammarState, StepResult, expected, only, joined, step_start, step_name, step_row, step_binary, step_system, step_operand, step_op, step_operator, step_label, step_indexed, step_index, step_joint, step_action, is_action, step_as, step_tail, step_denial, step_errno, step_error, step_known, step_id, step_grant, step_user, step_who, step_comparison, word_who, is_colon, is_comma, is_keyword, is_close_bracket, is_quoted, is_line, step, binaries}
+use Rattle.st_grammar.specs.Draft.{Draft, draft_after}
 use Rattle.st_first_fault.specs.FirstFault.{symbols_at, AreRead, TakesOperand, TakesOperator, TakesAction, TakesId, BehindPermit, Permitted, Logged, IsSpecial, NoCall, ManyFilters, Twice, NoNative, ManyOpening, ManyJoining, NoRe, Learns, NoError, NoIds, SetsIds, NoUser}
-use Rattle.st_policy.specs.Grammar.{IsAction, Denies, DeniesWith, Asks, binary_of, comparison, most_joins}
-use Rattle.st_policy.specs.Grammar as grammar
-use Rattle.st_policy.specs.Symbol.{Symbol, Word, Colon, Comma, Open, Close, OpenBracket, Line}
-use Rattle.st_policy.specs.Words.{filter_name, id_in, index_in, is_label, may_test, may_test_label, names_for, op_named, sets_ids}
-use Rattle.st_policy.proofs.ActionsKept.{clause-operands, clause-actions}
+use Rattle.st_grammar.specs.Grammar.{IsAction, Denies, DeniesWith, Asks, binary_of, comparison, most_joins}
+use Rattle.st_grammar.specs.Grammar as grammar
+use Rattle.st_grammar.specs.Symbol.{Symbol, Word, Colon, Comma, Open, Close, OpenBracket, Line}
+use Rattle.st_grammar.specs.Words.{filter_name, id_in, index_in, is_label, may_test, may_test_label, names_for, op_named, sets_ids}
+use Rattle.st_grammar.proofs.ActionsKept.{clause-operands, clause-actions}
 use Rattle.st_first_fault.proofs.Completions.{MayEnd, label-first, facts-operator}
-use Rattle.st_policy.proofs.Fronts.{Facts, logged}
-use Rattle.st_policy.proofs.Keywords.{same-word}
+use Rattle.st_grammar.proofs.Fronts.{Facts, logged}
+use Rattle.st_grammar.proofs.Keywords.{same-word}
 use Rattle.st_first_fault.proofs.MayStand.{TokenCut, token-cut, id-line, operator-text, denial-bracket, joint-ends, operand-taken}
-use Rattle.st_policy.proofs.RowsKept.{any-binaries}
-use Rattle.st_policy.proofs.Sound.{line-keeps, line-is_sound}
+use Rattle.st_grammar.proofs.RowsKept.{any-binaries}
+use Rattle.st_grammar.proofs.Sound.{line-keeps, line-is_sound}
 
 -- what comes of a symbol that doesn't fit: the plain fault, something special, or that no argument has the label
 pub data Outcome (text : List ℕ) (env : Env) (old : List BinaryPolicy) (before : List Token) (p : Place) (w : GrammarState) (at : ℕ) (s : Symbol) : PolicyFault → Type 0 where

@@ -4,18 +4,18 @@ use Rattle.std.proofs.lemmas.List.{map-append}
 use Rattle.st_lex.specs.declared.token.LexFault.{LexFault}
 use Rattle.st_lex.specs.declared.token.Token.{Token}
 use Rattle.st_lex.specs.Tokens.{lexed_text}
-use Rattle.st_policy.specs.declared.env.Env.{Env}
-use Rattle.st_policy.specs.declared.fault.PolicyFault.{PolicyFault}
+use Rattle.st_grammar.specs.declared.env.Env.{Env}
+use Rattle.st_grammar.specs.declared.fault.PolicyFault.{PolicyFault}
 use Rattle.st_filter.specs.declared.set.BinaryPolicy.{BinaryPolicy}
 use Rattle.st_filter.specs.declared.set.TheConstants.{MOST_FILTERS}
 use Rattle.st_filter.specs.Policies.{filters_in}
-use Rattle.st_policy.specs.Draft.{Reading, read_step}
+use Rattle.st_grammar.specs.Draft.{Reading, read_step}
 use Rattle.st_first_fault.specs.FirstFault.{symbol_at_end, symbol_here, place_here, symbols_at, GoesOn, IsSpecial, Tells, Specially, Otherwise, IsFirstFault}
-use Rattle.st_policy.specs.Symbol.{Symbol, Line, symbol_of}
+use Rattle.st_grammar.specs.Symbol.{Symbol, Line, symbol_of}
 use Rattle.st_first_fault.proofs.Completions.{Ending, MayEnd, a-line, ends-place}
 use Rattle.st_first_fault.proofs.MayStand.{goes-here}
-use Rattle.st_policy.proofs.Readings.{Read}
-use Rattle.st_policy.proofs.Sound.{IsFault, Stands, StandsAfter, stands-step, broken-step}
+use Rattle.st_grammar.proofs.Readings.{Read}
+use Rattle.st_grammar.proofs.Sound.{IsFault, Stands, StandsAfter, stands-step, broken-step}
 use Rattle.st_first_fault.proofs.SpecialFaults.{Only, special-only}
 use Rattle.st_first_fault.proofs.WaysOn.{text-goes_on, goes-read, stands-behind}
 

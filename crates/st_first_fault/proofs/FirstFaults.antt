@@ -4,26 +4,26 @@ use Rattle.std.proofs.lemmas.List.{map-append}
 use Rattle.st_lex.specs.declared.token.LexFault.{LexFault}
 use Rattle.st_lex.specs.declared.token.Token.{Token}
 use Rattle.st_lex.specs.Tokens.{lexed_text}
-use Rattle.st_policy.specs.declared.env.Env.{Env}
-use Rattle.st_policy.specs.declared.fault.PolicyFault.{PolicyFault}
-use Rattle.st_policy.specs.declared.fault.PolicyFault.TheVariants.{Expected, UnknownArgument}
-use Rattle.st_policy.specs.declared.place.Place.{Place}
-use Rattle.st_policy.specs.declared.place.Place.TheVariants as place
+use Rattle.st_grammar.specs.declared.env.Env.{Env}
+use Rattle.st_grammar.specs.declared.fault.PolicyFault.{PolicyFault}
+use Rattle.st_grammar.specs.declared.fault.PolicyFault.TheVariants.{Expected, UnknownArgument}
+use Rattle.st_grammar.specs.declared.place.Place.{Place}
+use Rattle.st_grammar.specs.declared.place.Place.TheVariants as place
 use Rattle.st_filter.specs.declared.set.BinaryPolicy.{BinaryPolicy}
 use Rattle.st_filter.specs.declared.set.TheConstants.{MOST_FILTERS}
 use Rattle.st_filter.specs.Policies.{filters_in}
-use Rattle.st_policy.specs.Diagram.{StepResult, lexical, next, binaries, fault_in}
-use Rattle.st_policy.specs.Draft.{Reading, reading_step, read_step, first_reading}
+use Rattle.st_grammar.specs.Diagram.{StepResult, lexical, next, binaries, fault_in}
+use Rattle.st_grammar.specs.Draft.{Reading, reading_step, read_step, first_reading}
 use Rattle.st_first_fault.specs.FirstFault.{symbol_here, place_here, fault_by, plain_fault, symbols_at, GoesOn, IsLabelAt, IsSpecial, NoCall, ManyFilters, Twice, NoNative, ManyOpening, ManyJoining, NoLabel, NoIndex, NoRe, Learns, NoError, NoIds, SetsIds, NoUser, Tells, Specially, Otherwise, IsFirstFault}
-use Rattle.st_policy.specs.Symbol.{Symbol, Word, symbol_of}
-use Rattle.st_policy.specs.Words.{may_test_label}
-use Rattle.st_policy.proofs.Complete.{placed}
+use Rattle.st_grammar.specs.Symbol.{Symbol, Word, symbol_of}
+use Rattle.st_grammar.specs.Words.{may_test_label}
+use Rattle.st_grammar.proofs.Complete.{placed}
 use Rattle.st_first_fault.proofs.Completions.{ends-place}
 use Rattle.st_first_fault.proofs.FaultKinds.{Outcome, IsPlain, IsTold, Unlabelled, IndexAsked, outcome-of, judged}
 use Rattle.st_first_fault.proofs.LabelsRead.{LabelAt, BracketAt, label-at, bracket-at, label-ends}
 use Rattle.st_first_fault.proofs.MayStand.{goes-here, operand-taken}
-use Rattle.st_policy.proofs.Readings.{read_over, reading_followed, places_of_reading}
-use Rattle.st_policy.proofs.Sound.{Stands}
+use Rattle.st_grammar.proofs.Readings.{read_over, reading_followed, places_of_reading}
+use Rattle.st_grammar.proofs.Sound.{Stands}
 use Rattle.st_first_fault.proofs.SpecialFaults.{Only, special-only}
 use Rattle.st_first_fault.proofs.WaysOn.{Accepted, accepted, accepted-at, anywhere, end_fault, told_fault, StopsIn, fault-stops, stands-behind}
 

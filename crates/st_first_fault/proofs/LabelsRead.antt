@@ -7,27 +7,27 @@ use Rattle.std.proofs.lemmas.Bool.{or_parts, or_from}
 use Rattle.st_calls.specs.declared.argument.ArgSpec.{ArgSpec}
 use Rattle.st_calls.specs.Argument.{args_of, name_of_label}
 use Rattle.st_lex.specs.declared.token.Token.{Token}
-use Rattle.st_policy.specs.declared.env.Env.{Env}
-use Rattle.st_policy.specs.declared.fault.PolicyFault.TheVariants.{Expected, UnknownArgument}
-use Rattle.st_policy.specs.declared.place.Place.{Place}
-use Rattle.st_policy.specs.declared.place.Place.TheVariants as place
+use Rattle.st_grammar.specs.declared.env.Env.{Env}
+use Rattle.st_grammar.specs.declared.fault.PolicyFault.TheVariants.{Expected, UnknownArgument}
+use Rattle.st_grammar.specs.declared.place.Place.{Place}
+use Rattle.st_grammar.specs.declared.place.Place.TheVariants as place
 use Rattle.st_filter.specs.declared.filter.FilterName.{FilterName}
 use Rattle.st_filter.specs.declared.filter.FilterName.TheVariants as name
 use Rattle.st_filter.specs.declared.set.BinaryPolicy.{BinaryPolicy}
 use Rattle.st_filter.specs.declared.set.TheConstants.{MOST_FILTERS}
 use Rattle.st_filter.specs.Policies.{filters_in}
-use Rattle.st_policy.specs.Diagram.{GrammarState, StepResult, step_operator, step_indexed}
-use Rattle.st_policy.specs.Draft.{Draft, Reading, reading_step, read_step, first_reading}
+use Rattle.st_grammar.specs.Diagram.{GrammarState, StepResult, step_operator, step_indexed}
+use Rattle.st_grammar.specs.Draft.{Draft, Reading, reading_step, read_step, first_reading}
 use Rattle.st_first_fault.specs.FirstFault.{symbols_at}
-use Rattle.st_policy.specs.Symbol.{Symbol, Word, Colon, OpenBracket, symbol_of}
-use Rattle.st_policy.specs.Words.{is_label, may_test, may_test_label, index_in}
-use Rattle.st_policy.proofs.Complete.{AtRows, placed, is_below}
-use Rattle.st_policy.proofs.FilterRows.{row_place}
-use Rattle.st_policy.proofs.Fronts.{Facts}
+use Rattle.st_grammar.specs.Symbol.{Symbol, Word, Colon, OpenBracket, symbol_of}
+use Rattle.st_grammar.specs.Words.{is_label, may_test, may_test_label, index_in}
+use Rattle.st_grammar.proofs.Complete.{AtRows, placed, is_below}
+use Rattle.st_grammar.proofs.FilterRows.{row_place}
+use Rattle.st_grammar.proofs.Fronts.{Facts}
 use Rattle.st_first_fault.proofs.LabelPlaces.{Labelled, LastRead, last-read}
 use Rattle.st_first_fault.proofs.PlacesTold.{unless, fault-follows}
-use Rattle.st_policy.proofs.Readings.{read_over, places_of_reading, At, stands}
-use Rattle.st_policy.proofs.Sound.{IsFault, Stands}
+use Rattle.st_grammar.proofs.Readings.{read_over, places_of_reading, At, stands}
+use Rattle.st_grammar.proofs.Sound.{IsFault, Stands}
 use Rattle.st_first_fault.proofs.WaysOn.{anywhere, stands-behind}
 
 -- ---- last symbols

@@ -6,32 +6,32 @@ use Rattle.std.proofs.lemmas.Bool.{or_from}
 use Rattle.st_base.specs.declared.errno.Errno.{Errno}
 use Rattle.st_base.specs.Errno.{error_named}
 use Rattle.st_lex.specs.declared.token.Token.{Token}
-use Rattle.st_policy.specs.declared.env.Env.{Env}
-use Rattle.st_policy.specs.declared.fault.PolicyFault.{PolicyFault}
-use Rattle.st_policy.specs.declared.fault.PolicyFault.TheVariants.{Expected, UnknownCall, UnknownArgument, UnknownError, UnknownUser, DuplicatePolicy, TooMany, NotSupported, AskWithLearn, ElevateWithoutIds, ElevateOnSetId}
-use Rattle.st_policy.specs.declared.fault.Unsupported.TheVariants as unsupported
-use Rattle.st_policy.specs.declared.place.Place.{Place}
-use Rattle.st_policy.specs.declared.place.Place.TheVariants as place
+use Rattle.st_grammar.specs.declared.env.Env.{Env}
+use Rattle.st_grammar.specs.declared.fault.PolicyFault.{PolicyFault}
+use Rattle.st_grammar.specs.declared.fault.PolicyFault.TheVariants.{Expected, UnknownCall, UnknownArgument, UnknownError, UnknownUser, DuplicatePolicy, TooMany, NotSupported, AskWithLearn, ElevateWithoutIds, ElevateOnSetId}
+use Rattle.st_grammar.specs.declared.fault.Unsupported.TheVariants as unsupported
+use Rattle.st_grammar.specs.declared.place.Place.{Place}
+use Rattle.st_grammar.specs.declared.place.Place.TheVariants as place
 use Rattle.st_filter.specs.declared.filter.FilterName.{FilterName}
 use Rattle.st_filter.specs.declared.set.BinaryPolicy.{BinaryPolicy}
 use Rattle.st_filter.specs.declared.set.TheConstants.{MOST_FILTERS}
 use Rattle.st_filter.specs.Policies.{filters_in}
-use Rattle.st_policy.specs.Diagram.{GrammarState, StepResult, is_action, joined, step_to, step_known, step_errno, step_name, step_binary, step_indexed, binaries}
-use Rattle.st_policy.specs.Draft.{Draft, Reading, reading_step, read_step, first_reading}
+use Rattle.st_grammar.specs.Diagram.{GrammarState, StepResult, is_action, joined, step_to, step_known, step_errno, step_name, step_binary, step_indexed, binaries}
+use Rattle.st_grammar.specs.Draft.{Draft, Reading, reading_step, read_step, first_reading}
 use Rattle.st_first_fault.specs.FirstFault.{symbols_at, GoesOn, AreRead, EndsOperand, InParens, Whole, TakesOperand, TakesAction, BehindPermit, Permitted, Logged, IsLabelAt, IsSpecial, NoCall, ManyFilters, Twice, NoNative, ManyOpening, ManyJoining, NoLabel, NoIndex, NoRe, Learns, NoError, NoIds, SetsIds, NoUser}
-use Rattle.st_policy.specs.Grammar.{binary_of, most_joins}
-use Rattle.st_policy.specs.Symbol.{Symbol, Word, Colon, Comma, Open, Close, OpenBracket, Line, Quoted, symbol_of}
-use Rattle.st_policy.specs.Words.{filter_name, id_in, index_in, is_label, may_test, names_for, sets_ids}
-use Rattle.st_policy.proofs.Clauses.{clause-operand}
-use Rattle.st_policy.proofs.Complete.{AtRows, placed, passes-rows, first-rows, below-last, is_below}
+use Rattle.st_grammar.specs.Grammar.{binary_of, most_joins}
+use Rattle.st_grammar.specs.Symbol.{Symbol, Word, Colon, Comma, Open, Close, OpenBracket, Line, Quoted, symbol_of}
+use Rattle.st_grammar.specs.Words.{filter_name, id_in, index_in, is_label, may_test, names_for, sets_ids}
+use Rattle.st_grammar.proofs.Clauses.{clause-operand}
+use Rattle.st_grammar.proofs.Complete.{AtRows, placed, passes-rows, first-rows, below-last, is_below}
 use Rattle.st_first_fault.proofs.Completions.{MayEnd}
-use Rattle.st_policy.proofs.Expressions.{reading_after, step-if, step-unless}
-use Rattle.st_policy.proofs.FilterRows.{row_place, step-policy}
-use Rattle.st_policy.proofs.Filters.{steady, HasFilters}
-use Rattle.st_policy.proofs.Keywords.{label-other}
+use Rattle.st_grammar.proofs.Expressions.{reading_after, step-if, step-unless}
+use Rattle.st_grammar.proofs.FilterRows.{row_place, step-policy}
+use Rattle.st_grammar.proofs.Filters.{steady, HasFilters}
+use Rattle.st_grammar.proofs.Keywords.{label-other}
 use Rattle.st_first_fault.proofs.MayStand.{TokenCut, token-cut}
 use Rattle.st_first_fault.proofs.PlacesTold.{unless, known-follows, label-refuses, index-refuses, IsActionPlace, IsOperandPlace, IsJointPlace, IsIdPlace, IsOperatorPlace, action-place, operand-place, close-place, then-place, id-place, operator-place}
-use Rattle.st_policy.proofs.Readings.{Read, read_over, reading_followed, Leads, Passes, passes-append, passes-one, passes-step, places_of_reading, At, stands}
+use Rattle.st_grammar.proofs.Readings.{Read, read_over, reading_followed, Leads, Passes, passes-append, passes-one, passes-step, places_of_reading, At, stands}
 use Rattle.st_first_fault.proofs.WaysOn.{Accepted, accepted, ReadTo, read-to, spread, first_place, other_places, symbols-placed}
 
 -- ---- the one fault of a symbol

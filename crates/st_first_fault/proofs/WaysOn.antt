@@ -7,22 +7,22 @@ use Rattle.st_first_fault.specs.Cuts.{end_of}
 use Rattle.st_lex.specs.Pieces.{Piece, Space, IsReadAs, print, spelled_tokens, piece_tokens}
 use Rattle.st_lex.specs.Tokens.{lexed_text}
 use Rattle.st_first_fault.proofs.Cuts.{cut_is_read}
-use Rattle.st_policy.specs.declared.env.Env.{Env}
-use Rattle.st_policy.specs.declared.fault.PolicyFault.{PolicyFault}
+use Rattle.st_grammar.specs.declared.env.Env.{Env}
+use Rattle.st_grammar.specs.declared.fault.PolicyFault.{PolicyFault}
 use Rattle.st_filter.specs.declared.set.BinaryPolicy.{BinaryPolicy}
 use Rattle.st_filter.specs.declared.set.TheConstants.{MOST_FILTERS}
 use Rattle.st_filter.specs.Policies.{filters_in}
-use Rattle.st_policy.specs.Diagram.{fault_in, lexical}
-use Rattle.st_policy.specs.Draft.{Reading, read_step, read_end, unless_lexical, read_from, first_reading, reading_of}
+use Rattle.st_grammar.specs.Diagram.{fault_in, lexical}
+use Rattle.st_grammar.specs.Draft.{Reading, read_step, read_end, unless_lexical, read_from, first_reading, reading_of}
 use Rattle.st_first_fault.specs.FirstFault.{symbol_at_end, symbol_here, place_here, symbols_at, GoesOn}
-use Rattle.st_policy.specs.Grammar.{AreRows, symbols_in}
-use Rattle.st_policy.specs.Symbol.{Symbol, Line, Broken, symbol_of}
-use Rattle.st_policy.proofs.Complete.{AtRows, placed, rows-read}
+use Rattle.st_grammar.specs.Grammar.{AreRows, symbols_in}
+use Rattle.st_grammar.specs.Symbol.{Symbol, Line, Broken, symbol_of}
+use Rattle.st_grammar.proofs.Complete.{AtRows, placed, rows-read}
 use Rattle.st_first_fault.proofs.Completions.{Ending, Printed}
-use Rattle.st_policy.proofs.Faults.{result_after, error_in, faults-agree}
+use Rattle.st_grammar.proofs.Faults.{result_after, error_in, faults-agree}
 use Rattle.st_reread.proofs.PrintedTexts.{spelled-symbols}
-use Rattle.st_policy.proofs.Readings.{Placed, symbols, Read, read_over, reading_followed, over-append, Leads}
-use Rattle.st_policy.proofs.Sound.{Stands, StandsAfter, stands-step, first-stands}
+use Rattle.st_grammar.proofs.Readings.{Placed, symbols, Read, read_over, reading_followed, over-append, Leads}
+use Rattle.st_grammar.proofs.Sound.{Stands, StandsAfter, stands-step, first-stands}
 use Rattle.st_reread.proofs.Symbols.{spelled_symbol, piece_symbols}
 
 -- ---- texts that go on

@@ -5,9 +5,9 @@ ghost use Rattle.st_lex.specs.declared.token.Token as spec;
 ghost use Rattle.st_filter.specs.Policies.{filters_in};
 ghost use Rattle.st_filter.specs.declared.set.BinaryPolicy.{BinaryPolicy};
 ghost use Rattle.st_filter.specs.declared.set.TheConstants.{MOST_FILTERS};
-ghost use Rattle.st_policy.specs.Diagram.{fault_in};
-ghost use Rattle.st_policy.specs.declared.env.Env.{Env};
-ghost use Rattle.st_policy.specs.declared.fault.PolicyFault.{PolicyFault};
+ghost use Rattle.st_grammar.specs.Diagram.{fault_in};
+ghost use Rattle.st_grammar.specs.declared.env.Env.{Env};
+ghost use Rattle.st_grammar.specs.declared.fault.PolicyFault.{PolicyFault};
 ghost use Rattle.st_first_fault.specs.Cuts.{end_of};
 ghost use Rattle.st_first_fault.specs.FirstFault.{IsFirstFault};
 

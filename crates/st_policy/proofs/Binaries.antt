@@ -4,7 +4,7 @@ use Rattle.std.specs.List.{list_any}
 use Rattle.std.specs.Str.{bytes_eq}
 use Rattle.st_filter.specs.declared.set.BinaryPolicy.{BinaryPolicy}
 use Rattle.st_filter.specs.Policies.{has_policy}
-use Rattle.st_policy.specs.Diagram.{binaries}
+use Rattle.st_grammar.specs.Diagram.{binaries}
 
 pub has_policy_among : (ps : List BinaryPolicy) (binary : List ℕ) → has_policy ps binary ≡ list_any (λ b. bytes_eq b binary) (binaries ps)
 has_policy_among [] binary = refl

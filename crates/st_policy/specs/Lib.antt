@@ -1,9 +1,1 @@
-pub mod Between
-pub mod Diagram
-pub mod Draft
-pub mod Grammar
-pub mod OneFilter
-pub mod Refusals
 pub mod Stack
-pub mod Symbol
-pub mod Words

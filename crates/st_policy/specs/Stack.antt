@@ -4,7 +4,7 @@ use Rattle.st_policy.specs.declared.stack.PendingOperand.{PendingOperand}
 use Rattle.st_policy.specs.declared.stack.PendingOperand.TheVariants as kept
 use Rattle.st_filter.specs.Formula.{Formula, formula}
 use Rattle.st_filter.specs.Formula as formula
-use Rattle.st_policy.specs.Draft as spec
+use Rattle.st_grammar.specs.Draft as spec
 
 -- what waits for its right operand, as the definitions have it
 abbrev pub waiting : PendingOperand → spec.PendingOperand

@@ -1,7 +1,7 @@
 ghost use Rattle.std.specs.Prelude.{◌≡◌, OnOk};
 ghost use Rattle.st_filter.specs.Formula.{formula};
 ghost use Rattle.st_policy.specs.Stack.{waiting};
-ghost use Rattle.st_policy.specs.Draft.{close_either, first_draft, with_pending, with_operand, joins_both, joins_either, close_group, filter_of};
+ghost use Rattle.st_grammar.specs.Draft.{close_either, first_draft, with_pending, with_operand, joins_both, joins_either, close_group, filter_of};
 
 use crate::stack::{PendingOperand, Stack};
 use st_base::Errno;
@@ -31,7 +31,7 @@ impl Model for Draft {
     ghost use Rattle.std.specs.Coded.{codes};
     ghost use Rattle.st_filter.specs.Formula.{formula};
     ghost use Rattle.st_filter.specs.FormulaCode.{formula_code};
-    ghost use Rattle.st_policy.specs.Draft.{Draft, reduced};
+    ghost use Rattle.st_grammar.specs.Draft.{Draft, reduced};
 
     ghost Value = { Draft };
 

@@ -1,16 +1,12 @@
-ghost use Rattle.std.specs.Prelude.{◌≡◌, ◌≢◌, ◌^◌, ◌<◌, ℕ, List, ◌∷◌, false, Ok, Err, length, IfOk, IfErr};
-ghost use Rattle.st_policy.specs.Symbol.{seen};
-ghost use Rattle.st_policy.specs.Draft.{first_draft, is_binary_place};
-ghost use Rattle.st_filter.specs.Formula.{FilterValue};
-ghost use Rattle.st_policy.specs.OneFilter.{ReadsFilter, behind_filter, filter_at_end, begin_filter, no_filter, filter_of_tokens, filter_in};
-ghost use Rattle.st_policy.specs.declared.env.Env.{Env};
+ghost use Rattle.std.specs.Prelude.{◌≡◌, ◌≢◌, ◌^◌, ◌<◌, ◌∷◌, false, Ok, Err, length, IfOk, IfErr};
+ghost use Rattle.st_grammar.specs.Symbol.{seen};
+ghost use Rattle.st_grammar.specs.Draft.{first_draft, is_binary_place};
+ghost use Rattle.st_grammar.specs.OneFilter.{behind_filter, filter_at_end, begin_filter, no_filter, filter_of_tokens, filter_in};
 
-use crate::env::Env;
-use crate::fault::PolicyFault;
 use crate::reader::lexical;
 use crate::steps::Reader;
-use crate::symbol::Symbol;
 use st_filter::Filter;
+use st_grammar::{Env, PolicyFault, Symbol};
 use st_lex::{LexFault, Token, tokens};
 use std::alloc::Global;
 
@@ -68,7 +64,7 @@ fn begin_filter<'a>(alloc: Global, at: u32, symbol: &Symbol<'a>) -> Result<Reade
 }
 
 // The filter whose tokens are this one and those behind it.
-#[tactic(auto, using(crate::proofs::OneFilters::stands_elsewhere))]
+#[tactic(auto, using(crate::proofs::Cited::stands_elsewhere))]
 fn filter_of_tokens(
     alloc: Global,
     env: &Env,
@@ -118,8 +114,3 @@ pub fn read_filter(alloc: Global, text: &[u8], env: &Env) -> Result<Filter, Poli
         [] => Err(no_filter(text.len() as u32, lexed.fault)),
     }
 }
-
-/// What is read as one filter is one by the grammar.
-pub fn what_is_read_is_a_filter()
-    ensures { (text : List ℕ) (env : Env) (filter : FilterValue) → filter_in text env ≡ Ok filter → ReadsFilter text env filter }
-{}

@@ -1,20 +1,16 @@
-ghost use Rattle.std.specs.Prelude.{◌≡◌, ◌≢◌, ◌^◌, ◌<◌, ◌≤◌, ◌↔◌, ℕ, List, true, false, Some, None, Ok, Err, IfOk, IfErr, OnOk, OnErr, length, take};
-ghost use Rattle.st_policy.specs.declared.env.Env.{Env};
-ghost use Rattle.st_filter.specs.declared.set.BinaryPolicy.{BinaryPolicy};
-ghost use Rattle.st_policy.specs.Symbol.{seen};
-ghost use Rattle.st_policy.specs.Grammar.{Reads, if_absolute, binary_of};
+ghost use Rattle.std.specs.Prelude.{◌≡◌, ◌≢◌, ◌^◌, ◌<◌, ◌≤◌, true, false, Some, Ok, Err, IfOk, IfErr, OnOk, OnErr, length, take};
+ghost use Rattle.st_grammar.specs.Symbol.{seen};
+ghost use Rattle.st_grammar.specs.Grammar.{Reads, if_absolute, binary_of};
 ghost use Rattle.st_filter.specs.Policies.{filters_in, add_filter};
-ghost use Rattle.st_policy.specs.Diagram.{lexical, fault_in};
-ghost use Rattle.st_policy.specs.Refusals.{place_from, place_in, refusal_in};
-ghost use Rattle.st_policy.specs.Draft.{is_between_rows, is_binary_place, ends_filter, filter_of, first_draft, draft_after, set_after, as_reading, read_step, read_end, read_from, first_reading, set_of, policies_in};
+ghost use Rattle.st_grammar.specs.Diagram.{lexical};
+ghost use Rattle.st_grammar.specs.Refusals.{place_from, place_in, refusal_in};
+ghost use Rattle.st_grammar.specs.Draft.{is_between_rows, is_binary_place, ends_filter, filter_of, first_draft, as_reading, read_step, read_end, read_from, first_reading, set_of, policies_in};
 ghost use Rattle.st_filter.specs.declared.set.TheConstants.{MOST_FILTERS};
 
-use crate::env::Env;
-use crate::fault::{PolicyFault, PolicyRefusal};
 use crate::steps::Reader;
-use crate::symbol::Symbol;
 use st_base::Text;
 use st_filter::{Filter, PolicySet};
+use st_grammar::{Env, PolicyFault, PolicyRefusal, Symbol};
 use st_lex::{LexFault, Token, tokens, unquote};
 use std::alloc::{AllocError, Global};
 
@@ -94,7 +90,7 @@ impl<'a> Reader<'a> {
 
     // At every other place; the end of a filter's row adds it to the policies.
     #[inline]
-    #[tactic(auto, using(crate::proofs::Lines::line_leaves))]
+    #[tactic(auto, using(crate::proofs::Cited::line_leaves))]
     fn read_other(
         &mut self,
         alloc: Global,
@@ -166,7 +162,7 @@ impl<'a> Reader<'a> {
 }
 
 // Reads the tokens of a text and what stands behind them; where that fails, the set has what was read of it.
-#[tactic(auto, using(crate::proofs::Rooms::old_is_kept, crate::proofs::Rooms::has_room, crate::proofs::Rooms::sound_first))]
+#[tactic(auto, using(crate::proofs::Cited::old_is_kept, crate::proofs::Cited::has_room, crate::proofs::Cited::sound_first))]
 fn read_tokens(
     alloc: Global,
     text: &[u8],
@@ -245,7 +241,7 @@ fn read_or_restore(
 
 /// Reads the policies of a text, as in systrace(1), behind those that the set has: exactly where the grammar has a reading of the
 /// text, and then that one. Else the fault is the leftmost, at its token, with its place in the grammar, and the set is as it was.
-#[tactic(auto, using(crate::proofs::Results::refusal_found))]
+#[tactic(auto, using(crate::proofs::Cited::refusal_found))]
 pub fn read_policies(
     alloc: Global,
     text: &[u8],
@@ -260,10 +256,3 @@ pub fn read_policies(
     read_or_restore(alloc, text, env, set)?;
     Ok(())
 }
-
-/// A text has one reading at most, and one exactly where it has no fault.
-pub fn reading_is_one()
-    ensures one { (text : List ℕ) (env : Env) (old a b : List BinaryPolicy) → Reads text env old a → Reads text env old b → a ≡ b }
-    ensures faultless { (text : List ℕ) (env : Env) (old : List BinaryPolicy) → filters_in old ≤ MOST_FILTERS →
-        (fault_in text env old ≡ None) ↔ ((set : List BinaryPolicy) × Reads text env old set) }
-{}

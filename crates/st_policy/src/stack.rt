@@ -1,7 +1,7 @@
 ghost use Rattle.std.specs.Prelude.{◌≡◌, ◌∷◌, [], true, false, OnOk, IfOk, IfSome, IfNone, OnOk};
 ghost use Rattle.st_filter.specs.Formula.{formula};
 ghost use Rattle.st_policy.specs.Stack.{waiting, is_tight, is_either, is_group, newest_is, with_right_operand};
-ghost use Rattle.st_policy.specs.Draft.{reduced, settle, close_either, without_group};
+ghost use Rattle.st_grammar.specs.Draft.{reduced, settle, close_either, without_group};
 
 use st_filter::Expr;
 use std::alloc::{AllocError, Global};
@@ -78,7 +78,7 @@ impl Model for Stack {
     ghost use Rattle.std.specs.Prelude.{List};
     ghost use Rattle.std.specs.Coded.{codes};
     ghost use Rattle.st_filter.specs.FormulaCode.{formula_code};
-    ghost use Rattle.st_policy.specs.Draft.{PendingOperand};
+    ghost use Rattle.st_grammar.specs.Draft.{PendingOperand};
     ghost use Rattle.st_policy.specs.Stack.{stacked};
 
     ghost Value = { List PendingOperand };

@@ -1,20 +1,17 @@
-ghost use Rattle.std.specs.Prelude.{◌≡◌, ◌≢◌, ℕ, List, [], Ok, Err, false, unwrap_or, IfOk, IfErr, OnOk};
-ghost use Rattle.st_policy.specs.Symbol.{seen, Word};
-ghost use Rattle.st_policy.specs.Diagram.{IsStepped, is_quoted, only, step_start, step_row, step_system, step_operand, step_operator, step_label, step_indexed, step_index, step_joint, step_action, step_clause, step_as, step_tail, step_denial, step_error, step_id, step_grant, step_user, step_who, word_who, step_comparison, next};
-ghost use Rattle.st_policy.specs.Grammar.{comparison};
-ghost use Rattle.st_policy.specs.Words.{names_for};
-ghost use Rattle.st_policy.specs.Draft.{first_draft, filter_of, is_binary_place, draft_row, draft_operand, draft_operator, draft_index, draft_text, draft_joint, draft_action, draft_clause, draft_error, draft_tail, draft_grant, draft_group, draft_comparison, draft_id, draft_step};
+ghost use Rattle.std.specs.Prelude.{◌≡◌, ℕ, List, [], Ok, Err, false, unwrap_or, IfOk, OnOk};
+ghost use Rattle.st_grammar.specs.Symbol.{seen, Word};
+ghost use Rattle.st_grammar.specs.Diagram.{IsStepped, is_quoted, only, step_start, step_row, step_system, step_operand, step_operator, step_label, step_indexed, step_index, step_joint, step_action, step_clause, step_as, step_tail, step_denial, step_error, step_id, step_grant, step_user, step_who, word_who, step_comparison, next};
+ghost use Rattle.st_grammar.specs.Grammar.{comparison};
+ghost use Rattle.st_grammar.specs.Words.{names_for};
+ghost use Rattle.st_grammar.specs.Draft.{first_draft, filter_of, is_binary_place, draft_row, draft_operand, draft_operator, draft_index, draft_text, draft_joint, draft_action, draft_clause, draft_error, draft_tail, draft_grant, draft_group, draft_comparison, draft_id, draft_step};
 
 use crate::draft::Draft;
-use crate::env::Env;
-use crate::fault::{PolicyFault, Unsupported};
-use crate::place::Place;
 use crate::stack::PendingOperand;
-use crate::symbol::Symbol;
 use crate::walk::GrammarState;
-use crate::words::{id_of, index_of, is, is_label, names_for, op_named, who_named};
 use st_base::{Errno, Text};
 use st_filter::{Action, Cmp, Expr, Filter, FilterName, Grant, Predicate, Who};
+use st_grammar::words::{id_of, index_of, is_keyword, is_label, names_for, op_named, who_named};
+use st_grammar::{Env, Place, PolicyFault, Symbol, Unsupported};
 use st_lex::unquote;
 use std::alloc::{AllocError, Global};
 
@@ -56,7 +53,7 @@ impl<'a> Reader<'a> {
                 self.walk.go(Place::Start);
                 Ok(())
             }
-            Symbol::Word(word) => self.only(at, is(word, b"Policy"), Place::PolicyColon),
+            Symbol::Word(word) => self.only(at, is_keyword(word, b"Policy"), Place::PolicyColon),
             _ => Err(PolicyFault::Expected(at)),
         }
     }
@@ -72,7 +69,7 @@ impl<'a> Reader<'a> {
             }
             Symbol::Word(word) => {
                 self.draft.clear();
-                if is(word, b"Policy") {
+                if is_keyword(word, b"Policy") {
                     self.walk.go(Place::PolicyColon);
                     Ok(())
                 } else {
@@ -89,7 +86,7 @@ impl<'a> Reader<'a> {
     {
         match *symbol {
             Symbol::Word(word) => {
-                if !is(word, b"native") {
+                if !is_keyword(word, b"native") {
                     return Err(PolicyFault::NotSupported(at, Unsupported::Emulation));
                 }
                 self.walk.go(Place::HeaderEnd);
@@ -117,10 +114,10 @@ impl<'a> Reader<'a> {
                 self.draft.wait(PendingOperand::Group)?;
             }
             Symbol::Word(word) => {
-                if is(word, b"not") {
+                if is_keyword(word, b"not") {
                     self.walk.join(at)?;
                     self.draft.wait(PendingOperand::Negation)?;
-                } else if is(word, b"true") {
+                } else if is_keyword(word, b"true") {
                     self.walk.go(Place::Joint);
                     self.draft.complete(alloc, Expr::True)?;
                 } else if is_label(word) {
@@ -148,7 +145,7 @@ impl<'a> Reader<'a> {
                 self.draft.op = op;
                 Ok(())
             }
-            None if is(word, b"re") => Err(PolicyFault::NotSupported(at, Unsupported::Re)),
+            None if is_keyword(word, b"re") => Err(PolicyFault::NotSupported(at, Unsupported::Re)),
             None => Err(PolicyFault::Expected(at)),
         }
     }
@@ -222,15 +219,15 @@ impl<'a> Reader<'a> {
         ensures walk { IsStepped result self.new.walk (step_joint self.old.walk at (Word word.now)) }
         ensures draft { OnOk result (self.new.draft ≡ draft_joint self.old.draft (Word word.now)) }
     {
-        if is(word, b"and") {
+        if is_keyword(word, b"and") {
             self.walk.join(at)?;
             self.draft.join_both(alloc)?;
-        } else if is(word, b"or") {
+        } else if is_keyword(word, b"or") {
             self.walk.join(at)?;
             self.draft.end_conjunction(alloc)?;
             self.draft.join_either(alloc)?;
         } else {
-            let ends = is(word, b"then") && self.walk.is_closed();
+            let ends = is_keyword(word, b"then") && self.walk.is_closed();
             self.only(at, ends, Place::Action)?;
             self.draft.end_conjunction(alloc)?;
         }
@@ -263,16 +260,16 @@ impl<'a> Reader<'a> {
         let Symbol::Word(word) = *symbol else {
             return Err(PolicyFault::Expected(at));
         };
-        if is(word, b"permit") {
+        if is_keyword(word, b"permit") {
             self.walk.go(Place::Tail {
                 grant: true,
                 log: true,
             });
             self.draft.action = Action::Permit;
-        } else if is(word, b"deny") {
+        } else if is_keyword(word, b"deny") {
             self.walk.go(Place::Denial);
             self.draft.action = Action::Deny(Errno::EPERM);
-        } else if is(word, b"ask") {
+        } else if is_keyword(word, b"ask") {
             if env.learn {
                 return Err(PolicyFault::AskWithLearn(at));
             }
@@ -330,12 +327,12 @@ impl<'a> Reader<'a> {
         ensures walk { IsStepped result self.new.walk (step_tail env.now grant log self.old.walk at (Word word.now)) }
         ensures draft { OnOk result (self.new.draft ≡ draft_tail self.old.draft (Word word.now)) }
     {
-        if is(word, b"as") && grant {
+        if is_keyword(word, b"as") && grant {
             return self.step_as(env, at, log);
         }
         self.only(
             at,
-            is(word, b"log") && log,
+            is_keyword(word, b"log") && log,
             Place::Tail { grant, log: false },
         )?;
         self.draft.log = true;

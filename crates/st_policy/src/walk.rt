@@ -1,15 +1,14 @@
-ghost use Rattle.std.specs.Prelude.{◌≡◌, ◌+◌, ◌==◌, [], Ok, Err, Some, false, IfOk, IfErr, OnOk};
-ghost use Rattle.st_policy.specs.Words.{name_by, filter_name, may_test, may_test_label, sets_ids};
-ghost use Rattle.st_policy.specs.Symbol.{Close};
+ghost use Rattle.std.specs.Prelude.{◌≡◌, ◌+◌, ◌==◌, [], Ok, Err, Some, false, IfOk, OnOk};
+ghost use Rattle.st_grammar.specs.Words.{name_by, filter_name, may_test, may_test_label, sets_ids};
+ghost use Rattle.st_grammar.specs.Symbol.{Close};
 ghost use Rattle.st_filter.specs.Policies.{has_policy};
-ghost use Rattle.st_policy.specs.Diagram.{IsStepped, only, step_name, step_binary, joined, step_joint, binaries};
+ghost use Rattle.st_grammar.specs.Diagram.{IsStepped, only, step_name, step_binary, joined, step_joint, binaries};
 
-use crate::fault::PolicyFault;
-use crate::place::Place;
-use crate::words::{may_test, may_test_label, native_name, sets_ids};
 use st_base::Text;
 use st_calls::Rule;
 use st_filter::{FilterName, MOST_FILTERS, PolicySet};
+use st_grammar::words::{may_test, may_test_label, native_name, sets_ids};
+use st_grammar::{Place, PolicyFault};
 use std::alloc::{AllocError, Global};
 use std::marker::Model;
 
@@ -35,8 +34,8 @@ pub(crate) struct GrammarState<'a> {
 
 impl<'a> Model for GrammarState<'a> {
     ghost use Rattle.std.specs.Prelude.{◌≤◌};
-    ghost use Rattle.st_policy.specs.Words.{name_by};
-    ghost use Rattle.st_policy.specs.Diagram.{GrammarState};
+    ghost use Rattle.st_grammar.specs.Words.{name_by};
+    ghost use Rattle.st_grammar.specs.Diagram.{GrammarState};
 
     ghost Value = { GrammarState };
 
@@ -89,7 +88,6 @@ impl<'a> GrammarState<'a> {
     }
 
     /// Behind `Policy:`, where this binary is named.
-    #[tactic(auto, using(crate::proofs::Binaries::has_policy_among))]
     pub(crate) fn begin_policy(
         &mut self,
         known: &PolicySet,

@@ -3,7 +3,7 @@ use Rattle.std.proofs.Common.{◌≡◌, ℕ, ◌+◌, ◌<◌, List, [], ◌∷
 use Rattle.std.specs.Borrow.{Bor}
 use Rattle.std.specs.Result.{IsErr, IsErrAnd}
 use Rattle.st_filter.specs.declared.set.BinaryPolicy.{BinaryPolicy}
-use Rattle.st_policy.specs.declared.env.Env.{Env}
+use Rattle.st_grammar.specs.declared.env.Env.{Env}
 use Rattle.st_command.specs.Words.{Word}
 use Rattle.st_reading.specs.Meaning.{Held}
 use Rattle.st_reading.specs.Files.{IsPolicy, PolicyRefused, ArePolicies, PoliciesRefused}

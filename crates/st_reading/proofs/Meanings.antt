@@ -6,14 +6,14 @@ use Rattle.st_outside.specs.declared.files.TheConstants.{FILE_LIMIT}
 use Rattle.st_filter.specs.declared.set.BinaryPolicy.{BinaryPolicy}
 use Rattle.st_filter.specs.declared.set.TheConstants.{MOST_FILTERS}
 use Rattle.st_filter.specs.Policies.{filters_in}
-use Rattle.st_policy.specs.declared.env.Env.{Env}
-use Rattle.st_policy.specs.Diagram.{fault_in}
-use Rattle.st_policy.specs.Grammar as policy
-use Rattle.st_policy.specs.declared.fault.PolicyFault.{PolicyFault}
-use Rattle.st_policy.specs.declared.fault.PolicyRefusal.{PolicyRefusal}
+use Rattle.st_grammar.specs.declared.env.Env.{Env}
+use Rattle.st_grammar.specs.Diagram.{fault_in}
+use Rattle.st_grammar.specs.Grammar as policy
+use Rattle.st_grammar.specs.declared.fault.PolicyFault.{PolicyFault}
+use Rattle.st_grammar.specs.declared.fault.PolicyRefusal.{PolicyRefusal}
 use Rattle.st_printing.specs.Canon.{canon}
-use Rattle.st_policy.specs.Refusals.{place_in, refusal_in}
-use Rattle.st_policy.proofs.Complete.{reads-once, reads-faultless, faultless-reads}
+use Rattle.st_grammar.specs.Refusals.{place_in, refusal_in}
+use Rattle.st_grammar.proofs.Complete.{reads-once, reads-faultless, faultless-reads}
 use Rattle.st_schedule.specs.Schedule.{schedule_in}
 use Rattle.st_script_faults.specs.declared.fault.ScriptFault.{ScriptFault}
 use Rattle.st_script.specs.Reading.{script_in}

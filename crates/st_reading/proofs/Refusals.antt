@@ -2,10 +2,10 @@
 use Rattle.std.proofs.Common.{◌≡◌, ℕ, ◌+◌, ◌⊎◌, inl, inr, false, List, [], ◌∷◌, ◌++◌, length, take, Option, Some, None, Result, Ok, Err, refl, ap, sym, ◌∙◌, subst, arith, append_assoc}
 use Rattle.st_outside.specs.Count.{HasRisen}
 use Rattle.st_filter.specs.declared.set.BinaryPolicy.{BinaryPolicy}
-use Rattle.st_policy.specs.declared.env.Env.{Env}
+use Rattle.st_grammar.specs.declared.env.Env.{Env}
 use Rattle.st_printing.specs.Canon.{canon}
-use Rattle.st_policy.specs.Refusals.{refusal_in}
-use Rattle.st_policy.specs.Grammar as policy
+use Rattle.st_grammar.specs.Refusals.{refusal_in}
+use Rattle.st_grammar.specs.Grammar as policy
 use Rattle.st_law.specs.declared.input.Options.{Options}
 use Rattle.st_law.specs.declared.input.ReadSchedule.{ReadSchedule}
 use Rattle.st_schedule.specs.Schedule.{schedule_in}

@@ -8,9 +8,9 @@ use Rattle.st_filter.specs.declared.filter.Action.{Action}
 use Rattle.st_filter.specs.declared.filter.Action.TheVariants as action
 use Rattle.st_filter.specs.declared.set.BinaryPolicy.{BinaryPolicy}
 use Rattle.st_base.proofs.Each.{each-append, each-parts}
-use Rattle.st_policy.specs.Grammar.{AreRows, NoRow, Blank, Header, FilterRow, IsAction, Permits, Denies, DeniesWith, Asks, Reads}
-use Rattle.st_policy.specs.Symbol.{Symbol}
-use Rattle.st_policy.specs.declared.env.Env.{Env}
+use Rattle.st_grammar.specs.Grammar.{AreRows, NoRow, Blank, Header, FilterRow, IsAction, Permits, Denies, DeniesWith, Asks, Reads}
+use Rattle.st_grammar.specs.Symbol.{Symbol}
+use Rattle.st_grammar.specs.declared.env.Env.{Env}
 use Rattle.st_learn.specs.Learnt.{NoneAsks}
 
 abbrev DoesNotAsk : FilterValue → Type 0

@@ -1,6 +1,6 @@
 -- What policies are read with where there is no script.
 use Rattle.std.specs.Prelude.{Bool, false, [], ◌∷◌, codes}
-use Rattle.st_policy.specs.declared.env.Env.{Env}
+use Rattle.st_grammar.specs.declared.env.Env.{Env}
 
 -- the user `root` and the group `wheel` alone, both 0, and the texts of root
 abbrev pub bare_env : Bool → Env

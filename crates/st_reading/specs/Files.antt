@@ -4,9 +4,9 @@ use Rattle.st_outside.specs.Count.{HasRisen}
 use Rattle.st_outside.specs.Files.{FileView, CanHold, CanLack, CanExceed, CanFit}
 use Rattle.st_outside.specs.declared.files.TheConstants.{FILE_LIMIT}
 use Rattle.st_filter.specs.declared.set.BinaryPolicy.{BinaryPolicy}
-use Rattle.st_policy.specs.declared.env.Env.{Env}
-use Rattle.st_policy.specs.Refusals.{refusal_in}
-use Rattle.st_policy.specs.Grammar as policy
+use Rattle.st_grammar.specs.declared.env.Env.{Env}
+use Rattle.st_grammar.specs.Refusals.{refusal_in}
+use Rattle.st_grammar.specs.Grammar as policy
 use Rattle.st_law.specs.declared.input.Options.{Options}
 use Rattle.st_law.specs.declared.input.ReadSchedule.{ReadSchedule}
 use Rattle.st_schedule.specs.Schedule.{schedule_in}

@@ -4,11 +4,11 @@ use Rattle.std.specs.Prelude.{◌≡◌, ℕ, ◌+◌, ◌≤◌, ◌⊎◌, Boo
 use Rattle.st_outside.specs.Files.{FileView, Unknown, Absent, FileBytes, CanHold, CanLack, CanExceed}
 use Rattle.st_outside.specs.declared.files.TheConstants.{FILE_LIMIT}
 use Rattle.st_filter.specs.declared.set.BinaryPolicy.{BinaryPolicy}
-use Rattle.st_policy.specs.declared.env.Env.{Env}
-use Rattle.st_policy.specs.declared.fault.PolicyRefusal.{PolicyRefusal}
+use Rattle.st_grammar.specs.declared.env.Env.{Env}
+use Rattle.st_grammar.specs.declared.fault.PolicyRefusal.{PolicyRefusal}
 use Rattle.st_printing.specs.Canon.{canon}
-use Rattle.st_policy.specs.Refusals.{refusal_in}
-use Rattle.st_policy.specs.Grammar as policy
+use Rattle.st_grammar.specs.Refusals.{refusal_in}
+use Rattle.st_grammar.specs.Grammar as policy
 use Rattle.st_law.specs.declared.input.Input.{Input}
 use Rattle.st_law.specs.declared.input.ReadSchedule.{ReadSchedule}
 use Rattle.st_schedule.specs.Schedule.{schedule_in}

@@ -2,8 +2,8 @@ ghost use Rattle.std.specs.Prelude.{◌≡◌, [], ◌∷◌, IfOk};
 ghost use Rattle.st_reading.specs.Bare.{bare_env};
 
 use st_base::{Sequence, Text};
+use st_grammar::{Env, NamedId};
 use st_lex::Dollars;
-use st_policy::{Env, NamedId};
 use std::alloc::{AllocError, Global};
 
 // A list of one name with the id 0.

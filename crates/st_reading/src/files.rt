@@ -5,9 +5,11 @@ ghost use Rattle.st_reading.specs.Files.{FetchRefused, ScriptEnds, PolicyEnds, P
 
 use crate::refusal::{Refusal, Which};
 use st_base::Text;
+use st_filter::PolicySet;
+use st_grammar::{Env, PolicyFault};
 use st_law::{Options, ReadSchedule};
 use st_outside::{FetchFault, Files};
-use st_policy::{Env, PolicyFault, PolicySet, read_policies};
+use st_policy::read_policies;
 use st_schedule::read_schedule;
 use st_script::{ReadScript, read_script};
 use st_script_faults::ScriptFault;

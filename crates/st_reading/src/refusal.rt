@@ -1,6 +1,6 @@
 ghost use Rattle.std.specs.Prelude.{◌≡◌};
 
-use st_policy::PolicyRefusal;
+use st_grammar::PolicyRefusal;
 use st_script_faults::ScriptFault;
 use std::alloc::AllocError;
 

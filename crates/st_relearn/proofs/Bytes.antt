@@ -9,7 +9,7 @@ use Rattle.st_lex.specs.declared.token.TokenKind.{TokenKind}
 use Rattle.st_lex.specs.declared.token.TokenKind.TheVariants as kind
 use Rattle.st_printing.specs.Canon.{canon, set_pieces}
 use Rattle.st_reread.specs.Readable.{AreTextBytes, Behind, HasPlainDollars, HasSmallIds, Nothing, WasRead}
-use Rattle.st_policy.specs.declared.env.Env.{Env}
+use Rattle.st_grammar.specs.declared.env.Env.{Env}
 use Rattle.st_relearn.specs.Writable.{AreWritable}
 use Rattle.st_base.proofs.Each.{each-append}
 use Rattle.st_relearn.proofs.Texts.{AreSmall}

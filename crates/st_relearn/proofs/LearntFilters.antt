@@ -20,11 +20,11 @@ use Rattle.st_filter.specs.Formula.{Formula, And, Conjunction}
 use Rattle.st_filter.specs.declared.filter.FilterName.TheVariants as name
 use Rattle.st_law.specs.Sessions.{learnt_filter, learnt_formula, test_of}
 use Rattle.st_printing.specs.Canon.{expression_pieces, in_parens, index_pieces, needs_no_parens}
-use Rattle.st_policy.specs.Grammar.{is_join}
-use Rattle.st_policy.specs.Symbol.{Symbol, Word, symbol_by}
-use Rattle.st_policy.specs.Symbol as symbol
-use Rattle.st_policy.specs.Words.{is_label}
-use Rattle.st_policy.specs.declared.env.Env.{Env}
+use Rattle.st_grammar.specs.Grammar.{is_join}
+use Rattle.st_grammar.specs.Symbol.{Symbol, Word, symbol_by}
+use Rattle.st_grammar.specs.Symbol as symbol
+use Rattle.st_grammar.specs.Words.{is_label}
+use Rattle.st_grammar.specs.declared.env.Env.{Env}
 use Rattle.st_relearn.specs.Plain.{AreArguments}
 use Rattle.st_relearn.specs.Writable.{HasWritableTests, IsWritableFilter, IsWritableTest, joins_of}
 

@@ -17,7 +17,7 @@ use Rattle.st_model.specs.declared.open_file.FileKind.{FileKind}
 use Rattle.st_model.specs.declared.open_file.FileKind.TheVariants as kind
 use Rattle.st_model.specs.declared.open_file.OpenFile.{OpenFile}
 use Rattle.st_names.specs.Name.{Components, printed_name}
-use Rattle.st_policy.specs.Grammar.{if_absolute}
+use Rattle.st_grammar.specs.Grammar.{if_absolute}
 use Rattle.st_effects.specs.Descriptors.{low_mode, open_node_outcome, put_changes, read_file_outcome, seek_file_outcome, seek_offset, seek_outcome, truncation, write_bytes_outcome, write_file_outcome, write_kind_outcome, write_offset}
 use Rattle.st_effects.specs.Effect.{effect}
 use Rattle.st_effects.specs.NameTests.{Object, object_at, on_found, on_object}

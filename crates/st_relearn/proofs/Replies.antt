@@ -1,10 +1,10 @@
 -- A filter that was read alone can be written.
 use Rattle.std.proofs.Common.{List, [], ◌∷◌, ℕ}
 use Rattle.st_filter.specs.Formula.{FilterValue}
-use Rattle.st_policy.specs.OneFilter.{IsOneRow, ReadsFilter, ToALine, ToTheEnd}
+use Rattle.st_grammar.specs.OneFilter.{IsOneRow, ReadsFilter, ToALine, ToTheEnd}
 use Rattle.st_reread.specs.Readable.{AreTextBytes, HasPlainDollars, HasSmallIds}
-use Rattle.st_policy.specs.Symbol.{Symbol, Line}
-use Rattle.st_policy.specs.declared.env.Env.{Env}
+use Rattle.st_grammar.specs.Symbol.{Symbol, Line}
+use Rattle.st_grammar.specs.declared.env.Env.{Env}
 use Rattle.st_reread.proofs.PrintedFilters.{readable_filter}
 use Rattle.st_reread.proofs.PrintedTexts.{printable_symbols}
 use Rattle.st_reread.proofs.Symbols.{ArePrintable, ArePrintable-parts}

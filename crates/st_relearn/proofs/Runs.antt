@@ -26,9 +26,9 @@ use Rattle.st_law.specs.declared.input.Input.{Input}
 use Rattle.st_law.specs.declared.input.Mode.TheVariants.{Learn, AskText}
 use Rattle.st_learn.specs.Learnt.{NoneAsks, learnt_policies}
 use Rattle.st_learn.specs.Permitted.{IsPermittedBy}
-use Rattle.st_policy.specs.Grammar.{Reads}
+use Rattle.st_grammar.specs.Grammar.{Reads}
 use Rattle.st_reread.specs.Readable.{WasRead, HasPlainDollars, HasSmallIds}
-use Rattle.st_policy.specs.declared.env.Env.{Env}
+use Rattle.st_grammar.specs.declared.env.Env.{Env}
 use Rattle.st_relearn.specs.Plain.{AreWritableCopies, HasPlainTexts}
 use Rattle.st_relearn.specs.Relearnt.{HasWritableReplies, IsWritableKept, ReadsAndPermits, policy_text}
 use Rattle.st_relearn.specs.Writable.{AreWritable, IsWritableAction, IsWritableFilter, IsWritablePolicy}

@@ -23,9 +23,9 @@ use Rattle.st_lex.specs.Quote.{AreBytes}
 use Rattle.st_lex.specs.Tokens.{lexed_text}
 use Rattle.st_lex.specs.Unquote.{unquoted}
 use Rattle.st_names.specs.Name.{components_of}
-use Rattle.st_policy.specs.OneFilter.{FilterResult, ReadsFilter, filter_in}
+use Rattle.st_grammar.specs.OneFilter.{FilterResult, ReadsFilter, filter_in}
 use Rattle.st_reread.specs.Readable.{AreTextBytes, HasPlainDollars, HasSmallIds, WasRead}
-use Rattle.st_policy.specs.declared.env.Env.{Env}
+use Rattle.st_grammar.specs.declared.env.Env.{Env}
 use Rattle.st_script_faults.specs.Environment.{dollars_by, dollars_of, environment_of, first_traced, group_id, groups_below, is_given, learns, new_group, new_user, process_of, user_id, user_of, users_below}
 use Rattle.st_script_faults.specs.Faults.{answer_of, reply_said, script_fault, unless_ask}
 use Rattle.st_script_faults.specs.Names.{Name, has_name, with_name}

@@ -9,8 +9,8 @@ use Rattle.st_filter.specs.declared.set.TheConstants.{MOST_FILTERS}
 use Rattle.st_law.specs.Sessions.{SessionFilter}
 use Rattle.st_learn.specs.Learnt.{all_policies, empty_policy, filters_added, learnt_policies, with_policy, with_session}
 use Rattle.st_learn.specs.Sessions.{is_of}
-use Rattle.st_policy.specs.Grammar.{AreNew, Reads}
-use Rattle.st_policy.specs.declared.env.Env.{Env}
+use Rattle.st_grammar.specs.Grammar.{AreNew, Reads}
+use Rattle.st_grammar.specs.declared.env.Env.{Env}
 use Rattle.st_base.proofs.Each.{each-append}
 use Rattle.st_relearn.specs.Relearnt.{IsWritableKept, policy_text}
 use Rattle.st_relearn.specs.Writable.{AreWritable, IsWritableBinary, IsWritableFilter, IsWritablePolicy}

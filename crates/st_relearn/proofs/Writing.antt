@@ -27,11 +27,11 @@ use Rattle.st_filter.specs.declared.filter.Predicate.{Predicate}
 use Rattle.st_filter.specs.declared.set.BinaryPolicy.{BinaryPolicy}
 use Rattle.st_filter.specs.declared.set.TheConstants.{MOST_FILTERS}
 use Rattle.st_printing.specs.Canon.{canon, expression_pieces, set_pieces}
-use Rattle.st_policy.specs.Grammar.{AreRows, AreNew, Reads, is_join, symbols_in}
+use Rattle.st_grammar.specs.Grammar.{AreRows, AreNew, Reads, is_join, symbols_in}
 use Rattle.st_reread.specs.Readable.{WasRead, Nothing, Behind, HasPlainDollars, HasSmallIds}
-use Rattle.st_policy.specs.Symbol.{Symbol, Word, Quoted, Line, symbol_by}
-use Rattle.st_policy.specs.Words.{if_name, is_name_byte, name_by}
-use Rattle.st_policy.specs.declared.env.Env.{Env}
+use Rattle.st_grammar.specs.Symbol.{Symbol, Word, Quoted, Line, symbol_by}
+use Rattle.st_grammar.specs.Words.{if_name, is_name_byte, name_by}
+use Rattle.st_grammar.specs.declared.env.Env.{Env}
 use Rattle.st_reread.proofs.Headers.{IsReadableBinary}
 use Rattle.st_reread.proofs.Names.{IsReadableName}
 use Rattle.st_reread.proofs.PrintedClauses.{AreIds, IsReadableAction, IsReadableCondition, IsReadableGrant, IsReadablePredicate}

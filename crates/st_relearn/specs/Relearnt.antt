@@ -10,8 +10,8 @@ use Rattle.st_law.specs.declared.input.Mode.TheVariants.{AskText}
 use Rattle.st_learn.specs.Learnt.{learnt_policies}
 use Rattle.st_learn.specs.Permitted.{IsPermittedBy}
 use Rattle.st_printing.specs.Canon.{canon}
-use Rattle.st_policy.specs.Grammar.{Reads}
-use Rattle.st_policy.specs.declared.env.Env.{Env}
+use Rattle.st_grammar.specs.Grammar.{Reads}
+use Rattle.st_grammar.specs.declared.env.Env.{Env}
 use Rattle.st_relearn.specs.Writable.{IsWritableBinary, IsWritableFilter}
 
 -- a filter of a session, and the binary whose policy it is for

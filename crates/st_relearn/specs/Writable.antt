@@ -15,10 +15,10 @@ use Rattle.st_filter.specs.declared.filter.Predicate.{Predicate}
 use Rattle.st_filter.specs.declared.set.BinaryPolicy.{BinaryPolicy}
 use Rattle.st_filter.specs.declared.set.TheConstants.{MOST_FILTERS}
 use Rattle.st_printing.specs.Canon.{expression_pieces}
-use Rattle.st_policy.specs.Grammar.{MayGrant, AreNew, if_absolute, is_join, most_joins}
-use Rattle.st_policy.specs.Symbol.{Word, symbol_by}
-use Rattle.st_policy.specs.Words.{is_label, if_name, may_test}
-use Rattle.st_policy.specs.declared.env.Env.{Env}
+use Rattle.st_grammar.specs.Grammar.{MayGrant, AreNew, if_absolute, is_join, most_joins}
+use Rattle.st_grammar.specs.Symbol.{Word, symbol_by}
+use Rattle.st_grammar.specs.Words.{is_label, if_name, may_test}
+use Rattle.st_grammar.specs.declared.env.Env.{Env}
 
 -- ---- names
 

@@ -20,10 +20,10 @@ ghost use Rattle.st_law.specs.declared.input.Mode.TheVariants.{Learn};
 ghost use Rattle.st_law.specs.declared.input.Options.{Options};
 ghost use Rattle.st_learn.specs.Learnt.{NoneAsks, learnt_policies};
 ghost use Rattle.st_printing.specs.Canon.{canon};
-ghost use Rattle.st_policy.specs.Grammar.{Reads};
-ghost use Rattle.st_policy.specs.OneFilter.{ReadsFilter};
+ghost use Rattle.st_grammar.specs.Grammar.{Reads};
+ghost use Rattle.st_grammar.specs.OneFilter.{ReadsFilter};
 ghost use Rattle.st_reread.specs.Readable.{AreTextBytes, WasRead, HasPlainDollars, HasSmallIds};
-ghost use Rattle.st_policy.specs.declared.env.Env.{Env};
+ghost use Rattle.st_grammar.specs.declared.env.Env.{Env};
 ghost use Rattle.st_relearn.specs.Plain.{AreArguments, AreWritableCopies, HasPlainTexts};
 ghost use Rattle.st_relearn.specs.Relearnt.{HasWritableReplies, IsWritableKept, ReadsAndPermits, policy_text};
 ghost use Rattle.st_relearn.specs.Scripts.{HasPlainScript};
@@ -35,8 +35,8 @@ ghost use Rattle.st_trace.specs.declared.entry.CallResult.{CallResult};
 ghost use Rattle.st_trace.specs.declared.entry.Change.{Change};
 ghost use Rattle.st_trace.specs.declared.entry.Entry.TheVariants.{Used};
 
+use st_grammar::{reading_is_one, what_is_read_is_a_filter};
 use st_learn::law::what_was_made_is_permitted_by_what_was_learnt;
-use st_policy::{reading_is_one, what_is_read_is_a_filter};
 use st_script::reading::what_is_read_can_start;
 
 /// Policies that can be written are read again from their canonical text.

@@ -6,9 +6,9 @@ use Rattle.st_lex.specs.Pieces.{Piece, PlainWord, QuotedText, Sign, Space, is_wo
 use Rattle.st_lex.specs.Quote.{AreBytes, quoted}
 use Rattle.st_lex.specs.Unquote.{unquoted}
 use Rattle.st_lex.proofs.Unquotes.{unquoted-quoted}
-use Rattle.st_policy.specs.declared.env.Env.{Env}
-use Rattle.st_policy.specs.Symbol.{Symbol, Word, Quoted}
-use Rattle.st_policy.specs.Grammar.{if_absolute, binary_of, IsHeader}
+use Rattle.st_grammar.specs.declared.env.Env.{Env}
+use Rattle.st_grammar.specs.Symbol.{Symbol, Word, Quoted}
+use Rattle.st_grammar.specs.Grammar.{if_absolute, binary_of, IsHeader}
 use Rattle.st_printing.specs.Canon.{header_pieces}
 use Rattle.st_reread.proofs.Symbols.{piece_symbols, IsPrintable, ArePrintable}
 

@@ -5,14 +5,14 @@ use Rattle.std.specs.List.{list_any}
 use Rattle.std.proofs.lemmas.Slice.Eq.{bytes_eq-Decides}
 use Rattle.st_lex.specs.declared.token.TokenKind.TheVariants as kind
 use Rattle.st_lex.specs.Pieces.{Piece, PlainWord, Sign, Space}
-use Rattle.st_policy.specs.declared.env.Env.{Env}
+use Rattle.st_grammar.specs.declared.env.Env.{Env}
 use Rattle.st_filter.specs.declared.filter.FilterName.{FilterName}
 use Rattle.st_filter.specs.declared.filter.Op.{Op}
 use Rattle.st_filter.specs.declared.filter.Op.TheVariants as op
 use Rattle.st_filter.specs.Formula.{Formula, True, Test, Not, And, Or, Level, Operand, Conjunction, Disjunction}
-use Rattle.st_policy.specs.Symbol.{Symbol, Word, Open}
-use Rattle.st_policy.specs.Words.{is_label, index_in}
-use Rattle.st_policy.specs.Grammar.{Spells, is_join}
+use Rattle.st_grammar.specs.Symbol.{Symbol, Word, Open}
+use Rattle.st_grammar.specs.Words.{is_label, index_in}
+use Rattle.st_grammar.specs.Grammar.{Spells, is_join}
 use Rattle.st_printing.specs.Canon.{word_of_op, needs_no_parens, in_parens, expression_pieces}
 use Rattle.st_reread.proofs.Numbers.{index_in-decimal}
 use Rattle.st_reread.proofs.Symbols.{piece_symbols, piece_symbols-append}

@@ -10,7 +10,7 @@ use Rattle.st_calls.specs.Call.{rule_named}
 use Rattle.st_lex.specs.Pieces.{is_word_text}
 use Rattle.st_filter.specs.declared.filter.FilterName.{FilterName}
 use Rattle.st_filter.specs.declared.filter.FilterName.TheVariants as name
-use Rattle.st_policy.specs.Words.{is_name_byte, if_name, native_name, name_by, filter_name}
+use Rattle.st_grammar.specs.Words.{is_name_byte, if_name, native_name, name_by, filter_name}
 use Rattle.st_printing.specs.Canon.{call_word}
 
 -- the name is a Word that is read back

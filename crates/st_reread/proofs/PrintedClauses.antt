@@ -5,7 +5,7 @@ use Rattle.st_base.specs.declared.errno.Errno.TheVariants.{EPERM}
 use Rattle.st_lex.specs.Pieces.{Piece, PlainWord, Space, is_word_text, StandApart, StandWell}
 use Rattle.st_lex.proofs.Pieces.{StandWell-append}
 use Rattle.st_lex.proofs.Words.{is_word_text-decimal}
-use Rattle.st_policy.specs.declared.env.Env.{Env}
+use Rattle.st_grammar.specs.declared.env.Env.{Env}
 use Rattle.st_filter.specs.declared.filter.Action.{Action}
 use Rattle.st_filter.specs.declared.filter.Action.TheVariants.{Permit, Deny, Ask}
 use Rattle.st_filter.specs.declared.filter.Cmp.{Cmp}
@@ -16,9 +16,9 @@ use Rattle.st_filter.specs.declared.filter.Predicate.{Predicate}
 use Rattle.st_filter.specs.declared.filter.Who.{Who}
 use Rattle.st_filter.specs.declared.filter.Who.TheVariants as who
 use Rattle.st_filter.specs.Formula.{Formula, True}
-use Rattle.st_policy.specs.Symbol.{Symbol, Word}
-use Rattle.st_policy.specs.Words.{names_for}
-use Rattle.st_policy.specs.Grammar.{is_join, most_joins, IsCondition, Short, Then, IsAction, Permits, Denies, DeniesWith, Asks, IsGrant, OfUser, OfBoth, OfGroup, MayGrant, IsTail, Plain, Logs, Grants, GrantsAndLogs, LogsAndGrants, who_named, IsPredicate, Whoever, If}
+use Rattle.st_grammar.specs.Symbol.{Symbol, Word}
+use Rattle.st_grammar.specs.Words.{names_for}
+use Rattle.st_grammar.specs.Grammar.{is_join, most_joins, IsCondition, Short, Then, IsAction, Permits, Denies, DeniesWith, Asks, IsGrant, OfUser, OfBoth, OfGroup, MayGrant, IsTail, Plain, Logs, Grants, GrantsAndLogs, LogsAndGrants, who_named, IsPredicate, Whoever, If}
 use Rattle.st_printing.specs.Canon.{expression_pieces, condition_pieces, deny_pieces, action_pieces, user_pieces, group_pieces, grant_pieces, log_pieces, word_of_who, cmp_piece, predicate_pieces}
 use Rattle.st_reread.specs.Readable.{AreSmallIds, HasSmallIds}
 use Rattle.st_reread.proofs.PrintedExpressions.{IsReadableFormula, readable_formula, spells_expression, well_expression}

@@ -7,14 +7,14 @@ use Rattle.st_lex.specs.Quote.{AreBytes, quoted}
 use Rattle.st_lex.proofs.Pieces.{StandWell-append}
 use Rattle.st_lex.proofs.Unquotes.{unquoted-quoted}
 use Rattle.st_lex.proofs.Words.{is_word_text-decimal}
-use Rattle.st_policy.specs.declared.env.Env.{Env}
+use Rattle.st_grammar.specs.declared.env.Env.{Env}
 use Rattle.st_filter.specs.declared.filter.FilterName.{FilterName}
 use Rattle.st_filter.specs.declared.filter.Op.{Op}
 use Rattle.st_filter.specs.declared.filter.Op.TheVariants as op
 use Rattle.st_filter.specs.Formula.{Formula, True, Test, Not, And, Or, Level, Operand, Conjunction, Disjunction}
-use Rattle.st_policy.specs.Symbol.{Symbol, Word, Quoted, Open, Close, OpenBracket, CloseBracket}
-use Rattle.st_policy.specs.Words.{is_label, may_test, op_named}
-use Rattle.st_policy.specs.Grammar.{Spells, Always, First, Indexed, Negated, Grouped, OneOperand, Both, OneConjunction, Either, is_join}
+use Rattle.st_grammar.specs.Symbol.{Symbol, Word, Quoted, Open, Close, OpenBracket, CloseBracket}
+use Rattle.st_grammar.specs.Words.{is_label, may_test, op_named}
+use Rattle.st_grammar.specs.Grammar.{Spells, Always, First, Indexed, Negated, Grouped, OneOperand, Both, OneConjunction, Either, is_join}
 use Rattle.st_printing.specs.Canon.{word_of_op, needs_no_parens, in_parens, expression_pieces}
 use Rattle.st_reread.proofs.Numbers.{index_in-decimal, index_in-small}
 use Rattle.st_reread.proofs.Symbols.{piece_symbols, piece_symbols-append, ArePrintable, ArePrintable-parts}

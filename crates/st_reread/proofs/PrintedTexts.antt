@@ -13,9 +13,9 @@ use Rattle.st_lex.proofs.Wholes.{IsWholeToken, words_whole, HasInside, quotes_in
 use Rattle.st_lex.specs.Tokens.{lexed_text}
 use Rattle.st_lex.specs.Pieces.{Piece, print, StandWell, is_word_text, spelled_tokens}
 use Rattle.st_lex.proofs.Pieces.{print_is_read}
-use Rattle.st_policy.specs.declared.env.Env.{Env}
-use Rattle.st_policy.specs.Symbol.{Symbol, symbol_by, symbol_of}
-use Rattle.st_policy.specs.Grammar.{symbols_in}
+use Rattle.st_grammar.specs.declared.env.Env.{Env}
+use Rattle.st_grammar.specs.Symbol.{Symbol, symbol_by, symbol_of}
+use Rattle.st_grammar.specs.Grammar.{symbols_in}
 use Rattle.st_reread.specs.Readable.{AreTextBytes, HasPlainDollars}
 use Rattle.st_reread.proofs.Symbols.{spelled_symbol, piece_symbols, IsPrintable, ArePrintable}
 

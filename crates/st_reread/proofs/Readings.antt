@@ -3,10 +3,10 @@ use Rattle.std.proofs.Common.{◌≤◌, List, [], ◌∷◌, ◌++◌, refl, sy
 use Rattle.st_base.proofs.Each.{each-append}
 use Rattle.st_lex.specs.Pieces.{StandWell}
 use Rattle.st_lex.proofs.Pieces.{print_is_read}
-use Rattle.st_policy.specs.declared.env.Env.{Env}
+use Rattle.st_grammar.specs.declared.env.Env.{Env}
 use Rattle.st_filter.specs.declared.set.BinaryPolicy.{BinaryPolicy}
-use Rattle.st_policy.specs.Symbol.{Symbol, Line}
-use Rattle.st_policy.specs.Grammar.{AreRows, symbols_in, AreNew, Reads}
+use Rattle.st_grammar.specs.Symbol.{Symbol, Line}
+use Rattle.st_grammar.specs.Grammar.{AreRows, symbols_in, AreNew, Reads}
 use Rattle.st_filter.specs.Policies.{filters_in}
 use Rattle.st_printing.specs.Canon.{set_pieces, canon}
 use Rattle.st_reread.specs.Readable.{WasRead, Nothing, Behind, HasPlainDollars, HasSmallIds}

@@ -5,8 +5,8 @@ use Rattle.st_lex.specs.Pieces.{Piece, SpelledToken, piece_tokens, is_word_text}
 use Rattle.st_lex.specs.Quote.{AreBytes}
 use Rattle.st_lex.specs.Unquote.{unquoted}
 use Rattle.st_lex.proofs.Pieces.{piece_tokens-append}
-use Rattle.st_policy.specs.declared.env.Env.{Env}
-use Rattle.st_policy.specs.Symbol.{Symbol, Word, Quoted, symbol_by}
+use Rattle.st_grammar.specs.declared.env.Env.{Env}
+use Rattle.st_grammar.specs.Symbol.{Symbol, Word, Quoted, symbol_by}
 
 abbrev pub spelled_symbol : SpelledToken → Symbol
 spelled_symbol token = symbol_by token.kind token.text

@@ -1,10 +1,10 @@
 -- Policies that were read.
 use Rattle.std.specs.Prelude.{ℕ, ◌<◌, ◌^◌, List, [], All}
 use Rattle.st_lex.specs.Quote.{AreBytes}
-use Rattle.st_policy.specs.declared.env.Env.{Env}
-use Rattle.st_policy.specs.declared.env.NamedId.{NamedId}
+use Rattle.st_grammar.specs.declared.env.Env.{Env}
+use Rattle.st_grammar.specs.declared.env.NamedId.{NamedId}
 use Rattle.st_filter.specs.declared.set.BinaryPolicy.{BinaryPolicy}
-use Rattle.st_policy.specs.Grammar.{Reads}
+use Rattle.st_grammar.specs.Grammar.{Reads}
 
 -- each number of a text is a byte
 abbrev pub AreTextBytes : List ℕ → Type 0

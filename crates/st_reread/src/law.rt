@@ -1,7 +1,7 @@
 ghost use Rattle.std.specs.Prelude.{List, []};
 ghost use Rattle.st_filter.specs.declared.set.BinaryPolicy.{BinaryPolicy};
-ghost use Rattle.st_policy.specs.Grammar.{Reads};
-ghost use Rattle.st_policy.specs.declared.env.Env.{Env};
+ghost use Rattle.st_grammar.specs.Grammar.{Reads};
+ghost use Rattle.st_grammar.specs.declared.env.Env.{Env};
 ghost use Rattle.st_printing.specs.Canon.{canon};
 ghost use Rattle.st_reread.specs.Readable.{WasRead, HasPlainDollars, HasSmallIds};
 

@@ -16,8 +16,8 @@ use Rattle.st_law.specs.declared.input.Options.{Options}
 use Rattle.st_law.specs.declared.input.ReadSchedule.{ReadSchedule}
 use Rattle.st_lex.specs.declared.unquoted.Dollars.{Dollars}
 use Rattle.st_outside.specs.Files.{FileView, FileBytes, CanHold}
-use Rattle.st_policy.specs.Grammar.{Reads}
-use Rattle.st_policy.specs.declared.env.Env.{Env}
+use Rattle.st_grammar.specs.Grammar.{Reads}
+use Rattle.st_grammar.specs.declared.env.Env.{Env}
 use Rattle.st_reading.specs.Meaning.{Held, Meaning, Means, MeansBehindScript, MeansPolicies, MeansSchedule, Runs, SaysPolicy, SaysScript}
 use Rattle.st_reading.specs.declared.refusal.Which.TheVariants as which
 use Rattle.st_reading.proofs.ReadFiles.{fetched, input_or, script_read, text_read}

@@ -26,9 +26,9 @@ use Rattle.st_law.specs.declared.input.ReadSchedule.{ReadSchedule}
 use Rattle.st_law.proofs.Laws.{run_lawful}
 use Rattle.st_learn.specs.Learnt.{learnt_policies}
 use Rattle.st_outside.specs.Files.{FileView, Unknown, Absent, FileBytes, CanHold}
-use Rattle.st_policy.specs.Grammar.{Reads}
+use Rattle.st_grammar.specs.Grammar.{Reads}
 use Rattle.st_reread.specs.Readable.{AreTextBytes, HasPlainDollars, HasSmallIds, WasRead, Nothing, Behind}
-use Rattle.st_policy.specs.declared.env.Env.{Env}
+use Rattle.st_grammar.specs.declared.env.Env.{Env}
 use Rattle.st_reading.specs.Meaning.{Held, Means, Runs}
 use Rattle.st_reading.specs.Runnable.{IsRunnable}
 use Rattle.st_reading.proofs.ReadFiles.{IsStepRead, input_or, step_read}

@@ -4,9 +4,9 @@ use Rattle.st_command.specs.Command.{StepWords}
 use Rattle.st_command.specs.Words.{Word}
 use Rattle.st_filter.specs.declared.set.BinaryPolicy.{BinaryPolicy}
 use Rattle.st_outside.specs.Files.{FileView, Unknown, Absent, FileBytes, CanHold}
-use Rattle.st_policy.specs.Grammar.{Reads}
+use Rattle.st_grammar.specs.Grammar.{Reads}
 use Rattle.st_reread.specs.Readable.{AreTextBytes}
-use Rattle.st_policy.specs.declared.env.Env.{Env}
+use Rattle.st_grammar.specs.declared.env.Env.{Env}
 use Rattle.st_reading.specs.Meaning.{Held}
 use Rattle.st_script.specs.Reading.{script_in}
 use Rattle.st_script.specs.declared.reading.ReadScript.{ReadScript}

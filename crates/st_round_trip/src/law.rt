@@ -18,7 +18,7 @@ ghost use Rattle.st_top.specs.Learning.{PermitsWhatWasMade, policies_behind};
 ghost use Rattle.st_top.specs.Outcome.{printed};
 ghost use Rattle.st_trace.specs.declared.entry.Choice.{Choice};
 
-use st_policy::reading_is_one;
+use st_grammar::reading_is_one;
 use st_reading::law::what_is_meant_to_run_can_run;
 use st_relearn::law::{
     learnt_text_is_read_again, what_a_run_adds_can_be_written, what_a_script_says_can_be_written,

@@ -15,8 +15,8 @@ use Rattle.st_lex.specs.Unquote.{unquoted}
 use Rattle.st_model.specs.declared.limits.TheConstants.{LONGEST_TEXT}
 use Rattle.st_model.specs.declared.object.NewKind.{NewKind}
 use Rattle.st_model.specs.declared.object.NewKind.TheVariants as kind
-use Rattle.st_policy.specs.OneFilter.{FilterResult, filter_in}
-use Rattle.st_policy.specs.declared.env.Env.{Env}
+use Rattle.st_grammar.specs.OneFilter.{FilterResult, filter_in}
+use Rattle.st_grammar.specs.declared.env.Env.{Env}
 use Rattle.st_script_faults.specs.Faults.{Whole, expects_other, is_unknown, is_duplicate, is_too_many, is_large, fault_of, fault_by, first_fault, line_fault, unless_ask, answer_of, reply_in, reply_said, threads_behind, with_thread}
 use Rattle.st_script.specs.Bounds.{IsWithinBounds}
 use Rattle.st_script_faults.specs.Names.{Name, Names, no_names, has_name, with_name, number_of, with_says}

@@ -9,8 +9,8 @@ use Rattle.st_filter.specs.declared.filter.Action.TheVariants as action
 use Rattle.st_filter.specs.declared.set.Reply.{Reply}
 use Rattle.st_law.specs.declared.input.Options.{Options}
 use Rattle.st_lex.specs.Unquote.{unquoted}
-use Rattle.st_policy.specs.OneFilter.{FilterResult, ReadsFilter, filter_in}
-use Rattle.st_policy.specs.declared.env.Env.{Env}
+use Rattle.st_grammar.specs.OneFilter.{FilterResult, ReadsFilter, filter_in}
+use Rattle.st_grammar.specs.declared.env.Env.{Env}
 use Rattle.st_reached.specs.Grants.{IsUngrantedForSetting, RepliesUngranted}
 use Rattle.st_script_faults.specs.Faults.{answer_of, reply_in, reply_said, unless_ask}
 use Rattle.st_script_faults.specs.Names.{Name}

@@ -3,7 +3,7 @@ use Rattle.std.proofs.Common.{◌≡◌, ◌∙◌, ◌++◌, List, [], ◌∷�
 use Rattle.std.proofs.lemmas.List.{append_assoc, append-nil}
 use Rattle.std.specs.List.{cons_option, filter_map}
 use Rattle.st_filter.specs.declared.set.Reply.{Reply}
-use Rattle.st_policy.specs.declared.env.Env.{Env}
+use Rattle.st_grammar.specs.declared.env.Env.{Env}
 use Rattle.st_script_faults.specs.Faults.{replies_behind, reply_said, with_reply}
 use Rattle.st_statements.specs.declared.statement.ScriptLine.{ScriptLine}
 

@@ -15,10 +15,10 @@ use Rattle.st_filter.specs.declared.filter.Grant.{Grant}
 use Rattle.st_filter.specs.declared.set.BinaryPolicy.{BinaryPolicy}
 use Rattle.st_law.specs.Schedules.{sets_ids as call_sets_ids}
 use Rattle.st_base.proofs.Each.{each-append, each-parts}
-use Rattle.st_policy.specs.Grammar.{AreRows, NoRow, Blank, Header, FilterRow, IsFilter, IsTail, Plain, Logs, Grants, GrantsAndLogs, LogsAndGrants, MayGrant, Reads}
-use Rattle.st_policy.specs.Symbol.{Symbol}
-use Rattle.st_policy.specs.Words.{is_set_id, sets_ids}
-use Rattle.st_policy.specs.declared.env.Env.{Env}
+use Rattle.st_grammar.specs.Grammar.{AreRows, NoRow, Blank, Header, FilterRow, IsFilter, IsTail, Plain, Logs, Grants, GrantsAndLogs, LogsAndGrants, MayGrant, Reads}
+use Rattle.st_grammar.specs.Symbol.{Symbol}
+use Rattle.st_grammar.specs.Words.{is_set_id, sets_ids}
+use Rattle.st_grammar.specs.declared.env.Env.{Env}
 use Rattle.st_reached.specs.Grants.{IsUngrantedForSetting, SetIdsUngranted, is_for_setting}
 
 -- ---- filters

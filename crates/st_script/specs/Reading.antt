@@ -7,7 +7,7 @@ use Rattle.st_lex.specs.Tokens.{lexed_text}
 use Rattle.st_lex.specs.declared.token.LexFault.{LexFault}
 use Rattle.st_model.specs.Memory.{word_of}
 use Rattle.st_names.specs.Name.{Components, components_of, split_at_slashes}
-use Rattle.st_policy.specs.declared.env.Env.{Env}
+use Rattle.st_grammar.specs.declared.env.Env.{Env}
 use Rattle.st_script_faults.specs.Environment.{environment_of, process_of}
 use Rattle.st_script_faults.specs.Faults.{ends_body, reply_said, script_fault, threads_behind}
 use Rattle.st_statements.specs.Lines.{saturated}

@@ -3,13 +3,13 @@
 ghost use Rattle.std.specs.Prelude.{◌≡◌, ℕ, List, Ok};
 ghost use Rattle.st_filter.specs.declared.set.BinaryPolicy.{BinaryPolicy};
 ghost use Rattle.st_law.specs.declared.input.Options.{Options};
-ghost use Rattle.st_policy.specs.Grammar.{Reads};
-ghost use Rattle.st_policy.specs.declared.env.Env.{Env};
+ghost use Rattle.st_grammar.specs.Grammar.{Reads};
+ghost use Rattle.st_grammar.specs.declared.env.Env.{Env};
 ghost use Rattle.st_reached.specs.Grants.{RepliesUngranted, SetIdsUngranted};
 ghost use Rattle.st_script.specs.Reading.{script_in};
 ghost use Rattle.st_script.specs.declared.reading.ReadScript.{ReadScript};
 
-use st_policy::what_is_read_is_a_filter;
+use st_grammar::what_is_read_is_a_filter;
 
 /// Policies that are read grant no ids to a call that sets ids, if those that were read before don't.
 pub fn what_is_read_grants_no_ids_for_setting()

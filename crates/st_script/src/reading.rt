@@ -12,10 +12,10 @@ ghost use Rattle.st_script.specs.Reading.{user_said, group_said, object_name, ob
 use crate::bodies::threads_in;
 use st_base::{Sequence, Text};
 use st_filter::Reply;
+use st_grammar::Env;
 use st_law::Options;
 use st_lex::{LexFault, tokens};
 use st_names::AbsName;
-use st_policy::Env;
 use st_script_faults::ScriptFault;
 use st_script_faults::environment::process_of;
 use st_script_faults::faults::{Whole, first_fault, whole_of};

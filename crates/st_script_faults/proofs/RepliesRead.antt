@@ -3,7 +3,7 @@ use Rattle.std.proofs.Common.{◌≡◌, Bool, true, false, not, if◌then◌els
 use Rattle.st_filter.specs.Formula.{FilterValue}
 use Rattle.st_filter.specs.declared.set.Reply.{Reply}
 use Rattle.st_lex.specs.Unquote.{unquoted}
-use Rattle.st_policy.specs.OneFilter.{filter_in}
+use Rattle.st_grammar.specs.OneFilter.{filter_in}
 use Rattle.st_script_faults.specs.Faults.{Whole, HasBinaryOf, answer_of, reply_said, expects_other}
 use Rattle.st_script_faults.specs.Names.{Name}
 use Rattle.st_statements.specs.Parts.{is_normal}

@@ -4,8 +4,8 @@ use Rattle.st_law.specs.declared.input.Mode.{Mode}
 use Rattle.st_law.specs.declared.input.Mode.TheVariants.{Enforce, Learn, AskText}
 use Rattle.st_law.specs.declared.input.Options.{Options}
 use Rattle.st_lex.specs.declared.unquoted.Dollars.{Dollars}
-use Rattle.st_policy.specs.declared.env.Env.{Env}
-use Rattle.st_policy.specs.declared.env.NamedId.{NamedId}
+use Rattle.st_grammar.specs.declared.env.Env.{Env}
+use Rattle.st_grammar.specs.declared.env.NamedId.{NamedId}
 use Rattle.st_script_faults.specs.Names.{Name, has_name, with_name}
 use Rattle.st_statements.specs.Parts.{is_long}
 use Rattle.st_script_faults.specs.declared.limits.TheConstants.{MOST_PROCESSES}

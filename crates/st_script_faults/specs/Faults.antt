@@ -13,8 +13,8 @@ use Rattle.st_lex.specs.Unquote.{unquoted}
 use Rattle.st_model.specs.declared.limits.TheConstants.{LONGEST_FILE, LONGEST_TEXT}
 use Rattle.st_model.specs.declared.object.NewKind.{NewKind}
 use Rattle.st_model.specs.declared.object.NewKind.TheVariants as kind
-use Rattle.st_policy.specs.OneFilter.{FilterResult, filter_in}
-use Rattle.st_policy.specs.declared.env.Env.{Env}
+use Rattle.st_grammar.specs.OneFilter.{FilterResult, filter_in}
+use Rattle.st_grammar.specs.declared.env.Env.{Env}
 use Rattle.st_script_faults.specs.Environment.{environment_of}
 use Rattle.st_script_faults.specs.Names.{Name, Names, no_names, has_name, with_name, with_says, store_count, directory_of, is_directory}
 use Rattle.st_statements.specs.Parts.{is_normal, is_long}

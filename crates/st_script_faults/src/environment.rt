@@ -4,9 +4,9 @@ ghost use Rattle.st_script_faults.specs.Environment.{new_user, users_below, new_
 use crate::limits::MOST_PROCESSES;
 use crate::names::NameIndex;
 use st_base::{Sequence, Text};
+use st_grammar::{Env, NamedId};
 use st_law::{Mode, Options};
 use st_lex::Dollars;
-use st_policy::{Env, NamedId};
 use st_statements::parts::is_long;
 use st_statements::{ScriptLine, ScriptProcess, Statement};
 use st_trace::{GroupRow, UserRow};

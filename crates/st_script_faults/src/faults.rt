@@ -6,7 +6,7 @@ ghost use Rattle.st_script_faults.specs.Faults as spec;
 ghost use Rattle.st_script_faults.specs.Names.{no_names, with_says};
 ghost use Rattle.st_script_faults.specs.declared.fault.ScriptFault.{ScriptFault};
 ghost use Rattle.st_statements.specs.declared.statement.ScriptLine.{ScriptLine};
-ghost use Rattle.st_policy.specs.OneFilter.{filter_in};
+ghost use Rattle.st_grammar.specs.OneFilter.{filter_in};
 ghost use Rattle.st_script_faults.specs.declared.limits.TheConstants.{MOST_INSTRUCTIONS};
 
 use crate::environment::environment_of;
@@ -15,10 +15,11 @@ use crate::limits::{MOST_INSTRUCTIONS, MOST_PROCESSES, MOST_THREADS, MOST_TREE_R
 use crate::names::{NameIndex, NamesAbove, directory_of, store_count};
 use st_base::{Sequence, Text};
 use st_filter::{Action, Filter, Reply};
+use st_grammar::{Env, PolicyFault};
 use st_law::Options;
 use st_lex::unquote;
 use st_model::{LONGEST_FILE, LONGEST_TEXT};
-use st_policy::{Env, PolicyFault, read_filter};
+use st_policy::read_filter;
 use st_statements::parts::{is_long, is_normal};
 use st_statements::{FilterText, ScriptLine, Statement};
 use st_trace::NewKind;

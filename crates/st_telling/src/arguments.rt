@@ -1,7 +1,7 @@
 use crate::refusal::Refusal;
 use st_base::Text;
 use st_calls::{ArgSpec, Rule, args_of};
-use st_policy::Place;
+use st_grammar::Place;
 use std::alloc::AllocError;
 
 // The rule of the filter whose row a fault stands in; none where its call isn't in the model.

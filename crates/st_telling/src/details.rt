@@ -4,8 +4,9 @@ use crate::position::position_in;
 use crate::refusal::Refusal;
 use crate::shown::append_shown;
 use st_base::Text;
+use st_filter::Who;
+use st_grammar::{NamedId, Place};
 use st_lex::{Token, TokenKind, unquote};
-use st_policy::{NamedId, Place, Who};
 use std::alloc::{AllocError, Global};
 
 // The most names that a message tells.

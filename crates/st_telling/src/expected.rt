@@ -1,5 +1,6 @@
 use crate::shown::token_for;
-use st_policy::{Place, PolicyFault, Unsupported, Who};
+use st_filter::Who;
+use st_grammar::{Place, PolicyFault, Unsupported};
 
 const FILTER_OR_HEADER: &str =
     "a filter 'native-CALL: ...' or a header 'Policy: BINARY, Emulation: native'";

@@ -9,8 +9,8 @@ use crate::position::position_in;
 use crate::refusal::{Found, Refusal};
 use crate::shown::found_at;
 use st_base::Text;
+use st_grammar::{Env, Place, PolicyFault, PolicyRefusal};
 use st_lex::tokens;
-use st_policy::{Env, Place, PolicyFault, PolicyRefusal};
 use std::alloc::{AllocError, Global};
 
 // Appends what was expected behind an operand.

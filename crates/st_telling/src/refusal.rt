@@ -1,8 +1,8 @@
 use crate::position::rest_of_line;
 use crate::shown::{append_shown, broken, place_of};
 use st_base::Text;
+use st_grammar::{Env, Place, PolicyFault};
 use st_lex::{LexFault, Token, TokenKind};
-use st_policy::{Env, Place, PolicyFault};
 use std::alloc::AllocError;
 
 /// A policy file that is refused: its text and tokens, what it was read with, its fault, and where in the grammar the fault stands.

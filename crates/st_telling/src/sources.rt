@@ -5,9 +5,9 @@ ghost use Rattle.st_outside.specs.declared.files.TheConstants.{FILE_LIMIT};
 
 use st_base::Text;
 use st_command::Command;
+use st_grammar::Env;
 use st_law::Options;
 use st_outside::{FetchFault, Files};
-use st_policy::Env;
 use st_reading::bare_env;
 use st_script::read_script;
 use std::alloc::{AllocError, Global};

@@ -9,7 +9,7 @@ use Rattle.st_law.specs.declared.input.ReadSchedule.{ReadSchedule}
 use Rattle.st_law.specs.Lawful.{Lawful}
 use Rattle.st_law.specs.Machine.{run}
 use Rattle.st_law.specs.Schedules.{BadLine, Choices, played}
-use Rattle.st_policy.specs.declared.fault.PolicyRefusal.{PolicyRefusal}
+use Rattle.st_grammar.specs.declared.fault.PolicyRefusal.{PolicyRefusal}
 use Rattle.st_script_faults.specs.declared.fault.ScriptFault.{ScriptFault}
 use Rattle.st_command.specs.Reading.{command_in}
 use Rattle.st_command.specs.Words.{Word}

@@ -10,7 +10,7 @@ ghost use Rattle.st_law.specs.Schedules.{Choices, BadLine, played};
 ghost use Rattle.st_command.specs.Command.{StepWords, CheckWords};
 ghost use Rattle.st_command.specs.Reading.{command_in, IsWithinLimits};
 ghost use Rattle.st_command.specs.declared.command.Command.TheVariants.{Step, Check};
-ghost use Rattle.st_policy.specs.declared.fault.PolicyRefusal.{PolicyRefusal};
+ghost use Rattle.st_grammar.specs.declared.fault.PolicyRefusal.{PolicyRefusal};
 ghost use Rattle.st_script_faults.specs.declared.fault.ScriptFault.{ScriptFault};
 ghost use Rattle.st_reading.specs.Meaning.{Means, Stops, Refuses, Runs, Prints, AreTold};
 ghost use Rattle.st_reading.specs.declared.refusal.Refusal.TheVariants as refusal;

@@ -1,8 +1,8 @@
 ghost use Rattle.std.specs.Prelude.{◌≡◌};
 ghost use Rattle.st_top.specs.Number.{number_of_status};
 
+use st_grammar::PolicyRefusal;
 use st_kernel::PlayFault;
-use st_policy::PolicyRefusal;
 use st_reading::{Refusal, Which};
 use st_script_faults::ScriptFault;
 use std::alloc::AllocError;

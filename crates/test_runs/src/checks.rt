@@ -1,5 +1,5 @@
 use crate::rows::{Case, run_all};
-use st_policy::{Place, PolicyFault, PolicyRefusal, Unsupported};
+use st_grammar::{Place, PolicyFault, PolicyRefusal, Unsupported};
 use st_top::Status;
 use std::test::Fail;
 

@@ -1,7 +1,7 @@
 use crate::rows::{
     CAT_POLICY, CAT_SCRIPT, CAT_WRITTEN, Case, POLICY, REST, SCRIPT, WRITTEN, run_all,
 };
-use st_policy::{Place, PolicyFault, PolicyRefusal};
+use st_grammar::{Place, PolicyFault, PolicyRefusal};
 use st_script_faults::ScriptFault;
 use st_top::Status;
 use std::test::Fail;

@@ -3,9 +3,9 @@ use crate::rows::{
     words_of,
 };
 use st_base::Text;
+use st_grammar::{Place, PolicyFault, PolicyRefusal};
 use st_lex::LexFault;
 use st_outside::MemorySink;
-use st_policy::{Place, PolicyFault, PolicyRefusal};
 use st_script_faults::ScriptFault;
 use st_top::{Status, Which, systrace_plain};
 use std::test::Fail;

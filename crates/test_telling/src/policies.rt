@@ -1,5 +1,7 @@
 use st_base::Text;
-use st_policy::{Env, NamedId, PolicySet, read_policies};
+use st_filter::PolicySet;
+use st_grammar::{Env, NamedId};
+use st_policy::read_policies;
 use st_reading::bare_env;
 use st_telling::policy_message;
 use std::alloc::{AllocError, Global};

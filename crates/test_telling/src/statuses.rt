@@ -1,6 +1,6 @@
 use st_base::Text;
+use st_grammar::{Place, PolicyFault, PolicyRefusal};
 use st_outside::{MemoryFiles, MemorySink};
-use st_policy::{Place, PolicyFault, PolicyRefusal};
 use st_script_faults::ScriptFault;
 use st_telling::line_of;
 use st_top::{Status, Which, systrace_plain};

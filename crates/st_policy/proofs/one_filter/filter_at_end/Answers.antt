@@ -1,5 +1,5 @@
 use Rattle.std.proofs.Common.{◌∙◌, [], Ok, ap, sym}
-use Rattle.st_policy.proofs.OneFilters.{ended_by_end}
+use Rattle.st_grammar.proofs.OneFilters.{ended_by_end}
 use Rattle.st_policy.proofs.one_filter.filter_at_end.Goals as goal
 
 pub returns-in-None-clause-ok : goal.returns-in-None-clause-ok

@@ -1,7 +1,7 @@
 use Rattle.std.proofs.Common.{◌∷◌}
-use Rattle.st_policy.specs.OneFilter.{filter_of_tokens}
-use Rattle.st_policy.specs.Symbol.{seen}
-use Rattle.st_policy.proofs.OneFilters.{first_stands, token_stands}
+use Rattle.st_grammar.specs.OneFilter.{filter_of_tokens}
+use Rattle.st_grammar.specs.Symbol.{seen}
+use Rattle.st_grammar.proofs.OneFilters.{first_stands, token_stands}
 use Rattle.st_policy.proofs.one_filter.filter_of_tokens.Goals as goal
 
 pub loop-token-init : goal.loop-token-init

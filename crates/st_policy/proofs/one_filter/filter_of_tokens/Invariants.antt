@@ -1,6 +1,6 @@
 use Rattle.std.proofs.Common.{◌≡◌, ◌∷◌, length}
-use Rattle.st_policy.specs.OneFilter.{filter_from, filter_of_tokens}
-use Rattle.st_policy.proofs.OneFilters.{InFilter}
+use Rattle.st_grammar.specs.OneFilter.{filter_from, filter_of_tokens}
+use Rattle.st_grammar.proofs.OneFilters.{InFilter}
 use Rattle.st_policy.proofs.one_filter.filter_of_tokens.Given as goal
 
 -- what is left, read behind what was read, gives the answer; and what was read begins a filter

@@ -1,4 +1,4 @@
-use Rattle.st_policy.proofs.Results.{policies_read}
+use Rattle.st_grammar.proofs.Results.{policies_read}
 use Rattle.st_policy.proofs.reader.read_policies.Goals as goal
 
 pub returns-clause-ok : goal.returns-clause-ok

@@ -1,11 +1,11 @@
 use Rattle.std.proofs.Common.{◌∙◌, sym, get_or}
 use Rattle.st_lex.specs.declared.token.Token.{Token}
 use Rattle.st_lex.specs.declared.token.TokenKind.TheVariants.{Word}
-use Rattle.st_policy.specs.Symbol.{seen}
-use Rattle.st_policy.specs.Draft.{as_reading}
-use Rattle.st_policy.proofs.Lines.{blank_line}
-use Rattle.st_policy.proofs.Rooms.{sound_step}
-use Rattle.st_policy.proofs.Texts.{read_at, place_at}
+use Rattle.st_grammar.specs.Symbol.{seen}
+use Rattle.st_grammar.specs.Draft.{as_reading}
+use Rattle.st_grammar.proofs.Lines.{blank_line}
+use Rattle.st_grammar.proofs.Rooms.{sound_step}
+use Rattle.st_grammar.proofs.Texts.{read_at, place_at}
 use Rattle.st_policy.proofs.reader.read_tokens.Goals as goal
 
 pub loop-token-preserved : goal.loop-token-preserved

@@ -1,7 +1,7 @@
 use Rattle.std.proofs.Common.{◌≡◌, drop}
-use Rattle.st_policy.specs.Draft.{as_reading, read_from, first_reading}
-use Rattle.st_policy.specs.Refusals.{place_from}
-use Rattle.st_policy.specs.Between.{IsSound}
+use Rattle.st_grammar.specs.Draft.{as_reading, read_from, first_reading}
+use Rattle.st_grammar.specs.Refusals.{place_from}
+use Rattle.st_grammar.specs.Between.{IsSound}
 use Rattle.st_policy.proofs.reader.read_tokens.Given as goal
 
 -- the rest of the tokens, read behind what was read

@@ -1,6 +1,6 @@
 use Rattle.std.proofs.Common.{◌≡◌, length}
 use Rattle.st_filter.specs.Formula.{formula}
-use Rattle.st_policy.specs.Draft.{settle}
+use Rattle.st_grammar.specs.Draft.{settle}
 use Rattle.st_policy.proofs.stack.Stack.bind.Given as goal
 
 abbrev pub invariant-loop-pending : goal.invariant-loop-pending

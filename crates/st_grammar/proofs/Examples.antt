@@ -1,0 +1,80 @@
+-- Texts that the definitions read as they should.
+use Rattle.std.proofs.Common.{◌≡◌, ℕ, List, [], ◌∷◌, ◌++◌, None, Some, Option, Result, Ok, Err, true, false, refl, codes}
+use Rattle.st_lex.specs.declared.token.LexFault.TheVariants.{OpenQuote}
+use Rattle.st_grammar.specs.declared.env.Env.{Env}
+use Rattle.st_grammar.specs.declared.fault.PolicyFault.TheVariants.{Lex, DuplicatePolicy, NotSupported, ElevateWithoutIds, ElevateOnSetId}
+use Rattle.st_grammar.specs.declared.fault.Unsupported.TheVariants.{Re}
+use Rattle.st_base.specs.declared.errno.Errno.TheVariants.{ENOENT}
+use Rattle.st_calls.specs.declared.call.SysCall.TheVariants.{Bind}
+use Rattle.st_calls.specs.declared.rule.Rule.TheVariants.{Call, FsRead}
+use Rattle.st_filter.specs.declared.filter.Action.TheVariants.{Permit, Deny}
+use Rattle.st_filter.specs.declared.filter.Cmp.TheVariants as cmp
+use Rattle.st_filter.specs.declared.filter.FilterName.TheVariants as name
+use Rattle.st_filter.specs.declared.filter.Op.TheVariants.{Eq}
+use Rattle.st_filter.specs.declared.filter.Who.TheVariants.{User}
+use Rattle.st_filter.specs.Formula.{FilterValue, True, Test, Not, And, Or}
+use Rattle.st_grammar.specs.Diagram.{fault_in}
+use Rattle.st_grammar.specs.Draft.{Reading, reading_of}
+use Rattle.st_filter.specs.declared.set.BinaryPolicy.{BinaryPolicy}
+use Rattle.st_grammar.specs.declared.fault.PolicyFault.{PolicyFault}
+
+abbrev with_elevate : Env
+with_elevate = record {
+  dollars = record { home = codes "/root"; user = codes "root"; cwd = codes "/" };
+  users = record { name = codes "root"; id = 0 } ∷ [];
+  groups = record { name = codes "wheel"; id = 0 } ∷ [];
+  elevate = true;
+  learn = false;
+}
+
+abbrev without_elevate : Env
+without_elevate = record with_elevate { elevate = false }
+
+abbrev after_header : List ℕ → List ℕ
+after_header row = codes "Policy: /bin/a, Emulation: native" ++ 10 ∷ row
+
+open_quote : fault_in (after_header (codes "native-fsread: filename eq \"/etc")) with_elevate [] ≡ Some (Lex (OpenQuote 61))
+open_quote = refl
+
+regular_expression : fault_in (after_header (codes "native-fsread: filename re \"x\" then permit")) with_elevate [] ≡ Some (NotSupported 58 Re)
+regular_expression = refl
+
+no_ids : fault_in (after_header (codes "native-bind: permit as root")) without_elevate [] ≡ Some (ElevateWithoutIds 54)
+no_ids = refl
+
+sets_ids : fault_in (after_header (codes "native-setuid: permit as root")) with_elevate [] ≡ Some (ElevateOnSetId 56)
+sets_ids = refl
+
+good : fault_in (after_header (codes "native-fsread: filename eq \"/etc\" or not true and true then deny[enoent] log, if user != root")) with_elevate [] ≡ None
+good = refl
+
+abbrev set_in : Result Reading PolicyFault → Option (List BinaryPolicy)
+set_in (Ok r) = Some r.set
+set_in (Err fault) = None
+
+abbrev denial : FilterValue
+denial = record {
+  name = name.Rule FsRead;
+  formula = Or (Test (codes "filename") 0 Eq (codes "/etc")) (And (Not True) True);
+  action = Deny ENOENT;
+  grant = None;
+  log = true;
+  predicate = Some (record { who = User; cmp = cmp.Other; id = 0 });
+}
+
+abbrev permission : FilterValue
+permission = record {
+  name = name.Rule (Call Bind);
+  formula = True;
+  action = Permit;
+  grant = Some (record { user = Some 0; group = Some 0 });
+  log = true;
+  predicate = None;
+}
+
+good_set : set_in (reading_of (after_header (codes "native-fsread: filename eq \"/etc\" or not true and true then deny[enoent] log, if user != root" ++ 10 ∷ codes "native-bind: permit log as 0:wheel")) with_elevate [])
+    ≡ Some (record { binary = codes "/bin/a"; filters = denial ∷ permission ∷ [] } ∷ [])
+good_set = refl
+
+binary_twice : fault_in (codes "Policy: /a, Emulation: native") with_elevate (record { binary = codes "/a"; filters = [] } ∷ []) ≡ Some (DuplicatePolicy 8)
+binary_twice = refl

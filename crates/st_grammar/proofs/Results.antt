@@ -1,0 +1,39 @@
+-- What the grammar says of a text that was read, and of its first fault.
+use Rattle.std.proofs.Common.{◌≡◌, ℕ, ◌≤◌, List, Some, option_map, Result, Ok, Err, refl, ap, subst, ◌∙◌}
+use Rattle.st_grammar.specs.declared.env.Env.{Env}
+use Rattle.st_grammar.specs.declared.fault.PolicyFault.{PolicyFault}
+use Rattle.st_filter.specs.declared.set.BinaryPolicy.{BinaryPolicy}
+use Rattle.st_grammar.specs.Diagram.{fault_in}
+use Rattle.st_grammar.specs.Draft.{Reading, reading_of, set_of, policies_in}
+use Rattle.st_grammar.specs.Grammar.{Reads}
+use Rattle.st_grammar.specs.Refusals.{place_in, refusal_in}
+use Rattle.st_grammar.specs.declared.fault.PolicyRefusal.{PolicyRefusal}
+use Rattle.st_grammar.specs.declared.place.Place.{Place}
+use Rattle.st_filter.specs.Policies.{filters_in}
+use Rattle.st_grammar.proofs.Faults.{error_in, faults-agree}
+use Rattle.st_grammar.proofs.Sound.{reading-is_sound}
+use Rattle.st_filter.specs.declared.set.TheConstants.{MOST_FILTERS}
+
+abbrev set_in : List BinaryPolicy → Result (List BinaryPolicy) PolicyFault → List BinaryPolicy
+set_in d (Ok set) = set
+set_in d (Err fault) = d
+
+module _ (text : List ℕ) (env : Env) (old : List BinaryPolicy) where
+  reads-by : (set : List BinaryPolicy) (r : Result Reading PolicyFault) → filters_in old ≤ MOST_FILTERS → reading_of text env old ≡ r → set_of r ≡ Ok set → Reads text env old set
+  reads-by set (Ok r) few is e = subst (λ (s : List BinaryPolicy). Reads text env old s) (ap (set_in old) e) (reading-is_sound text env old r few is)
+  reads-by set (Err fault) few is e = absurd (cc)
+
+  pub policies_read : (set : List BinaryPolicy) → filters_in old ≤ MOST_FILTERS → policies_in text env old ≡ Ok set → Reads text env old set
+  policies_read set few e = reads-by set (reading_of text env old) few refl e
+
+  fault-by : (fault : PolicyFault) (r : Result Reading PolicyFault) → set_of r ≡ Err fault → error_in r ≡ Some fault
+  fault-by fault (Ok r) e = absurd (cc)
+  fault-by fault (Err found) e = cc
+
+  fault_found : (fault : PolicyFault) → policies_in text env old ≡ Err fault → fault_in text env old ≡ Some fault
+  fault_found fault e = faults-agree text env old ∙ fault-by fault (reading_of text env old) e
+
+  pub refusal_found : (refused : PolicyRefusal) → policies_in text env old ≡ Err refused.fault → place_in text env old ≡ refused.place → refusal_in text env old ≡ Some refused
+  refusal_found refused e place =
+      ap (option_map (λ (fault : PolicyFault). record { fault = fault; place = place_in text env old })) (fault_found refused.fault e)
+      ∙ ap (λ (p : Place). Some (record { fault = refused.fault; place = p })) place

@@ -1,0 +1,344 @@
+-- What may stand at each place of the grammar, what each place leads to, and the fault of everything else.
+use Rattle.std.specs.Prelude.{◌≡◌, ◌≢◌, ℕ, ◌+◌, ◌-◌, Bool, true, false, ◌&&◌, ◌||◌, ◌==◌, if◌then◌else◌, nat_lt, List, [], ◌∷◌, ◌++◌, length, map, codes, Option, Some, None, option_map, option_to_list, Result, Ok, Err}
+use Rattle.std.specs.List.{list_any}
+use Rattle.std.specs.Str.{bytes_eq}
+use Rattle.st_base.specs.declared.errno.Errno.{Errno}
+use Rattle.st_base.specs.Errno.{error_named}
+use Rattle.st_lex.specs.declared.token.LexFault.{LexFault}
+use Rattle.st_lex.specs.declared.token.Token.{Token}
+use Rattle.st_lex.specs.Tokens.{lexed_text}
+use Rattle.st_grammar.specs.declared.env.Env.{Env}
+use Rattle.st_grammar.specs.declared.env.NamedId.{NamedId}
+use Rattle.st_grammar.specs.declared.fault.PolicyFault.{PolicyFault}
+use Rattle.st_grammar.specs.declared.fault.PolicyFault.TheVariants.{Lex, Expected, UnknownCall, UnknownArgument, UnknownError, UnknownUser, DuplicatePolicy, ElevateWithoutIds, ElevateOnSetId, NotSupported, AskWithLearn, TooMany, NoMemory}
+use Rattle.st_grammar.specs.declared.fault.Unsupported.TheVariants as unsupported
+use Rattle.st_filter.specs.declared.filter.Cmp.{Cmp}
+use Rattle.st_filter.specs.declared.filter.FilterName.{FilterName}
+use Rattle.st_filter.specs.declared.filter.FilterName.TheVariants as name
+use Rattle.st_filter.specs.declared.filter.Op.{Op}
+use Rattle.st_filter.specs.declared.filter.Who.{Who}
+use Rattle.st_grammar.specs.declared.place.Place.{Place}
+use Rattle.st_grammar.specs.declared.place.Place.TheVariants as place
+use Rattle.st_filter.specs.declared.set.BinaryPolicy.{BinaryPolicy}
+use Rattle.st_grammar.specs.Grammar.{most_joins, binary_of, who_named, comparison}
+use Rattle.st_filter.specs.Policies.{filters_in}
+use Rattle.st_grammar.specs.Symbol.{Symbol, Word, Quoted, Colon, Comma, Open, Close, OpenBracket, CloseBracket, Line, Broken, symbol_of}
+use Rattle.st_grammar.specs.Words.{is_label, filter_name, may_test, may_test_label, sets_ids, op_named, index_in, id_in, names_for}
+use Rattle.st_filter.specs.declared.set.TheConstants.{MOST_FILTERS}
+
+-- how far the grammar has come
+pub record GrammarState : Type 0 where
+  pub place : Place
+  -- how many filters there are, this one and those of earlier files too
+  pub filters : ℕ
+  -- the name of the filter that is read
+  pub name : FilterName
+  -- the label that is read, and where it stands
+  pub label : List ℕ
+  pub label_at : ℕ
+  -- how many parentheses are open, and how many joins the filter's expression has
+  pub parens : ℕ
+  pub joins : ℕ
+
+-- what a symbol comes to: how far the grammar has come behind it, or a fault
+abbrev pub StepResult : Type 0
+StepResult = Result GrammarState PolicyFault
+
+-- a step of the reader that answers so and leaves this state behind comes to this, unless memory was wanting
+abbrev pub IsStepped : Result (Unit {0}) PolicyFault → GrammarState → StepResult → Type 0
+IsStepped (Ok nothing) w step = step ≡ Ok w
+IsStepped (Err fault) w step = fault ≢ NoMemory → step ≡ Err fault
+
+-- the symbol may stand here, and this place is next
+abbrev pub step_to : GrammarState → Place → StepResult
+step_to w then_at = Ok (record w { place = then_at })
+
+-- something else has to stand here
+abbrev pub expected : ℕ → StepResult
+expected at = Err (Expected at)
+
+-- one thing alone may stand here
+abbrev pub only : GrammarState → ℕ → Bool → Place → StepResult
+only w at fits then_at = if fits then step_to w then_at else expected at
+
+-- whether a symbol is this Word
+abbrev pub is_keyword : List ℕ → Symbol → Bool
+is_keyword keyword (Word w) = bytes_eq w keyword
+is_keyword keyword _ = false
+
+-- whether a symbol is a colon
+abbrev pub is_colon : Symbol → Bool
+is_colon Colon = true
+is_colon _ = false
+
+-- whether a symbol is a comma
+abbrev pub is_comma : Symbol → Bool
+is_comma Comma = true
+is_comma _ = false
+
+-- whether a symbol is a closing bracket
+abbrev pub is_close_bracket : Symbol → Bool
+is_close_bracket CloseBracket = true
+is_close_bracket _ = false
+
+-- whether a symbol is a quoted text
+abbrev pub is_quoted : Symbol → Bool
+is_quoted (Quoted source) = true
+is_quoted _ = false
+
+-- whether a symbol is a line's end
+abbrev pub is_line : Symbol → Bool
+is_line Line = true
+is_line _ = false
+
+-- ---- rows and headers
+
+-- before the first header: a blank line, or `Policy`
+abbrev pub step_start : GrammarState → ℕ → Symbol → StepResult
+step_start w at Line = step_to w place.Start
+step_start w at (Word word) = only w at (bytes_eq word (codes "Policy")) place.PolicyColon
+step_start w at _ = expected at
+
+-- at a filter's name, by what it is for, if it is a name; there may not be too many filters
+abbrev pub step_name : GrammarState → ℕ → Option FilterName → StepResult
+step_name w at None = Err (UnknownCall at)
+step_name w at (Some filter) =
+    if nat_lt w.filters MOST_FILTERS then
+    Ok (record w { place = place.NameColon; filters = w.filters + 1; name = filter; parens = 0; joins = 0 })
+    else Err (TooMany at)
+
+-- at the front of a row behind a header: a blank line, `Policy`, or a filter's name
+abbrev pub step_row : GrammarState → ℕ → Symbol → StepResult
+step_row w at Line = step_to w place.Row
+step_row w at (Word word) =
+    if bytes_eq word (codes "Policy") then step_to w place.PolicyColon else step_name w at (filter_name word)
+step_row w at _ = expected at
+
+-- at a header's binary, by the one that the symbol is, if it is one; it may have no policy yet
+abbrev pub step_binary : List (List ℕ) → GrammarState → ℕ → Option (List ℕ) → StepResult
+step_binary known w at None = expected at
+step_binary known w at (Some binary) =
+    if list_any (λ b. bytes_eq b binary) known then Err (DuplicatePolicy at) else step_to w place.Comma
+
+-- at the emulation of a header: `native`, and no other is supported
+abbrev pub step_system : GrammarState → ℕ → Symbol → StepResult
+step_system w at (Word word) =
+    if bytes_eq word (codes "native") then step_to w place.HeaderEnd else Err (NotSupported at unsupported.Emulation)
+step_system w at _ = expected at
+
+-- ---- expressions
+
+-- one more of `not`, `and`, `or` and `(`
+abbrev pub joined : GrammarState → ℕ → StepResult
+joined w at =
+    if nat_lt w.joins most_joins then Ok (record w { place = place.Operand; joins = w.joins + 1 }) else Err (TooMany at)
+
+-- at the front of an operand: `(`, `not`, `true`, or a label
+abbrev pub step_operand : GrammarState → ℕ → Symbol → StepResult
+step_operand w at Open = joined (record w { parens = w.parens + 1 }) at
+step_operand w at (Word word) =
+    if bytes_eq word (codes "not") then joined w at
+    else if bytes_eq word (codes "true") then step_to w place.Joint
+    else if is_label word then Ok (record w { place = place.Label; label = word; label_at = at })
+    else expected at
+step_operand w at _ = expected at
+
+-- at an operator, by the one that the word names, if it names one; `re` is not supported
+abbrev pub step_op : GrammarState → ℕ → List ℕ → Option Op → StepResult
+step_op w at word (Some op) = step_to w place.Text
+step_op w at word None = if bytes_eq word (codes "re") then Err (NotSupported at unsupported.Re) else expected at
+
+-- at the operator of a test
+abbrev pub step_operator : GrammarState → ℕ → Symbol → StepResult
+step_operator w at (Word word) = step_op w at word (op_named word)
+step_operator w at _ = expected at
+
+-- a label without an index means index 0; where the call has no such argument, the fault is the label's
+abbrev pub step_label : GrammarState → ℕ → Symbol → StepResult
+step_label w at OpenBracket = step_to w place.Index
+step_label w at s = if may_test w.name w.label 0 then step_operator w at s else Err (UnknownArgument w.label_at)
+
+-- at the index of a label, by the one that is spelled, if one is; the call must have such an argument
+abbrev pub step_indexed : GrammarState → ℕ → Option ℕ → StepResult
+step_indexed w at (Some index) =
+    if may_test w.name w.label index then step_to w place.IndexEnd else Err (UnknownArgument w.label_at)
+step_indexed w at None = if may_test_label w.name w.label then expected at else Err (UnknownArgument w.label_at)
+
+-- behind the bracket that a label's index follows
+abbrev pub step_index : GrammarState → ℕ → Symbol → StepResult
+step_index w at (Word word) = step_indexed w at (index_in word)
+step_index w at _ = step_indexed w at None
+
+-- behind an operand: `)`, `and`, `or`, or `then`
+abbrev pub step_joint : GrammarState → ℕ → Symbol → StepResult
+step_joint w at Close =
+    if nat_lt 0 w.parens then Ok (record w { place = place.Joint; parens = w.parens - 1 }) else expected at
+step_joint w at (Word word) =
+    if bytes_eq word (codes "and") || bytes_eq word (codes "or") then joined w at
+    else only w at (bytes_eq word (codes "then") && w.parens == 0) place.Action
+step_joint w at _ = expected at
+
+-- ---- actions and what follows them
+
+-- at an action: `permit`, `deny`, or `ask`, which may not stand where filters are learnt
+abbrev pub step_action : Env → GrammarState → ℕ → Symbol → StepResult
+step_action env w at (Word word) =
+    if bytes_eq word (codes "permit") then step_to w (place.Tail true true)
+    else if bytes_eq word (codes "deny") then step_to w place.Denial
+    else if bytes_eq word (codes "ask") then (if env.learn then Err (AskWithLearn at) else step_to w (place.Tail false true))
+    else expected at
+step_action env w at _ = expected at
+
+-- whether a symbol begins an action
+abbrev pub is_action : Symbol → Bool
+is_action s = is_keyword (codes "permit") s || (is_keyword (codes "deny") s || is_keyword (codes "ask") s)
+
+-- behind a filter's colon: an action, or the first operand of an expression
+abbrev pub step_clause : Env → GrammarState → ℕ → Symbol → StepResult
+step_clause env w at s = if is_action s then step_action env w at s else step_operand w at s
+
+-- at `as`, which needs leave to grant ids, and a call that sets none itself
+abbrev pub step_as : Env → GrammarState → ℕ → Bool → StepResult
+step_as env w at log =
+    if env.elevate then (if sets_ids w.name then Err (ElevateOnSetId at) else step_to w (place.Grant log))
+    else Err (ElevateWithoutIds at)
+
+-- behind an action: the row's end, a predicate's comma, or what may still follow of `as` and `log`
+abbrev pub step_tail : Env → Bool → Bool → GrammarState → ℕ → Symbol → StepResult
+step_tail env grant log w at Line = step_to w place.Row
+step_tail env grant log w at Comma = step_to w place.If
+step_tail env grant log w at (Word word) =
+    if bytes_eq word (codes "as") && grant then step_as env w at log
+    else only w at (bytes_eq word (codes "log") && log) (place.Tail grant false)
+step_tail env grant log w at _ = expected at
+
+-- behind `deny`: the bracket of its error, or what may follow an action
+abbrev pub step_denial : Env → GrammarState → ℕ → Symbol → StepResult
+step_denial env w at OpenBracket = step_to w place.Error
+step_denial env w at s = step_tail env false true w at s
+
+-- at the error of a denial, by the one that the word names, if it names one
+abbrev pub step_errno : GrammarState → ℕ → Option Errno → StepResult
+step_errno w at (Some errno) = step_to w place.ErrorEnd
+step_errno w at None = Err (UnknownError at)
+
+-- behind the bracket that the error of a denial follows
+abbrev pub step_error : GrammarState → ℕ → Symbol → StepResult
+step_error w at (Word word) = step_errno w at (error_named word)
+step_error w at _ = expected at
+
+-- at an id, by the one that the word is, if it is one
+abbrev pub step_known : GrammarState → ℕ → Place → Option ℕ → StepResult
+step_known w at then_at (Some id) = step_to w then_at
+step_known w at then_at None = Err (UnknownUser at)
+
+-- an id, as a number or by a name
+abbrev pub step_id : List NamedId → GrammarState → ℕ → Place → Symbol → StepResult
+step_id names w at then_at (Word word) = step_known w at then_at (id_in names word)
+step_id names w at then_at _ = expected at
+
+-- behind `as`: a user, or the colon before a group
+abbrev pub step_grant : Env → Bool → GrammarState → ℕ → Symbol → StepResult
+step_grant env log w at Colon = step_to w (place.Group log)
+step_grant env log w at s = step_id env.users w at (place.User log) s
+
+-- behind the user of a grant: the colon before a group, or what may follow a grant
+abbrev pub step_user : Env → Bool → GrammarState → ℕ → Symbol → StepResult
+step_user env log w at Colon = step_to w (place.Group log)
+step_user env log w at s = step_tail env false log w at s
+
+-- behind `if`, by whose id is looked at, if the word says so
+abbrev pub step_who : GrammarState → ℕ → Option Who → StepResult
+step_who w at (Some who) = step_to w (place.Comparison who)
+step_who w at None = expected at
+
+-- whose id a symbol says that a predicate looks at
+abbrev pub word_who : Symbol → Option Who
+word_who (Word word) = who_named word
+word_who _ = None
+
+-- at the comparison of a predicate, by the one that the symbol is, if it is one
+abbrev pub step_comparison : Who → GrammarState → ℕ → Option Cmp → StepResult
+step_comparison who w at (Some cmp) = step_to w (place.Id who)
+step_comparison who w at None = expected at
+
+-- ---- all places
+
+-- where a symbol leads, read with these binaries known
+abbrev pub step : Env → List (List ℕ) → GrammarState → ℕ → Symbol → Place → StepResult
+step env known w at s place.Start = step_start w at s
+step env known w at s place.Row = step_row w at s
+step env known w at s place.PolicyColon = only w at (is_colon s) place.Binary
+step env known w at s place.Binary = step_binary known w at (binary_of env s)
+step env known w at s place.Comma = only w at (is_comma s) place.Emulation
+step env known w at s place.Emulation = only w at (is_keyword (codes "Emulation") s) place.EmulationColon
+step env known w at s place.EmulationColon = only w at (is_colon s) place.System
+step env known w at s place.System = step_system w at s
+step env known w at s place.NameColon = only w at (is_colon s) place.Clause
+step env known w at s place.Clause = step_clause env w at s
+step env known w at s place.Operand = step_operand w at s
+step env known w at s place.Label = step_label w at s
+step env known w at s place.Index = step_index w at s
+step env known w at s place.IndexEnd = only w at (is_close_bracket s) place.Operator
+step env known w at s place.Operator = step_operator w at s
+step env known w at s place.Text = only w at (is_quoted s) place.Joint
+step env known w at s place.Joint = step_joint w at s
+step env known w at s place.Action = step_action env w at s
+step env known w at s place.Denial = step_denial env w at s
+step env known w at s place.Error = step_error w at s
+step env known w at s place.ErrorEnd = only w at (is_close_bracket s) (place.Tail false true)
+step env known w at s (place.Tail grant log) = step_tail env grant log w at s
+step env known w at s (place.Grant log) = step_grant env log w at s
+step env known w at s (place.User log) = step_user env log w at s
+step env known w at s (place.Group log) = step_id env.groups w at (place.Tail false log) s
+step env known w at s place.If = only w at (is_keyword (codes "if") s) place.Who
+step env known w at s place.Who = step_who w at (word_who s)
+step env known w at s (place.Comparison who) = step_comparison who w at (comparison s)
+step env known w at s (place.Id who) = step_id (names_for env who) w at place.FilterEnd s
+step env known w at s place.HeaderEnd = only w at (is_line s) place.Row
+step env known w at s place.FilterEnd = only w at (is_line s) place.Row
+
+-- where a symbol leads from the place that the grammar has come to
+abbrev pub next : Env → List (List ℕ) → GrammarState → ℕ → Symbol → StepResult
+next env known w at s = step env known w at s w.place
+
+-- a header's binary is known from there on
+abbrev pub known_after : Env → Symbol → Place → List (List ℕ) → List (List ℕ)
+known_after env s place.Binary known = known ++ option_to_list (binary_of env s)
+known_after env s _ known = known
+
+-- the fault that a symbol comes to, if there is one
+abbrev pub fault_of : StepResult → Option PolicyFault
+fault_of (Ok w) = None
+fault_of (Err fault) = Some fault
+
+-- what is no token fits nowhere; its fault is the token's own
+abbrev pub lexical : LexFault → PolicyFault → PolicyFault
+lexical fault (Expected at) = Lex fault
+lexical fault other = other
+
+-- behind the last token stands the text's end, which ends a row, or what is no token
+abbrev pub fault_at_end : Env → List (List ℕ) → GrammarState → ℕ → Option LexFault → Option PolicyFault
+fault_at_end env known w end None = fault_of (next env known w end Line)
+fault_at_end env known w end (Some fault) = option_map (lexical fault) (fault_of (next env known w end Broken))
+
+-- the first fault of tokens and what stands behind them
+abbrev pub fault_from : Env → List ℕ → Option LexFault → List (List ℕ) → GrammarState → List Token → Option PolicyFault
+fault_from env text broken known w [] = fault_at_end env known w (length text) broken
+fault_from env text broken known w (t ∷ ts) =
+    elim (next env known w t.at (symbol_of text t)) [
+      | Ok w' ↦ fault_from env text broken (known_after env (symbol_of text t) w.place known) w' ts
+      | Err fault ↦ Some fault
+    ]
+
+-- the binaries of policies, in order
+abbrev pub binaries : List BinaryPolicy → List (List ℕ)
+binaries policies = map (λ p. p.binary) policies
+
+-- how far the grammar has come in front of a text, behind the policies read before
+abbrev pub first_walk : List BinaryPolicy → GrammarState
+first_walk old = record { place = place.Start; filters = filters_in old; name = name.Other []; label = []; label_at = 0; parens = 0; joins = 0 }
+
+-- the first fault of a text that is read behind the policies read before
+abbrev pub fault_in : List ℕ → Env → List BinaryPolicy → Option PolicyFault
+fault_in text env old = fault_from env text (lexed_text text).fault (binaries old) (first_walk old) (lexed_text text).tokens

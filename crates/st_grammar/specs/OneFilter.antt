@@ -1,0 +1,87 @@
+-- One filter alone, without a header.
+use Rattle.std.specs.Prelude.{◌≡◌, ℕ, if◌then◌else◌, List, [], ◌∷◌, ◌++◌, length, Option, Some, None, Result, Ok, Err}
+use Rattle.st_filter.specs.Formula.{FilterValue}
+use Rattle.st_lex.specs.Tokens.{lexed_text}
+use Rattle.st_lex.specs.declared.token.LexFault.{LexFault}
+use Rattle.st_lex.specs.declared.token.Token.{Token}
+use Rattle.st_grammar.specs.Diagram.{GrammarState, StepResult, next, expected, step_name, first_walk, is_line, lexical}
+use Rattle.st_grammar.specs.Draft.{Draft, first_draft, draft_step, filter_of}
+use Rattle.st_grammar.specs.Grammar.{IsFilter, symbols_in}
+use Rattle.st_grammar.specs.Symbol.{Symbol, Word, Line, Broken, symbol_of}
+use Rattle.st_grammar.specs.Words.{filter_name}
+use Rattle.st_grammar.specs.declared.env.Env.{Env}
+use Rattle.st_grammar.specs.declared.fault.PolicyFault.{PolicyFault}
+use Rattle.st_grammar.specs.declared.fault.PolicyFault.TheVariants.{Lex, Expected}
+
+-- the symbols are those of a filter, ended by a Line or by the text's end
+pub data IsOneRow (row : List Symbol) : List Symbol → Type 0 where
+  ToTheEnd : IsOneRow row row
+  ToALine : IsOneRow row (row ++ Line ∷ [])
+
+-- the whole text is one filter
+pub record ReadsFilter (text : List ℕ) (env : Env) (filter : FilterValue) : Type 0 where
+  pub whole : (lexed_text text).fault ≡ None
+  pub row : List Symbol
+  pub one_row : IsOneRow row (symbols_in text)
+  pub is : IsFilter env row filter
+
+-- ---- the first fault
+
+-- a filter, or the first fault
+abbrev pub FilterResult : Type 0
+FilterResult = Result FilterValue PolicyFault
+
+-- behind a filter's Line stands nothing
+abbrev pub behind_filter : Option LexFault → FilterValue → List Token → FilterResult
+behind_filter broken filter (t ∷ ts) = Err (Expected t.at)
+behind_filter None filter [] = Ok filter
+behind_filter (Some fault) filter [] = Err (Lex fault)
+
+-- a filter that the text's end ends, where it may
+abbrev pub if_ended : FilterValue → StepResult → FilterResult
+if_ended filter (Ok w) = Ok filter
+if_ended filter (Err fault) = Err fault
+
+-- what is no token fits nowhere
+abbrev pub if_broken : LexFault → StepResult → FilterResult
+if_broken fault (Ok w) = Err (Lex fault)
+if_broken fault (Err found) = Err (lexical fault found)
+
+-- a filter at the end of its text's tokens
+abbrev pub filter_at_end : Env → ℕ → GrammarState → Draft → Option LexFault → FilterResult
+filter_at_end env end w d None = if_ended (filter_of w.name d) (next env [] w end Line)
+filter_at_end env end w d (Some fault) = if_broken fault (next env [] w end Broken)
+
+-- a filter of which some symbols are read, with the tokens that follow
+abbrev pub filter_from : Env → List ℕ → Option LexFault → GrammarState → Draft → List Token → FilterResult
+filter_from env text broken w d [] = filter_at_end env (length text) w d broken
+filter_from env text broken w d (t ∷ ts) =
+    elim (next env [] w t.at (symbol_of text t)) [
+      | Ok w' ↦
+          if is_line (symbol_of text t) then behind_filter broken (filter_of w.name d) ts
+          else filter_from env text broken w' (draft_step env w.label d (symbol_of text t) w.place) ts
+      | Err fault ↦ Err fault
+    ]
+
+-- a filter begins with its name
+abbrev pub begin_filter : ℕ → Symbol → StepResult
+begin_filter at (Word word) = step_name (first_walk []) at (filter_name word)
+begin_filter at _ = expected at
+
+-- where a text has no token
+abbrev pub no_filter : ℕ → Option LexFault → FilterResult
+no_filter end None = Err (Expected end)
+no_filter end (Some fault) = Err (Lex fault)
+
+-- the filter of tokens
+abbrev pub filter_of_tokens : Env → List ℕ → Option LexFault → List Token → FilterResult
+filter_of_tokens env text broken [] = no_filter (length text) broken
+filter_of_tokens env text broken (t ∷ ts) =
+    elim (begin_filter t.at (symbol_of text t)) [
+      | Ok w ↦ filter_from env text broken w first_draft ts
+      | Err fault ↦ Err fault
+    ]
+
+-- the filter that a text is, or the text's first fault
+abbrev pub filter_in : List ℕ → Env → FilterResult
+filter_in text env = filter_of_tokens env text (lexed_text text).fault (lexed_text text).tokens

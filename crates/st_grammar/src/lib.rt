@@ -1,0 +1,16 @@
+//! The language of policies: its words and symbols, its grammar as definitions, the faults of texts, and that following the grammar place by
+//! place tells just what it says.
+#![tactic(auto)]
+
+pub mod env;
+pub mod fault;
+pub mod law;
+pub mod place;
+pub mod symbol;
+pub mod words;
+
+pub use env::{Env, NamedId};
+pub use fault::{PolicyFault, PolicyRefusal, Unsupported};
+pub use law::{reading_is_one, what_is_read_is_a_filter};
+pub use place::Place;
+pub use symbol::Symbol;

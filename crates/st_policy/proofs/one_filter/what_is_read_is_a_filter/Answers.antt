@@ -1,5 +1,0 @@
-use Rattle.st_policy.proofs.OneFilters.{filter_is_sound}
-use Rattle.st_policy.proofs.one_filter.what_is_read_is_a_filter.Goals as goal
-
-pub returns : goal.returns
-returns c = filter_is_sound

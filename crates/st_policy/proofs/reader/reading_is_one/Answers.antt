@@ -1,8 +1,0 @@
-use Rattle.st_policy.proofs.Complete.{reads-once, faultless-iff}
-use Rattle.st_policy.proofs.reader.reading_is_one.Goals as goal
-
-pub returns-clause-one : goal.returns-clause-one
-returns-clause-one c = reads-once
-
-pub returns-clause-faultless : goal.returns-clause-faultless
-returns-clause-faultless c = faultless-iff
