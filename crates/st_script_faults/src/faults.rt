@@ -321,6 +321,29 @@ fn take_line<'a>(
     Ok(fault)
 }
 
+// The fault of the first line that has one, with what stands above. Where none has, the replies of all are added to these.
+fn fault_among<'a>(
+    alloc: Global,
+    whole: &Whole,
+    above: &mut NamesAbove<'a>,
+    lines: &'a [ScriptLine],
+    replies: &mut Sequence<Reply>,
+) -> Result<Option<ScriptFault>, AllocError>
+    requires { above.old.instructions ≤ MOST_INSTRUCTIONS }
+    ensures fault { IfOk result (λ fault. fault ≡ first_fault whole.now above.old lines.now) }
+    ensures replies { IfOk result (λ fault. fault ≡ None → replies.new ≡ replies_behind whole.now.env replies.old lines.now) }
+{
+    let mut rest = lines;
+    while let Some((line, below)) = rest.split_first() {
+        let fault = take_line(alloc, whole, above, below, line, replies)?;
+        if fault.is_some() {
+            return Ok(fault);
+        }
+        rest = below;
+    }
+    Ok(None)
+}
+
 /// The fault of the first line that has one. Where none has, the replies of all are added to these.
 pub fn first_fault(
     alloc: Global,
@@ -332,15 +355,7 @@ pub fn first_fault(
     ensures replies { IfOk result (λ fault. fault ≡ None → replies.new ≡ replies_behind whole.now.env replies.old lines.now) }
 {
     let mut above = NamesAbove::new(alloc);
-    let mut rest = lines;
-    while let Some((line, below)) = rest.split_first() {
-        let fault = take_line(alloc, whole, &mut above, below, line, replies)?;
-        if fault.is_some() {
-            return Ok(fault);
-        }
-        rest = below;
-    }
-    Ok(None)
+    fault_among(alloc, whole, &mut above, lines, replies)
 }
 
 fn add_thread<'a>(names: &mut NameIndex<'a>, says: &'a Option<Statement>) -> Result<(), AllocError>

@@ -1,13 +1,12 @@
 use Rattle.std.proofs.Common.{◌≡◌, ◌≤◌, length}
 use Rattle.st_script_faults.specs.Faults.{first_fault, replies_behind}
-use Rattle.st_script_faults.specs.Names.{no_names}
 use Rattle.st_script_faults.specs.declared.limits.TheConstants.{MOST_INSTRUCTIONS}
-use Rattle.st_script_faults.proofs.faults.first_fault.Given as goal
+use Rattle.st_script_faults.proofs.faults.fault_among.Given as goal
 
 -- what is left gives the answer, and the replies behind those that were added
 abbrev pub invariant-loop-line : goal.invariant-loop-line
 invariant-loop-line l = record {
-  rest : first_fault l.whole l.above l.rest ≡ first_fault l.whole no_names l.lines;
+  rest : first_fault l.whole l.above l.rest ≡ first_fault l.whole l.initial.above l.lines;
   replies : replies_behind l.whole.env l.replies l.rest ≡ replies_behind l.whole.env l.initial.replies l.lines;
   few : l.above.instructions ≤ MOST_INSTRUCTIONS;
 }
