@@ -14,7 +14,8 @@ use Rattle.st_grammar.specs.declared.env.Env.{Env}
 use Rattle.st_base.proofs.Each.{each-append}
 use Rattle.st_relearn.specs.Relearnt.{IsWritableKept, policy_text}
 use Rattle.st_relearn.specs.Writable.{AreWritable, IsWritableBinary, IsWritableFilter, IsWritablePolicy}
-use Rattle.st_relearn.proofs.Writing.{AreNew-append, written_is_read}
+use Rattle.st_relearn.proofs.Writing.{written_is_read}
+use Rattle.st_reread.proofs.Readings.{AreNew-append}
 
 -- ---- no binary twice
 

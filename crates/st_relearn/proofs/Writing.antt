@@ -1,5 +1,5 @@
 -- What can be written is read again, and what was read can be written.
-use Rattle.std.proofs.Common.{◌≡◌, ◌==◌, ℕ, ◌+◌, ◌<◌, ◌≤◌, Bool, true, false, cond, ◌||◌, ◌&&◌, nat_lt, List, [], ◌∷◌, ◌++◌, length, codes, sum_by, Option, Some, None, option_map, refl, ap, sym, subst, ◌∙◌, append_assoc, append-nil, arith}
+use Rattle.std.proofs.Common.{◌≡◌, ◌==◌, ℕ, ◌+◌, ◌<◌, Bool, true, false, cond, ◌||◌, ◌&&◌, nat_lt, List, [], ◌∷◌, length, codes, sum_by, Option, Some, None, option_map, refl, ap, ◌∙◌, arith}
 use Rattle.std.proofs.lemmas.Bool.{and_parts}
 use Rattle.std.proofs.lemmas.Bool.Decides.{nat_tests}
 use Rattle.std.proofs.lemmas.List.Elements.{All-from_recursion, recursion_from_All}
@@ -15,9 +15,7 @@ use Rattle.st_calls.specs.Call.{rule_named}
 use Rattle.st_lex.specs.Pieces.{Piece, PlainWord, QuotedText, Sign, Space, StandWell, is_word_text, sign_bytes}
 use Rattle.st_lex.specs.Quote.{AreBytes, quoted}
 use Rattle.st_lex.specs.Tokens.{is_word_byte}
-use Rattle.st_lex.proofs.Pieces.{print_is_read}
 use Rattle.st_filter.specs.Formula.{Formula, True, Test, Not, And, Or, FilterValue}
-use Rattle.st_filter.specs.Policies.{filters_in}
 use Rattle.st_filter.specs.declared.filter.Action.{Action}
 use Rattle.st_filter.specs.declared.filter.Action.TheVariants.{Permit, Deny, Ask}
 use Rattle.st_filter.specs.declared.filter.FilterName.{FilterName}
@@ -25,11 +23,10 @@ use Rattle.st_filter.specs.declared.filter.FilterName.TheVariants as name
 use Rattle.st_filter.specs.declared.filter.Grant.{Grant}
 use Rattle.st_filter.specs.declared.filter.Predicate.{Predicate}
 use Rattle.st_filter.specs.declared.set.BinaryPolicy.{BinaryPolicy}
-use Rattle.st_filter.specs.declared.set.TheConstants.{MOST_FILTERS}
 use Rattle.st_printing.specs.Canon.{canon, expression_pieces, set_pieces}
-use Rattle.st_grammar.specs.Grammar.{AreRows, AreNew, Reads, is_join, symbols_in}
-use Rattle.st_reread.specs.Readable.{WasRead, Nothing, Behind, HasPlainDollars, HasSmallIds}
-use Rattle.st_grammar.specs.Symbol.{Symbol, Word, Quoted, Line, symbol_by}
+use Rattle.st_grammar.specs.Grammar.{Reads, is_join}
+use Rattle.st_reread.specs.Readable.{WasRead, HasPlainDollars, HasSmallIds}
+use Rattle.st_grammar.specs.Symbol.{Word, Quoted, symbol_by}
 use Rattle.st_grammar.specs.Words.{if_name, is_name_byte, name_by}
 use Rattle.st_grammar.specs.declared.env.Env.{Env}
 use Rattle.st_reread.proofs.Headers.{IsReadableBinary}
@@ -37,10 +34,9 @@ use Rattle.st_reread.proofs.Names.{IsReadableName}
 use Rattle.st_reread.proofs.PrintedClauses.{AreIds, IsReadableAction, IsReadableCondition, IsReadableGrant, IsReadablePredicate}
 use Rattle.st_reread.proofs.PrintedExpressions.{IsReadableFormula, sum-first}
 use Rattle.st_reread.proofs.PrintedFilters.{IsReadableFilter}
-use Rattle.st_reread.proofs.PrintedTexts.{symbols_in-print, printable_symbols}
-use Rattle.st_base.proofs.Each.{each-append}
-use Rattle.st_reread.proofs.Rows.{AreReadable, IsReadablePolicy, readable_rows, are_rows, well_set}
-use Rattle.st_reread.proofs.Symbols.{piece_symbols, ArePrintable, ArePrintable-append}
+use Rattle.st_reread.proofs.Readings.{IsReadable, readable-reads, readable_set}
+use Rattle.st_reread.proofs.Rows.{AreReadable, IsReadablePolicy, well_set}
+use Rattle.st_reread.proofs.Symbols.{piece_symbols}
 use Rattle.st_relearn.specs.Writable.{AreGranted, AreWritable, HasWritableTests, IsWritableAction, IsWritableBinary, IsWritableExpression, IsWritableFilter, IsWritableGrant, IsWritableName, IsWritablePolicy, IsWritablePredicate, joins_of}
 
 -- ---- names
@@ -249,48 +245,13 @@ pub well_written : (env : Env) (set : List BinaryPolicy) → AreWritable env set
 well_written env set w = well_set env set (readable_policies env set (recursion_from_All (IsWritablePolicy env) set w.each))
 
 pub written_is_read : (env : Env) (set : List BinaryPolicy) → AreWritable env set → Reads (canon set) env [] set
-written_is_read env set w =
-    let r : AreReadable env set = readable_policies env set (recursion_from_All (IsWritablePolicy env) set w.each) in
-    let well : StandWell (set_pieces set) = well_written env set w in
-    record {
-      whole = (print_is_read (set_pieces set) well).faultless;
-      policies = set;
-      rows = subst (λ (ts : List Symbol). AreRows env (ts ++ Line ∷ []) set) (sym (symbols_in-print (set_pieces set) well)) (are_rows env set r);
-      set_is = refl;
-      new = w.new;
-      few = w.few;
-    }
+written_is_read env set w = readable-reads env set (record { each = readable_policies env set (recursion_from_All (IsWritablePolicy env) set w.each); new = w.new; few = w.few })
 
 -- ---- what was read can be written
 
-pub AreNew-append : (known ps qs : List BinaryPolicy) → AreNew known ps → AreNew (known ++ ps) qs → AreNew known (ps ++ qs)
-AreNew-append known [] qs a b = subst (λ (ks : List BinaryPolicy). AreNew ks qs) (append-nil known) b
-AreNew-append known (p ∷ ps) qs a b =
-    (a.0, AreNew-append (known ++ p ∷ []) ps qs a.1 (subst (λ (ks : List BinaryPolicy). AreNew ks qs) (sym (append_assoc known (p ∷ []) ps)) b))
-
--- what is known of a set that was read
-record IsKnown (env : Env) (set : List BinaryPolicy) : Type 0 where
-  each : AreReadable env set
-  new : AreNew [] set
-  few : filters_in set ≤ MOST_FILTERS
-
-more_read : (env : Env) (text : List ℕ) (old set : List BinaryPolicy) → HasSmallIds env → ArePrintable env (symbols_in text) → IsKnown env old → Reads text env old set → IsKnown env set
-more_read env text old set small printable known reads =
-    let added : AreReadable env reads.policies = readable_rows env small reads.rows (ArePrintable-append env (symbols_in text) (Line ∷ []) printable (tt, tt)) in
-    record {
-      each = subst (AreReadable env) (sym reads.set_is) (each-append (IsReadablePolicy env) old reads.policies known.each added);
-      new = subst (AreNew []) (sym reads.set_is) (AreNew-append [] old reads.policies known.new reads.new);
-      few = reads.few;
-    }
-
-known_set : (env : Env) {set : List BinaryPolicy} → HasSmallIds env → HasPlainDollars env → WasRead env set → IsKnown env set
-known_set env small plain Nothing = record { each = tt; new = tt; few = omega arith }
-known_set env small plain (Behind text old set bytes was reads) =
-    more_read env text old set small (printable_symbols env text plain bytes) (known_set env small plain was) reads
-
 pub read_is_writable : (env : Env) (set : List BinaryPolicy) → WasRead env set → HasPlainDollars env → HasSmallIds env → AreWritable env set
 read_is_writable env set was plain small =
-    let k : IsKnown env set = known_set env small plain was in
+    let k : IsReadable env set = readable_set env small plain was in
     record {
       each = All-from_recursion (IsWritablePolicy env) set (writable_policies env set k.each);
       new = k.new;

@@ -15,16 +15,16 @@ use Rattle.st_reread.proofs.Symbols.{ArePrintable, ArePrintable-append}
 use Rattle.st_reread.proofs.PrintedTexts.{symbols_in-print, printable_symbols}
 use Rattle.st_filter.specs.declared.set.TheConstants.{MOST_FILTERS}
 
-AreNew-append : (known ps qs : List BinaryPolicy) → AreNew known ps → AreNew (known ++ ps) qs → AreNew known (ps ++ qs)
+pub AreNew-append : (known ps qs : List BinaryPolicy) → AreNew known ps → AreNew (known ++ ps) qs → AreNew known (ps ++ qs)
 AreNew-append known [] qs a b = subst (λ (ks : List BinaryPolicy). AreNew ks qs) (append-nil known) b
 AreNew-append known (p ∷ ps) qs a b =
     (a.0, AreNew-append (known ++ p ∷ []) ps qs a.1 (subst (λ (ks : List BinaryPolicy). AreNew ks qs) (sym (append_assoc known (p ∷ []) ps)) b))
 
 -- what is known of a set that was read
-record IsReadable (env : Env) (set : List BinaryPolicy) : Type 0 where
-  each : AreReadable env set
-  new : AreNew [] set
-  few : filters_in set ≤ MOST_FILTERS
+pub record IsReadable (env : Env) (set : List BinaryPolicy) : Type 0 where
+  pub each : AreReadable env set
+  pub new : AreNew [] set
+  pub few : filters_in set ≤ MOST_FILTERS
 
 more_read : (env : Env) (text : List ℕ) (old set : List BinaryPolicy) → HasSmallIds env → ArePrintable env (symbols_in text) → IsReadable env old → Reads text env old set → IsReadable env set
 more_read env text old set small printable known reads =
@@ -35,15 +35,14 @@ more_read env text old set small printable known reads =
       few = reads.few;
     }
 
-readable_set : (env : Env) {set : List BinaryPolicy} → HasSmallIds env → HasPlainDollars env → WasRead env set → IsReadable env set
+pub readable_set : (env : Env) {set : List BinaryPolicy} → HasSmallIds env → HasPlainDollars env → WasRead env set → IsReadable env set
 readable_set env small plain Nothing = record { each = tt; new = tt; few = omega arith }
 readable_set env small plain (Behind text old set bytes was reads) =
     more_read env text old set small (printable_symbols env text plain bytes) (readable_set env small plain was) reads
 
--- the canonical text of policies that were read is read as the same policies
-pub canon-reads : (env : Env) (set : List BinaryPolicy) → WasRead env set → HasPlainDollars env → HasSmallIds env → Reads (canon set) env [] set
-canon-reads env set was plain small =
-    let r : IsReadable env set = readable_set env small plain was in
+-- the canonical text of such a set is read as it
+pub readable-reads : (env : Env) (set : List BinaryPolicy) → IsReadable env set → Reads (canon set) env [] set
+readable-reads env set r =
     let well : StandWell (set_pieces set) = well_set env set r.each in
     record {
       whole = (print_is_read (set_pieces set) well).faultless;
@@ -53,3 +52,7 @@ canon-reads env set was plain small =
       new = r.new;
       few = r.few;
     }
+
+-- so that of policies that were read is
+pub canon-reads : (env : Env) (set : List BinaryPolicy) → WasRead env set → HasPlainDollars env → HasSmallIds env → Reads (canon set) env [] set
+canon-reads env set was plain small = readable-reads env set (readable_set env small plain was)
