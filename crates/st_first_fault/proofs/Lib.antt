@@ -1,11 +1,16 @@
+pub mod Below
 pub mod Completions
 pub mod Cuts
 pub mod FaultKinds
 pub mod FaultsOnce
+pub mod FilterFaults
+pub mod FilterFaultsOnce
+pub mod FilterReadings
 pub mod FirstFaults
 pub mod LabelPlaces
 pub mod LabelsRead
 pub mod MayStand
+pub mod MovedFaults
 pub mod PlacesTold
 pub mod SpecialFaults
 pub mod WaysOn

@@ -1,5 +1,5 @@
 -- What may stand at a place of the grammar.
-use Rattle.std.proofs.Common.{◌≡◌, ℕ, zero, suc, ◌+◌, ◌-◌, true, List, [], ◌∷◌, ◌++◌, codes, refl, ap, sym, subst, ◌∙◌, arith, append_assoc, append-nil}
+use Rattle.std.proofs.Common.{◌≡◌, ℕ, zero, suc, ◌-◌, true, List, [], ◌∷◌, ◌++◌, codes, refl, ap, sym, subst, ◌∙◌, arith, append_assoc, append-nil}
 use Rattle.st_lex.specs.declared.token.Token.{Token}
 use Rattle.st_lex.specs.Tokens.{lexed_text}
 use Rattle.st_grammar.specs.declared.env.Env.{Env}

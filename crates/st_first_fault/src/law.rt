@@ -1,15 +1,20 @@
-ghost use Rattle.std.specs.Prelude.{◌≡◌, ◌≤◌, ◌++◌, ◌∷◌, ℕ, List, Some, take};
+ghost use Rattle.std.specs.Prelude.{◌≡◌, ◌≤◌, ◌++◌, ◌∷◌, ℕ, List, Some, Ok, Err, take};
 ghost use Rattle.st_lex.specs.Pieces.{IsReadAs, Piece, Space, StandWell, piece_tokens, print, spelled_tokens};
 ghost use Rattle.st_lex.specs.Tokens.{lexed_text};
 ghost use Rattle.st_lex.specs.declared.token.Token as spec;
+ghost use Rattle.st_filter.specs.Formula.{FilterValue};
 ghost use Rattle.st_filter.specs.Policies.{filters_in};
 ghost use Rattle.st_filter.specs.declared.set.BinaryPolicy.{BinaryPolicy};
 ghost use Rattle.st_filter.specs.declared.set.TheConstants.{MOST_FILTERS};
 ghost use Rattle.st_grammar.specs.Diagram.{fault_in};
+ghost use Rattle.st_grammar.specs.OneFilter.{ReadsFilter, filter_in};
 ghost use Rattle.st_grammar.specs.declared.env.Env.{Env};
 ghost use Rattle.st_grammar.specs.declared.fault.PolicyFault.{PolicyFault};
 ghost use Rattle.st_first_fault.specs.Cuts.{end_of};
+ghost use Rattle.st_first_fault.specs.FilterFault.{IsFirstFilterFault};
 ghost use Rattle.st_first_fault.specs.FirstFault.{IsFirstFault};
+
+use st_grammar::what_is_read_is_a_filter;
 
 /// The fault of a text is the first by the grammar: the tokens before it begin a text that is read, with the token that doesn't fit none
 /// does, and what is told of it follows from what may stand there. No other fault is the first.
@@ -19,6 +24,21 @@ pub fn the_first_fault_is_the_grammars()
     ensures once { (text : List ℕ) (env : Env) (old : List BinaryPolicy) (a b : PolicyFault) → filters_in old ≤ MOST_FILTERS →
         IsFirstFault text env old a → IsFirstFault text env old b → a ≡ b }
 {}
+
+/// The fault of a filter alone is that of a policy whose text has the filter below a header, so many bytes further on; but a filter has no
+/// blank line and no header before it, and nothing behind its line. No text has two such faults, and one that is a filter has none.
+pub fn the_first_fault_of_a_filter_is_a_policys()
+    ensures first { (text : List ℕ) (env : Env) (fault : PolicyFault) → filter_in text env ≡ Err fault → IsFirstFilterFault text env fault }
+    ensures once { (text : List ℕ) (env : Env) (a b : PolicyFault) → IsFirstFilterFault text env a → IsFirstFilterFault text env b → a ≡ b }
+    ensures none { (text : List ℕ) (env : Env) (filter : FilterValue) (fault : PolicyFault) → ReadsFilter text env filter → IsFirstFilterFault text env fault → ⊥ }
+{}
+
+/// What is a filter by the grammar is read as that filter.
+pub fn what_is_a_filter_is_read()
+    ensures { (text : List ℕ) (env : Env) (filter : FilterValue) → ReadsFilter text env filter → filter_in text env ≡ Ok filter }
+{
+    what_is_read_is_a_filter();
+}
 
 /// A text that is cut behind one of its tokens, and goes on behind a blank with printed pieces, is read as its tokens up to there and
 /// then the pieces.

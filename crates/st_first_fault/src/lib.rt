@@ -3,4 +3,7 @@
 
 pub mod law;
 
-pub use law::{a_cut_text_keeps_its_tokens, the_first_fault_is_the_grammars};
+pub use law::{
+    a_cut_text_keeps_its_tokens, the_first_fault_is_the_grammars,
+    the_first_fault_of_a_filter_is_a_policys, what_is_a_filter_is_read,
+};
