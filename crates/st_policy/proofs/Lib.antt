@@ -1,3 +1,4 @@
 pub mod Binaries
 pub mod Cited
+mod Refused
 pub mod Settling

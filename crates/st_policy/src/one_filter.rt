@@ -1,5 +1,5 @@
 ghost use Rattle.std.specs.Prelude.{◌≡◌, ◌≢◌, ◌^◌, ◌<◌, ◌∷◌, false, Ok, Err, length, IfOk, IfErr};
-ghost use Rattle.st_grammar.specs.Symbol.{seen};
+ghost use Rattle.st_grammar.specs.Symbol.{seen, symbol_of};
 ghost use Rattle.st_grammar.specs.Draft.{first_draft, is_binary_place};
 ghost use Rattle.st_grammar.specs.OneFilter.{behind_filter, filter_at_end, begin_filter, no_filter, filter_of_tokens, filter_in};
 
@@ -25,30 +25,6 @@ fn behind_filter(
     }
 }
 
-// A filter at the end of its text's tokens: the text's end may end it, and what is no token fits nowhere.
-fn filter_at_end(
-    alloc: Global,
-    env: &Env,
-    end: u32,
-    mut reader: Reader,
-    broken: Option<LexFault>,
-) -> Result<Filter, PolicyFault>
-    requires { is_binary_place reader.walk.place ≡ false }
-    ensures ok { IfOk result (λ filter. filter_at_end env.now end reader.entry.walk reader.entry.draft broken ≡ Ok filter) }
-    ensures fault { IfErr result (λ f. f ≢ PolicyFault.NoMemory → filter_at_end env.now end reader.entry.walk reader.entry.draft broken ≡ Err f) }
-{
-    match broken {
-        None => {
-            reader.step(alloc, env, end, &Symbol::Line)?;
-            Ok(reader.take_filter(alloc)?)
-        }
-        Some(fault) => match reader.step(alloc, env, end, &Symbol::Broken) {
-            Ok(()) => Err(PolicyFault::Lex(fault)),
-            Err(found) => Err(lexical(fault, found)),
-        },
-    }
-}
-
 // A filter begins with its name.
 fn begin_filter<'a>(alloc: Global, at: u32, symbol: &Symbol<'a>) -> Result<Reader<'a>, PolicyFault>
     ensures walk { IfOk result (λ reader. begin_filter at (seen symbol.now) ≡ Ok reader.walk) }
@@ -63,8 +39,62 @@ fn begin_filter<'a>(alloc: Global, at: u32, symbol: &Symbol<'a>) -> Result<Reade
     Ok(reader)
 }
 
+impl<'a> Reader<'a> {
+    // A filter at the end of its text's tokens: the text's end may end it, and what is no token fits nowhere.
+    fn filter_at_end(
+        &mut self,
+        alloc: Global,
+        env: &Env,
+        end: u32,
+        broken: Option<LexFault>,
+    ) -> Result<Filter, PolicyFault>
+        requires { is_binary_place self.old.walk.place ≡ false }
+        ensures ok { IfOk result (λ filter. filter_at_end env.now end self.old.walk self.old.draft broken ≡ Ok filter) }
+        ensures fault { IfErr result (λ f. f ≢ PolicyFault.NoMemory → filter_at_end env.now end self.old.walk self.old.draft broken ≡ Err f) }
+    {
+        match broken {
+            None => {
+                self.step(alloc, env, end, &Symbol::Line)?;
+                Ok(self.take_filter(alloc)?)
+            }
+            Some(fault) => match self.step(alloc, env, end, &Symbol::Broken) {
+                Ok(()) => Err(PolicyFault::Lex(fault)),
+                Err(found) => Err(lexical(fault, found)),
+            },
+        }
+    }
+
+    // The filter that begins with the token that was read, and goes on with those behind it.
+    #[tactic(auto, using(crate::proofs::Cited::stands_elsewhere))]
+    fn rest_of_filter(
+        &mut self,
+        alloc: Global,
+        env: &Env,
+        text: &'a [u8],
+        broken: Option<LexFault>,
+        first: &Token,
+        tokens: &[Token],
+    ) -> Result<Filter, PolicyFault>
+        requires small { length text.now < 2 ^ 32 }
+        requires walk { begin_filter first.now.at (symbol_of text.now first.now) ≡ Ok self.old.walk }
+        requires draft { self.old.draft ≡ first_draft }
+        ensures ok { IfOk result (λ filter. filter_of_tokens env.now text.now broken (first.now ∷ tokens.now) ≡ Ok filter) }
+        ensures fault { IfErr result (λ f. f ≢ PolicyFault.NoMemory → filter_of_tokens env.now text.now broken (first.now ∷ tokens.now) ≡ Err f) }
+    {
+        let mut rest = tokens;
+        while let Some((token, behind)) = rest.split_first() {
+            let symbol = Symbol::of(text, token);
+            self.step(alloc, env, token.at, &symbol)?;
+            if symbol.is_line() {
+                return behind_filter(self.take_filter(alloc)?, behind, broken);
+            }
+            rest = behind;
+        }
+        self.filter_at_end(alloc, env, text.len() as u32, broken)
+    }
+}
+
 // The filter whose tokens are this one and those behind it.
-#[tactic(auto, using(crate::proofs::Cited::stands_elsewhere))]
 fn filter_of_tokens(
     alloc: Global,
     env: &Env,
@@ -78,16 +108,7 @@ fn filter_of_tokens(
     ensures fault { IfErr result (λ f. f ≢ PolicyFault.NoMemory → filter_of_tokens env.now text.now broken (first.now ∷ tokens.now) ≡ Err f) }
 {
     let mut reader = begin_filter(alloc, first.at, &Symbol::of(text, first))?;
-    let mut rest = tokens;
-    while let Some((token, behind)) = rest.split_first() {
-        let symbol = Symbol::of(text, token);
-        reader.step(alloc, env, token.at, &symbol)?;
-        if symbol.is_line() {
-            return behind_filter(reader.take_filter(alloc)?, behind, broken);
-        }
-        rest = behind;
-    }
-    filter_at_end(alloc, env, text.len() as u32, reader, broken)
+    reader.rest_of_filter(alloc, env, text, broken, first, tokens)
 }
 
 // Where a text has no token.

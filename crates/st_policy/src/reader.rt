@@ -3,6 +3,7 @@ ghost use Rattle.st_grammar.specs.Symbol.{seen};
 ghost use Rattle.st_grammar.specs.Grammar.{Reads, if_absolute, binary_of};
 ghost use Rattle.st_filter.specs.Policies.{filters_in, add_filter};
 ghost use Rattle.st_grammar.specs.Diagram.{lexical};
+ghost use Rattle.st_grammar.specs.Between.{IsSound};
 ghost use Rattle.st_grammar.specs.Refusals.{place_from, place_in, refusal_in};
 ghost use Rattle.st_grammar.specs.Draft.{is_between_rows, is_binary_place, ends_filter, filter_of, first_draft, as_reading, read_step, read_end, read_from, first_reading, set_of, policies_in};
 ghost use Rattle.st_filter.specs.declared.set.TheConstants.{MOST_FILTERS};
@@ -159,10 +160,46 @@ impl<'a> Reader<'a> {
             },
         }
     }
+
+    // Reads tokens and what stands behind them; where that fails, the set has what was read of it.
+    #[tactic(auto, using(crate::proofs::Cited::old_is_kept, crate::proofs::Cited::has_room))]
+    fn read_all(
+        &mut self,
+        alloc: Global,
+        text: &'a [u8],
+        env: &Env,
+        set: &mut PolicySet,
+        tokens: &[Token],
+        broken: Option<LexFault>,
+    ) -> Result<(), PolicyRefusal>
+        requires small { length text.now < 2 ^ 32 }
+        requires sound { IsSound set.old (as_reading self.old.walk self.old.draft set.old) }
+        ensures ok { OnOk result (set_of (read_from env.now text.now broken (as_reading self.old.walk self.old.draft set.old) tokens.now) ≡ Ok set.new) }
+        ensures fault { IfErr result (λ r. r.fault ≢ PolicyFault.NoMemory → read_from env.now text.now broken (as_reading self.old.walk self.old.draft set.old) tokens.now ≡ Err r.fault) }
+        ensures place { IfErr result (λ r. r.fault ≢ PolicyFault.NoMemory → place_from env.now text.now (as_reading self.old.walk self.old.draft set.old) tokens.now ≡ r.place) }
+        ensures kept { OnErr result (take (length set.old) set.new ≡ set.old) }
+    {
+        for token in tokens {
+            let symbol = Symbol::of(text, token);
+            let place = self.walk.place();
+            // A blank line leaves everything as it is.
+            if symbol.is_line() && place.is_between_rows() {
+                continue;
+            }
+            if let Err(fault) = self.read(alloc, env, set, token.at, &symbol) {
+                return Err(PolicyRefusal { fault, place });
+            }
+        }
+        let place = self.walk.place();
+        match self.end(alloc, env, set, text, broken) {
+            Ok(()) => Ok(()),
+            Err(fault) => Err(PolicyRefusal { fault, place }),
+        }
+    }
 }
 
 // Reads the tokens of a text and what stands behind them; where that fails, the set has what was read of it.
-#[tactic(auto, using(crate::proofs::Cited::old_is_kept, crate::proofs::Cited::has_room, crate::proofs::Cited::sound_first))]
+#[tactic(auto, using(crate::proofs::Cited::sound_first))]
 fn read_tokens(
     alloc: Global,
     text: &[u8],
@@ -179,22 +216,7 @@ fn read_tokens(
     ensures few { OnOk result (filters_in set.old ≤ MOST_FILTERS) }
 {
     let mut reader = Reader::new(alloc, set.filters());
-    for token in tokens {
-        let symbol = Symbol::of(text, token);
-        let place = reader.walk.place();
-        // A blank line leaves everything as it is.
-        if symbol.is_line() && place.is_between_rows() {
-            continue;
-        }
-        if let Err(fault) = reader.read(alloc, env, set, token.at, &symbol) {
-            return Err(PolicyRefusal { fault, place });
-        }
-    }
-    let place = reader.walk.place();
-    match reader.end(alloc, env, set, text, broken) {
-        Ok(()) => Ok(()),
-        Err(fault) => Err(PolicyRefusal { fault, place }),
-    }
+    reader.read_all(alloc, text, env, set, tokens, broken)
 }
 
 // Reads a text; where that fails, the set has what was read of it.

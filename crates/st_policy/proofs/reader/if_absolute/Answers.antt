@@ -1,4 +1,4 @@
-use Rattle.std.proofs.Common.{◌≡◌, ◌∙◌, Some, None, cond, codes, ap, sym}
+use Rattle.std.proofs.Common.{◌∙◌, Some, None, cond, codes, ap, sym}
 use Rattle.std.specs.List.{starts_with}
 use Rattle.std.specs.Prelude.{nat_eq}
 use Rattle.st_policy.proofs.reader.if_absolute.Goals as goal

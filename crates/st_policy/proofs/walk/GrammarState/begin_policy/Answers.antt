@@ -1,7 +1,7 @@
-use Rattle.std.proofs.Common.{◌≡◌, ◌∙◌, Bool, true, false, List, ℕ, cond, Err, ap, sym}
+use Rattle.std.proofs.Common.{◌≡◌, ◌∙◌, Bool, true, false, cond, Err, ap, sym}
 use Rattle.std.specs.List.{list_any}
 use Rattle.std.specs.Str.{bytes_eq}
-use Rattle.st_grammar.specs.Diagram.{StepResult, binaries, step_to}
+use Rattle.st_grammar.specs.Diagram.{binaries, step_to}
 use Rattle.st_grammar.specs.declared.fault.PolicyFault.TheVariants.{DuplicatePolicy}
 use Rattle.st_grammar.specs.declared.place.Place.TheVariants as place
 use Rattle.st_policy.proofs.Binaries.{has_policy_among}
