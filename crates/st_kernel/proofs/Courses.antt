@@ -18,7 +18,7 @@ use Rattle.st_reached.proofs.StillKept.{none_more}
 use Rattle.st_report.specs.ScheduleText.{repeats_of, repeats_with, spelled_choices}
 use Rattle.st_report.specs.declared.schedule.Repeat.{Repeat}
 use Rattle.st_report.proofs.Repeats.{one_more_choice, spelled_again}
-use Rattle.st_machine.specs.Machine.{IsMachine, IsStep, Running}
+use Rattle.st_next.specs.Machine.{IsMachine, IsStep, Running}
 use Rattle.st_kernel.specs.Kernel.{IsCourse}
 use Rattle.st_kernel.specs.Waking.{is_asleep, is_woken}
 use Rattle.st_kernel.specs.declared.waking.Woken.{Woken}

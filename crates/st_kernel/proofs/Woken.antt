@@ -1,12 +1,12 @@
 -- Marks of threads, as those of a kind are woken one after the other.
 use native.Mathlib.Omega.{arith}
-use Rattle.std.proofs.Common.{◌≡◌, ◌≤◌, ◌<◌, ◌+◌, ◌∙◌, ◌==◌, ℕ, zero, suc, Bool, true, false, List, length, Option, Some, None, inl, inr, refl, ap, sym}
+use Rattle.std.proofs.Common.{◌≡◌, ◌≤◌, ◌<◌, ◌+◌, ◌∙◌, ◌==◌, ℕ, suc, Bool, true, false, List, length, Option, None, inl, inr, refl, ap, sym}
 use Rattle.std.proofs.lemmas.Bool.{cases_eq, eqb-false, leb-false, leb-true, ne_eqb, true≢false}
 use Rattle.std.proofs.lemmas.Option.{slice_get_past}
 use Rattle.std.specs.Prelude.{nat_le}
-use Rattle.st_machine.specs.Holding.{message_held, message_of, number_of}
-use Rattle.st_machine.specs.Machine.{Running}
-use Rattle.st_machine.specs.Thread.{ThreadRow}
+use Rattle.st_next.specs.Holding.{message_held, message_of, number_of}
+use Rattle.st_next.specs.Machine.{Running}
+use Rattle.st_threads.specs.Thread.{ThreadRow}
 use Rattle.st_kernel.specs.Waking.{is_asleep}
 
 -- of the threads before one those of a kind are awake, and the others are as they were

@@ -9,7 +9,7 @@ use Rattle.st_law.specs.Schedules.{EnabledChoice, Played, first_enabled, most_st
 use Rattle.st_law.specs.State.{State, thread_count}
 use Rattle.st_report.specs.ScheduleText.{repeats_of, spelled_choices}
 use Rattle.st_report.specs.declared.schedule.Repeat.{Repeat}
-use Rattle.st_machine.specs.Machine.{IsMachine, Running}
+use Rattle.st_next.specs.Machine.{IsMachine, Running}
 use Rattle.st_kernel.specs.Waking.{AreStill}
 
 -- an input, and the choices that were made

@@ -6,8 +6,8 @@ use Rattle.st_trace.specs.declared.entry.Entry.TheVariants.{Faulted, Answered, U
 use Rattle.st_law.specs.Machine.{thread_entry}
 use Rattle.st_law.specs.State.{State}
 use Rattle.st_law.specs.declared.input.Input.{Input}
-use Rattle.st_machine.specs.Holding.{is_held_alike, message_at}
-use Rattle.st_machine.specs.Machine.{Running}
+use Rattle.st_next.specs.Holding.{is_held_alike, message_at}
+use Rattle.st_next.specs.Machine.{Running}
 use Rattle.st_messages.specs.Messages.{HeldCalls, thread_at}
 use Rattle.st_reached.specs.Waiting.{wakes_all}
 use Rattle.st_kernel.specs.declared.waking.Woken.{Woken}

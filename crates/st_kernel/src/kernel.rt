@@ -80,10 +80,9 @@ impl<'a> Kernel<'a> {
         ensures input { IfOk result (λ kernel. kernel.input ≡ input.now) }
         ensures choices { IfOk result (λ kernel. kernel.choices ≡ []) }
     {
-        let machine = Machine::start(alloc, input)?;
-        let asleep = vec![in alloc; false; machine.thread_count() as usize]?;
+        let asleep = vec![in alloc; false; input.start.threads.len()]?;
         Ok(Kernel {
-            machine,
+            machine: Machine::start(alloc, input)?,
             made: Vec::new(alloc),
             first: 1,
             asleep,
@@ -118,13 +117,14 @@ impl<'a> Kernel<'a> {
     pub fn is_enabled(&self, alloc: Global, choice: Choice) -> Result<bool, AllocError>
         ensures { IfOk result (λ enabled. enabled ≡ is_some (entry_of self.now.input (state_in self.now) choice)) }
     {
+        let machine = self.machine.view();
         match choice {
-            Choice::Thread(tid) => self.machine.can_move(alloc, tid),
-            Choice::Worker(worker) if 0 < worker && worker <= self.machine.worker_count() => {
-                Ok(self.machine.can_serve(worker))
+            Choice::Thread(tid) => machine.can_move(alloc, tid),
+            Choice::Worker(worker) if 0 < worker && worker <= machine.worker_count() => {
+                Ok(machine.can_serve(worker))
             }
             Choice::Worker(_) => Ok(false),
-            Choice::Operator => self.machine.can_ask(alloc),
+            Choice::Operator => machine.can_ask(alloc),
         }
     }
 
@@ -142,9 +142,10 @@ impl<'a> Kernel<'a> {
         self.machine.choose(alloc, choice, added)?;
         match added {
             Some(entry) => {
-                let woken = woken_by(&self.machine, entry);
-                self.first = woken.cursor(&self.machine, self.first);
-                woken.wake(&self.machine, self.first, &mut self.asleep);
+                let machine = self.machine.view();
+                let woken = woken_by(&machine, entry);
+                self.first = woken.cursor(&machine, self.first);
+                woken.wake(&machine, self.first, &mut self.asleep);
                 note_choice(&mut self.made, choice);
                 Ok(true)
             }
@@ -204,7 +205,7 @@ impl<'a> Kernel<'a> {
         ensures played { IsPlayed self.old }
         ensures err { OnErr result (self.new ≡ self.old) }
     {
-        for tid in self.first..self.machine.thread_count() + 1 {
+        for tid in self.first..self.machine.view().thread_count() + 1 {
             if self.move_here(alloc, tid, added)? {
                 return Ok(true);
             }
@@ -217,7 +218,7 @@ impl<'a> Kernel<'a> {
         ensures made { IfOk result (λ made. HasMade Worker self.old.input.options.workers self.old made added.new self.new) }
         ensures err { OnErr result (self.new ≡ self.old) }
     {
-        for worker in 1..self.machine.worker_count() + 1 {
+        for worker in 1..self.machine.view().worker_count() + 1 {
             if self.choose(alloc, Choice::Worker(worker), added)? {
                 return Ok(true);
             }

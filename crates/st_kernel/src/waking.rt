@@ -2,15 +2,15 @@
 ghost use Rattle.std.specs.Prelude.{◌≡◌, ◌⊎◌, ◌==◌, ◌≤◌, ◌<◌, ℕ, suc, true, false, length};
 ghost use Rattle.std.specs.List.{list_any};
 ghost use Rattle.st_law.specs.State.{State};
-ghost use Rattle.st_machine.specs.Holding.{is_alike, message_held};
-ghost use Rattle.st_machine.specs.Machine.{IsMachine};
+ghost use Rattle.st_next.specs.Holding.{is_alike, message_held};
+ghost use Rattle.st_next.specs.Machine.{IsMachine};
 ghost use Rattle.st_messages.specs.Messages.{thread_at};
 ghost use Rattle.st_reached.specs.Waiting.{is_message_by, wakes, wakes_all};
 ghost use Rattle.st_kernel.specs.Waking.{holder_woken, is_asleep, is_woken, woken_by};
 
 use st_base::{Seq, Tid};
 use st_lookaside::Head;
-use st_machine::Machine;
+use st_next::View;
 use st_trace::{Change, Entry};
 
 /// Which threads may move behind an entry and couldn't before.
@@ -41,7 +41,7 @@ fn wakes_some(changes: &[Change]) -> bool
 }
 
 // The thread that holds the call of a number, or all of them where it isn't known.
-fn holder(machine: &Machine<'_>, seq: Seq) -> Woken
+fn holder(machine: &View<'_, '_>, seq: Seq) -> Woken
     ensures whom { result ≡ holder_woken (thread_at machine.now.workers.calls seq) }
     ensures law { (st : State) → IsMachine machine.now st → (t : ℕ) → is_message_by st t seq ≡ true → is_woken machine.now result t ≡ true }
 {
@@ -52,7 +52,7 @@ fn holder(machine: &Machine<'_>, seq: Seq) -> Woken
 }
 
 /// Which threads an entry may wake, by the machine behind it.
-pub fn woken_by(machine: &Machine<'_>, entry: &Entry) -> Woken
+pub fn woken_by(machine: &View<'_, '_>, entry: &Entry) -> Woken
     ensures whom { result ≡ woken_by machine.now.workers.calls entry.now }
     ensures law { (st : State) → IsMachine machine.now st → (t : ℕ) → wakes st entry.now t ≡ true → is_woken machine.now result t ≡ true }
 {
@@ -94,7 +94,7 @@ fn mark_awake(tid: Tid, asleep: &mut [bool])
 }
 
 // The first thread before this one that holds a call of the policy and the rule of a message, else this one.
-fn first_alike(machine: &Machine<'_>, message: &Head, first: Tid) -> Tid
+fn first_alike(machine: &View<'_, '_>, message: &Head, first: Tid) -> Tid
     requires { 1 ≤ first }
     ensures from { 1 ≤ result }
     ensures to { result ≤ first }
@@ -110,7 +110,7 @@ fn first_alike(machine: &Machine<'_>, message: &Head, first: Tid) -> Tid
 }
 
 // Marks the threads that hold calls of the policy and the rule of a message as awake, none of which comes before this one.
-fn wake_alike(machine: &Machine<'_>, message: &Head, from: Tid, asleep: &mut [bool])
+fn wake_alike(machine: &View<'_, '_>, message: &Head, from: Tid, asleep: &mut [bool])
     requires from { 1 ≤ from }
     requires before { (t : ℕ) → 1 ≤ t → t < from → is_alike message.now (message_held machine.now t) ≡ false }
     ensures count { length asleep.new ≡ length asleep.old }
@@ -127,7 +127,7 @@ fn wake_alike(machine: &Machine<'_>, message: &Head, from: Tid, asleep: &mut [bo
 
 impl Woken {
     /// Where a cursor stands that stood here: not behind a thread that was woken, and no farther back than it has to.
-    pub fn cursor(self, machine: &Machine<'_>, first: Tid) -> Tid
+    pub fn cursor(self, machine: &View<'_, '_>, first: Tid) -> Tid
         requires { 1 ≤ first }
         ensures from { 1 ≤ result }
         ensures to { result ≤ first }
@@ -147,7 +147,7 @@ impl Woken {
     }
 
     /// Marks the threads that were woken as awake, none of which comes before this one; thread t stands at t - 1.
-    pub fn wake(self, machine: &Machine<'_>, from: Tid, asleep: &mut [bool])
+    pub fn wake(self, machine: &View<'_, '_>, from: Tid, asleep: &mut [bool])
         requires from { 1 ≤ from }
         requires before { (t : ℕ) → 1 ≤ t → t < from → is_woken machine.now self t ≡ false }
         ensures count { length asleep.new ≡ length asleep.old }

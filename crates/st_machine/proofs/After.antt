@@ -10,10 +10,10 @@ use Rattle.st_system.specs.System.{IsSystem, Parts}
 use Rattle.st_workers.specs.Kept.{IsKept}
 use Rattle.st_workers.specs.UnderWay.{UnderWay}
 use Rattle.st_workers.proofs.Turns.{item_put, number_within}
-use Rattle.st_machine.specs.Machine.{IsMachine, Running}
-use Rattle.st_machine.specs.Thread.{ThreadRow, IsRow, IsRowOf}
+use Rattle.st_next.specs.Machine.{IsMachine, Running}
+use Rattle.st_threads.specs.Thread.{ThreadRow, IsRow, IsRowOf}
 use Rattle.st_operator.proofs.Replies.{added_stands}
-use Rattle.st_machine.proofs.Reached.{reached_more}
+use Rattle.st_next.proofs.Reached.{reached_more}
 
 -- the rows are those of these threads
 abbrev pub AreRows : List ThreadRow → (ℕ → ThreadState) → Type 0

@@ -17,9 +17,9 @@ use Rattle.st_reached.specs.Scripts.{IsBounded}
 use Rattle.st_system.specs.System.{IsSystem, Parts}
 use Rattle.st_workers.specs.Kept.{IsKept}
 use Rattle.st_workers.specs.UnderWay.{UnderWay}
-use Rattle.st_machine.specs.Machine.{IsMachine}
-use Rattle.st_machine.specs.Thread.{ThreadRow, IsRowOf, first_row}
-use Rattle.st_machine.proofs.Reached.{reached_first}
+use Rattle.st_next.specs.Machine.{IsMachine}
+use Rattle.st_threads.specs.Thread.{ThreadRow, IsRowOf, first_row}
+use Rattle.st_next.proofs.Reached.{reached_first}
 
 abbrev row_of : start.ThreadRow → ThreadRow
 row_of row = first_row row.body

@@ -24,15 +24,15 @@ use Rattle.st_system.specs.Steps.{CanMake}
 use Rattle.st_system.specs.System.{IsSystem}
 use Rattle.st_trace.specs.declared.entry.Way.{Way}
 use Rattle.st_trace.specs.declared.entry.Way.TheVariants.{Held}
-use Rattle.st_machine.specs.Machine.{IsMachine, IsNext, IsRunning, Running}
-use Rattle.st_machine.specs.Making.{child_of_row, request_with}
-use Rattle.st_machine.specs.NextSteps.{IsFit}
-use Rattle.st_machine.specs.Thread.{ThreadRow}
-use Rattle.st_machine.specs.declared.step.Step.TheVariants as steps
-use Rattle.st_machine.specs.declared.step.Use.{Use}
+use Rattle.st_next.specs.Machine.{IsMachine, IsNext, IsRunning, Running}
+use Rattle.st_next.specs.Making.{child_of_row, request_with}
+use Rattle.st_next.specs.NextSteps.{IsFit}
+use Rattle.st_threads.specs.Thread.{ThreadRow}
+use Rattle.st_next.specs.declared.step.Step.TheVariants as steps
+use Rattle.st_next.specs.declared.step.Use.{Use}
 use Rattle.st_machine.proofs.MadeSteps.{now, used}
 use Rattle.st_machine.proofs.Moving.{row_making}
-use Rattle.st_machine.proofs.NextSteps.{owner_is, row_of}
+use Rattle.st_next.proofs.NextSteps.{owner_is, row_of}
 
 -- whether a thread hasn't started is said alike
 unstarted : (o : Option ℕ) (owner : ℕ) (started : Bool) → started ≡ is_some o → started ≡ not (owner == 0) → owner ≡ 0 → o ≡ None

@@ -6,7 +6,7 @@ use Rattle.std.specs.Prelude.{nat_le, nat_lt}
 use Rattle.st_law.specs.Machine.{entry_of, turn_entry}
 use Rattle.st_law.specs.State.{State, is_worker, worker_at}
 use Rattle.st_trace.specs.declared.entry.Choice.TheVariants as choice
-use Rattle.st_machine.specs.Machine.{IsMachine, Running}
+use Rattle.st_next.specs.Machine.{IsMachine, Running}
 
 module _ (m : Running) (st : State) (is : IsMachine m st) where
   absent : (w : ℕ) → is_worker m.input w ≡ false → entry_of m.input st (choice.Worker w) ≡ None

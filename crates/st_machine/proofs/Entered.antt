@@ -24,14 +24,14 @@ use Rattle.st_reached.proofs.Reached.{lawful_entry}
 use Rattle.st_workers.specs.Kept.{head_of, ChangesLife, IsKept, IsKeptAfter}
 use Rattle.st_workers.specs.UnderWay.{UnderWay}
 use Rattle.st_workers.proofs.Threads.{others_have_no_number}
-use Rattle.st_machine.specs.Entering.{IsUnposted, IsWayOf}
-use Rattle.st_machine.specs.Machine.{IsMachine, IsNext, IsStep, Running}
-use Rattle.st_machine.specs.Thread.{ThreadRow, IsRow, number_held, row_entered}
-use Rattle.st_machine.specs.declared.step.Step.TheVariants as steps
+use Rattle.st_next.specs.Entering.{IsUnposted, IsWayOf}
+use Rattle.st_next.specs.Machine.{IsMachine, IsNext, IsStep, Running}
+use Rattle.st_threads.specs.Thread.{ThreadRow, IsRow, number_held, row_entered}
+use Rattle.st_next.specs.declared.step.Step.TheVariants as steps
 use Rattle.st_machine.proofs.After.{AreRows, HasComeAsFar, behind, rows_changed, with_parts}
-use Rattle.st_machine.proofs.NextSteps.{row_of}
-use Rattle.st_machine.proofs.Reached.{reached_of}
-use Rattle.st_machine.proofs.Rows.{either_none, holds}
+use Rattle.st_next.proofs.NextSteps.{row_of}
+use Rattle.st_next.proofs.Reached.{reached_of}
+use Rattle.st_threads.proofs.Rows.{either_none, holds}
 use Rattle.st_machine.proofs.Served.{same_system}
 
 module _ (m : Running) (t : ℕ) (call : SysCall) (regs : List ℕ) (next : IsNext m t (steps.Enter call regs)) (way : Way) (goes : IsWayOf m t call regs way) (st : State) (is : IsMachine m st) where

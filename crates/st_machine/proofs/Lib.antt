@@ -1,23 +1,12 @@
 mod After
-pub mod Alike
-mod Asked
+mod Answered
 mod Begun
 mod CanMake
 mod Choices
-mod Enabling
 mod Entered
-mod Fits
-mod HeldEnds
 mod Made
 mod MadeSteps
 mod Moving
-mod NextSteps
-mod Planned
-mod Questions
-mod Reached
-mod Renewed
-mod RenewedLaw
 mod RenewedSteps
 mod Room
-mod Rows
 mod Served

@@ -14,7 +14,7 @@ use Rattle.st_reached.proofs.Life.{eqb-sym}
 use Rattle.st_system.specs.System.{IsThread}
 use Rattle.st_trace.specs.declared.entry.Change.{Change}
 use Rattle.st_trace.specs.declared.entry.Change.TheVariants.{Dying, Execed, Forked, Renewed}
-use Rattle.st_machine.specs.Ending.{ends_with, is_ended_by, is_head_among, life_but, owner_of}
+use Rattle.st_threads.specs.Ending.{ends_with, is_ended_by, is_head_among, life_but, owner_of}
 
 -- ---- changes that neither renew a number nor start a thread
 

@@ -45,18 +45,19 @@ use Rattle.st_workers.specs.UnderWay.{UnderWay}
 use Rattle.st_workers.proofs.Closing.{closing_is_not_kept}
 use Rattle.st_workers.proofs.Ended.{lives_as}
 use Rattle.st_workers.proofs.Turns.{item_put, number_within}
-use Rattle.st_machine.specs.Ending.{AreHeld, EndsCall, HasNumber, HaveCalls, HaveEnded, is_ended_by, is_head_among, life_but, life_without_number, owner_of, row_dying_if}
-use Rattle.st_machine.specs.Machine.{IsMachine, IsNext, IsStep, Running}
-use Rattle.st_machine.specs.Making.{child_of_row, request_with}
-use Rattle.st_machine.specs.Thread.{ThreadRow, IsRow, IsRowOf, number_by_way, number_held, number_pending}
-use Rattle.st_machine.specs.declared.step.Step.TheVariants as steps
-use Rattle.st_machine.specs.declared.step.Use.{Use}
+use Rattle.st_threads.specs.Ending.{AreHeld, EndsCall, HasNumber, HaveCalls, HaveEnded, is_ended_by, is_head_among, life_but, life_without_number, owner_of, row_dying_if}
+use Rattle.st_next.specs.Machine.{IsMachine, IsNext, IsStep, Running}
+use Rattle.st_next.specs.Making.{child_of_row, request_with}
+use Rattle.st_threads.specs.Thread.{ThreadRow, IsRow, IsRowOf, number_by_way, number_held, number_pending}
+use Rattle.st_next.specs.declared.step.Step.TheVariants as steps
+use Rattle.st_next.specs.declared.step.Use.{Use}
 use Rattle.st_machine.proofs.After.{behind, with_parts}
-use Rattle.st_machine.proofs.HeldEnds.{are_held, closed_held, not_dead}
+use Rattle.st_threads.proofs.HeldEnds.{closed_held, not_dead}
+use Rattle.st_next.proofs.HeldCalls.{are_held}
 use Rattle.st_machine.proofs.Made.{IsCalm, calm_when_execed, calm_when_quiet, dying_when_calm, life_when_calm, mute_when_calm, owner_by, owner_when_calm}
-use Rattle.st_machine.proofs.NextSteps.{owner_is, row_of}
-use Rattle.st_machine.proofs.Reached.{reached_of}
-use Rattle.st_machine.proofs.Rows.{held_number, none_closed, none_dying}
+use Rattle.st_next.proofs.NextSteps.{owner_is, row_of}
+use Rattle.st_next.proofs.Reached.{reached_of}
+use Rattle.st_threads.proofs.Rows.{held_number, none_closed, none_dying}
 
 -- whether a call sets ids is said alike
 same_sets : (call : SysCall) → sets_ids call ≡ schedules.sets_ids call

@@ -1,16 +1,15 @@
 -- The steps of threads, put together from what each part makes of an entry.
-use Rattle.std.proofs.Common.{◌≡◌, ◌≢◌, ◌≤◌, ◌<◌, ◌-◌, ◌∙◌, ◌++◌, zero, suc, ℕ, arith, reverse, ◌==◌, ◌||◌, not, Bool, true, false, cond, drop, get_or, set, List, [], ◌∷◌, length, Option, Some, None, refl, ap, sym, subst}
+use Rattle.std.proofs.Common.{◌≡◌, ◌≢◌, ◌<◌, ◌-◌, ◌∙◌, ◌++◌, zero, suc, ℕ, arith, reverse, ◌==◌, ◌||◌, Bool, true, false, cond, drop, set, List, [], ◌∷◌, length, Option, Some, None, refl, ap, sym, subst}
 use Rattle.std.proofs.lemmas.Bool.{eq-eqb, ne_eqb}
 use Rattle.std.proofs.lemmas.List.{length-set}
 use Rattle.std.proofs.lemmas.Option.{none-some}
 use Rattle.std.specs.List.{All}
-use Rattle.std.specs.Option.{option_map}
 use Rattle.std.specs.Prelude.{IsSome, slice_get}
 use Rattle.st_base.specs.Numbered.{item_at_number}
 use Rattle.st_base.specs.declared.errno.Errno.{Errno}
 use Rattle.st_base.specs.declared.ids.Ids.{Ids}
 use Rattle.st_calls.specs.declared.call.SysCall.{SysCall}
-use Rattle.st_model.specs.Processes.{StartedThread, has_not_ended, is_running, pid_of, thread_at}
+use Rattle.st_model.specs.Processes.{pid_of}
 use Rattle.st_trace.specs.declared.entry.CallResult.TheVariants.{Failed}
 use Rattle.st_trace.specs.declared.entry.Cause.{Cause}
 use Rattle.st_trace.specs.declared.entry.Choice.TheVariants as choice
@@ -24,7 +23,7 @@ use Rattle.st_law.specs.declared.input.Input.{Input}
 use Rattle.st_law.specs.History.{looking_back}
 use Rattle.st_law.specs.Lawful.{IsStored}
 use Rattle.st_law.specs.Machine.{history, running_entry, state_after, thread_after, thread_entry}
-use Rattle.st_law.specs.State.{Message, State, is_live, thread_count}
+use Rattle.st_law.specs.State.{Message, State, is_live}
 use Rattle.st_law.specs.Threads.{body_of, body_of_row, left_at}
 use Rattle.st_law.proofs.Begun.{goes_through}
 use Rattle.st_law.proofs.Laws.{all_at, lawful_history}
@@ -32,50 +31,22 @@ use Rattle.st_law.proofs.Ties.{state-is}
 use Rattle.st_reached.proofs.LifeByEntry.{denied_life}
 use Rattle.st_reached.proofs.Reached.{lawful_entry}
 use Rattle.st_reached.specs.Scripts.{IsInMemory, StoresInMemory}
-use Rattle.st_system.specs.System.{IsAmong, IsSystem, IsThread, Parts}
+use Rattle.st_system.specs.System.{IsSystem, Parts}
 use Rattle.st_workers.specs.Kept.{AreKept, ChangesLife}
 use Rattle.st_workers.specs.UnderWay.{UnderWay}
 use Rattle.st_workers.proofs.Closing.{closing_is_not_kept}
-use Rattle.st_workers.proofs.Turns.{item_here}
-use Rattle.st_machine.specs.Machine.{IsMachine, IsNext, IsRunning, IsStep, Running}
-use Rattle.st_machine.specs.Step.{step_entry}
-use Rattle.st_machine.specs.Thread.{ThreadRow, IsRow, first_row}
-use Rattle.st_machine.specs.declared.step.Step.{Step}
-use Rattle.st_machine.specs.declared.step.Step.TheVariants as steps
-use Rattle.st_machine.specs.declared.step.Use.{Use}
+use Rattle.st_next.specs.Machine.{IsMachine, IsNext, IsRunning, IsStep, Running}
+use Rattle.st_next.specs.Step.{step_entry}
+use Rattle.st_threads.specs.Thread.{ThreadRow, IsRow}
+use Rattle.st_next.specs.declared.step.Step.{Step}
+use Rattle.st_next.specs.declared.step.Step.TheVariants as steps
+use Rattle.st_next.specs.declared.step.Use.{Use}
 use Rattle.st_machine.proofs.After.{AreRows, HasComeAsFar, behind, rows_changed, with_parts}
-use Rattle.st_machine.proofs.NextSteps.{row_of}
-use Rattle.st_machine.proofs.Reached.{reached_of}
-use Rattle.st_machine.proofs.Rows.{none_closed}
+use Rattle.st_next.proofs.NextSteps.{row_of}
+use Rattle.st_next.proofs.Started.{pid_there, row_there}
+use Rattle.st_next.proofs.Reached.{reached_of}
+use Rattle.st_threads.proofs.Rows.{none_closed}
 use Rattle.st_machine.proofs.Served.{same_system}
-
--- ---- the thread that moves
-
-not_ended : (b : Bool) → b ≡ false → not b ≡ true
-not_ended true e = cc
-not_ended false e = refl
-
-module _ (m : Running) (st : State) (is : IsMachine m st) (t : ℕ) (started : (st.threads t).owner ≢ 0) where
-  -- a thread that has started is one of the script's
-  pub row_there : (row : ThreadRow) × (item_at_number m.threads t ≡ Some row)
-  row_there = by (thread_at m.system.processes t) (is.system.threads t) (is.system.among t) where
-    by : (o : Option StartedThread) → IsThread o (st.threads t) → IsAmong (thread_count m.input) t o → (row : ThreadRow) × (item_at_number m.threads t ≡ Some row)
-    by None x among = absurd (started x.0)
-    by (Some thread) x among = (get_or m.threads (t - 1) (first_row []), item_here m.threads t (first_row []) among.0 (subst (λ (n : ℕ). t ≤ n) (sym is.count) among.1))
-
-  -- and has a process
-  pub pid_there : IsSome (pid_of m.system.processes t)
-  pid_there = by (thread_at m.system.processes t) (is.system.threads t) where
-    by : (o : Option StartedThread) → IsThread o (st.threads t) → IsSome (option_map (λ (thread : StartedThread). thread.pid) o)
-    by None x = absurd (started x.0)
-    by (Some thread) x = refl
-
-  -- it runs while it hasn't ended
-  pub runs : (st.threads t).ended ≡ false → is_running m.system.processes t ≡ true
-  runs unended = by (thread_at m.system.processes t) (is.system.threads t) where
-    by : (o : Option StartedThread) → IsThread o (st.threads t) → has_not_ended o ≡ true
-    by None x = absurd (started x.0)
-    by (Some thread) x = not_ended thread.ended (sym x.1 ∙ unended)
 
 -- ---- a thread ends
 

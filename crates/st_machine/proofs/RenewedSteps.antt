@@ -41,21 +41,21 @@ use Rattle.st_trace.specs.declared.entry.Entry.TheVariants.{Used}
 use Rattle.st_workers.specs.Kept.{AreKept, IsKept}
 use Rattle.st_workers.specs.UnderWay.{UnderWay}
 use Rattle.st_workers.proofs.Closing.{closing_is_not_kept}
-use Rattle.st_machine.specs.Ending.{EndsCall, life_without_number, owner_of}
-use Rattle.st_machine.specs.Machine.{IsMachine, IsNext, IsStep, Running}
-use Rattle.st_machine.specs.Making.{request_with}
-use Rattle.st_machine.specs.Renewing.{CanRenew, HaveRenewed, LiveApart, RenewsAll, numbers_from, renewals_from, rows_renewed}
-use Rattle.st_machine.specs.Thread.{ThreadRow, IsRow}
-use Rattle.st_machine.specs.declared.step.Step.TheVariants as steps
-use Rattle.st_machine.specs.declared.step.Use.{Use}
+use Rattle.st_threads.specs.Ending.{EndsCall, life_without_number, owner_of}
+use Rattle.st_next.specs.Machine.{IsMachine, IsNext, IsStep, Running}
+use Rattle.st_next.specs.Making.{request_with}
+use Rattle.st_threads.specs.Renewing.{CanRenew, HaveRenewed, LiveApart, RenewsAll, numbers_from, renewals_from, rows_renewed}
+use Rattle.st_threads.specs.Thread.{ThreadRow, IsRow}
+use Rattle.st_next.specs.declared.step.Step.TheVariants as steps
+use Rattle.st_next.specs.declared.step.Use.{Use}
 use Rattle.st_machine.proofs.After.{AreRows, behind, rows_changed, rows_stand, with_parts}
 use Rattle.st_machine.proofs.Made.{owner_by}
 use Rattle.st_machine.proofs.MadeSteps.{are_closed, has_child, now, request_is, used}
-use Rattle.st_machine.proofs.NextSteps.{owner_is, row_of}
-use Rattle.st_machine.proofs.Reached.{reached_of}
-use Rattle.st_machine.proofs.RenewedLaw.{AreTagged, HaveHeads, SameBut, count_renewed, kept_all, law_renewals, live_apart, message_is, messages_after, renewals_leave, rows_at, rows_from, rows_then, same_numbers, set_numbers, tags_from}
+use Rattle.st_next.proofs.NextSteps.{owner_is, row_of}
+use Rattle.st_next.proofs.Reached.{reached_of}
+use Rattle.st_threads.proofs.RenewedLaw.{AreTagged, HaveHeads, SameBut, count_renewed, kept_all, law_renewals, live_apart, message_is, messages_after, renewals_leave, rows_at, rows_from, rows_then, same_numbers, set_numbers, tags_from}
 use Rattle.st_machine.proofs.Room.{fewer_set}
-use Rattle.st_machine.proofs.Rows.{none_closed}
+use Rattle.st_threads.proofs.Rows.{none_closed}
 
 -- ---- the effect of a call that sets ids
 

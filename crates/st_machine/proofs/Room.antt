@@ -7,7 +7,7 @@ use Rattle.st_law.specs.State.{State}
 use Rattle.st_law.specs.declared.input.Input.{Input}
 use Rattle.st_reached.specs.Reached.{most_numbers}
 use Rattle.st_reached.proofs.NumbersDrawn.{few_drawn}
-use Rattle.st_machine.specs.Machine.{IsMachine, Running}
+use Rattle.st_next.specs.Machine.{IsMachine, Running}
 
 -- no more instructions set ids than there are
 pub fewer_set : (i : Input) → set_id_count i ≤ instruction_count i

@@ -33,12 +33,12 @@ use Rattle.st_workers.specs.UnderWay.{turn_at, UnderWay}
 use Rattle.st_workers.specs.declared.task.Task.TheVariants as tasks
 use Rattle.st_workers.specs.declared.turn.Turn.{Turn}
 use Rattle.st_workers.specs.declared.turn.Turn.TheVariants.{Idle, Working, Ready}
-use Rattle.st_machine.specs.Machine as machine
+use Rattle.st_next.specs.Machine as machine
 use Rattle.st_machine.specs.Serving.{is_applied}
-use Rattle.st_machine.specs.Machine.{HasTask, IsMachine, IsRunning, IsStep, Running}
+use Rattle.st_next.specs.Machine.{HasTask, IsMachine, IsRunning, IsStep, Running}
 use Rattle.st_reached.proofs.Owning.{own_process}
 use Rattle.st_workers.proofs.Ended.{lives_as}
-use Rattle.st_machine.proofs.Reached.{reached_of}
+use Rattle.st_next.proofs.Reached.{reached_of}
 use Rattle.st_machine.proofs.After.{AreRows, behind, with_parts}
 
 -- ---- messages alone

@@ -1,12 +1,1 @@
-pub mod Enabled
-pub mod Ending
-pub mod Entering
-pub mod Holding
-pub mod Machine
-pub mod Making
-pub mod NextSteps
-pub mod Questions
-pub mod Renewing
 pub mod Serving
-pub mod Step
-pub mod Thread

@@ -1,16 +1,16 @@
 // The steps of threads: each makes of the machine what its entry says, and leaves the entry in the caller's place for it. An entry has many
 // words, so that it is written once and not handed on.
 ghost use Rattle.std.specs.Prelude.{◌≡◌, ◌≢◌, OnOk, OnErr, Some};
-ghost use Rattle.st_machine.specs.Machine.{IsNext, IsStep, Stands};
-ghost use Rattle.st_machine.specs.NextSteps.{CanBeDone};
+ghost use Rattle.st_next.specs.Machine.{IsNext, IsStep, Stands};
+ghost use Rattle.st_next.specs.NextSteps.{CanBeDone};
 ghost use Rattle.st_model.specs.Processes.{pid_of, IsPid};
-ghost use Rattle.st_machine.specs.declared.step.Step.TheVariants as steps;
+ghost use Rattle.st_next.specs.declared.step.Step.TheVariants as steps;
 ghost use Rattle.st_trace.specs.declared.entry.Choice.TheVariants.{Thread};
 
 use crate::machine::Machine;
-use crate::step::{Step, Use};
 use st_base::{Errno, Ids, Pid, Seq, Sequence, Tid};
 use st_calls::SysCall;
+use st_next::{Step, Use};
 use st_trace::{CallArgs, CallResult, Cause, Entry};
 use std::alloc::{AllocError, Global};
 
@@ -166,7 +166,7 @@ impl<'a> Machine<'a> {
         ensures err { OnErr result (Stands self.old self.new) }
         ensures input { self.new.input ≡ self.old.input }
     {
-        let step = self.next_step(alloc, tid)?;
+        let step = self.view().next_step(alloc, tid)?;
         if let Step::Wait = step {
             *added = None;
             return Ok(());

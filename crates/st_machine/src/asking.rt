@@ -1,132 +1,13 @@
-// Questions, and what the operator answers.
-ghost use Rattle.std.specs.Prelude.{◌≡◌, ◌&&◌, is_some, IfOk, OnOk, OnErr};
-ghost use Rattle.st_law.specs.Machine.{entry_of};
-ghost use Rattle.st_law.specs.State.{State, is_undecided};
-ghost use Rattle.st_machine.specs.Machine.{IsMachine, IsStep, Stands};
-ghost use Rattle.st_learn.specs.Deciding.{lesser};
-ghost use Rattle.st_machine.specs.Questions.{is_at_most, is_unmatched, least_held, said_later, IsLeastFound, IsLeastWith, IsQuestion};
-ghost use Rattle.st_operator.specs.Operator.{answers};
+// What the operator answers.
+ghost use Rattle.std.specs.Prelude.{◌≡◌, OnOk, OnErr};
+ghost use Rattle.st_next.specs.Machine.{IsStep, Stands};
 ghost use Rattle.st_trace.specs.declared.entry.Choice.TheVariants.{Operator};
 
 use crate::machine::Machine;
-use st_base::{Seq, Shared};
-use st_calls::{Snapshot, Verdict};
-use st_messages::MsgState;
 use st_trace::Entry;
 use std::alloc::{AllocError, Global};
 
-// Whether a message was answered, and no filter that was read decides.
-fn is_unmatched(state: Option<MsgState>) -> bool
-    ensures { result ≡ is_unmatched state }
-{
-    matches!(state, Some(MsgState::Answered(Verdict::Unmatched)))
-}
-
-// Whether a verdict is none.
-fn is_undecided(verdict: Verdict) -> bool
-    ensures { result ≡ is_undecided verdict }
-{
-    matches!(verdict, Verdict::Unmatched)
-}
-
-// Whether a question was found, with this number or a smaller one.
-fn is_at_most(least: &Option<Shared<Snapshot>>, seq: Seq) -> bool
-    ensures { result ≡ is_at_most least.now seq }
-{
-    match least {
-        Some(copies) => copies.get().seq <= seq,
-        None => false,
-    }
-}
-
-// The lesser of two numbers, where there are some.
-fn lesser_number(one: Option<Seq>, other: Option<Seq>) -> Option<Seq>
-    ensures { result ≡ lesser one other }
-{
-    match (one, other) {
-        (None, _) => other,
-        (Some(_), None) => one,
-        (Some(a), Some(b)) => { if b < a { other } else { one } }
-    }
-}
-
 impl<'a> Machine<'a> {
-    // Whether the session doesn't decide on a call with these copies either, and the operator answers.
-    fn is_asked(&self, copies: &Snapshot) -> bool
-        ensures { result ≡ (is_undecided (said_later self.now copies.now) && answers self.now.input self.now.operator copies.now) }
-    {
-        is_undecided(self.operator.verdict(&self.input.policies, copies))
-            && self.operator.answers(self.input, copies)
-    }
-
-    // The copies of a number that is a question: it is answered, no filter decides, and the operator answers.
-    pub(crate) fn question(
-        &self,
-        alloc: Global,
-        seq: Seq,
-    ) -> Result<Option<Shared<Snapshot>>, AllocError>
-        ensures { IfOk result (IsQuestion self.now seq) }
-    {
-        if !is_unmatched(self.workers.state(seq)) {
-            return Ok(None);
-        }
-        let copies = self.workers.snapshot(alloc, seq)?;
-        if !self.is_asked(copies.get()) {
-            return Ok(None);
-        }
-        Ok(Some(copies))
-    }
-
-    // The lesser of two questions: one that was found, and this number, if it is one.
-    fn lesser(
-        &self,
-        alloc: Global,
-        least: Option<Shared<Snapshot>>,
-        seq: Seq,
-    ) -> Result<Option<Shared<Snapshot>>, AllocError>
-        ensures { IfOk result (IsLeastWith self.now least seq) }
-    {
-        let _ = &self.input;
-        if is_at_most(&least, seq) {
-            return Ok(least);
-        }
-        Ok(self.question(alloc, seq)?.or(least))
-    }
-
-    // The least number that a thread holds.
-    fn least_held(&self) -> Option<Seq>
-        ensures { result ≡ least_held self.now.threads }
-    {
-        let mut least = None;
-        for thread in &self.threads {
-            least = lesser_number(least, thread.number_held());
-        }
-        least
-    }
-
-    // The copies of the least question. Mostly it is the least number that is held, and then the copies of no other are looked at.
-    fn least_question(&self, alloc: Global) -> Result<Option<Shared<Snapshot>>, AllocError>
-        ensures { IfOk result (IsLeastFound self.now) }
-    {
-        let mut least = match self.least_held() {
-            Some(seq) => self.question(alloc, seq)?,
-            None => None,
-        };
-        for thread in &self.threads {
-            if let Some(seq) = thread.number_held() {
-                least = self.lesser(alloc, least, seq)?;
-            }
-        }
-        Ok(least)
-    }
-
-    /// Whether the operator can answer: there is a question.
-    pub fn can_ask(&self, alloc: Global) -> Result<bool, AllocError>
-        ensures { IfOk result (λ can. (st : State) → IsMachine self.now st → can ≡ is_some (entry_of self.now.input st Operator)) }
-    {
-        Ok(self.least_question(alloc)?.is_some())
-    }
-
     /// The operator answers the least question, and leaves the entry that this adds; none where there is no question. Without memory nothing
     /// changes.
     pub fn ask(&mut self, alloc: Global, added: &mut Option<Entry>) -> Result<(), AllocError>
@@ -134,7 +15,7 @@ impl<'a> Machine<'a> {
         ensures err { OnErr result (Stands self.old self.new) }
         ensures input { self.new.input ≡ self.old.input }
     {
-        let Some(copies) = self.least_question(alloc)? else {
+        let Some(copies) = self.view().least_question(alloc)? else {
             *added = None;
             return Ok(());
         };

@@ -1,6 +1,6 @@
 // Choices: each is made by its thread, its worker or the operator.
 ghost use Rattle.std.specs.Prelude.{◌≡◌, OnOk, OnErr};
-ghost use Rattle.st_machine.specs.Machine.{IsStep, Stands};
+ghost use Rattle.st_next.specs.Machine.{IsStep, Stands};
 ghost use Rattle.st_trace.specs.declared.entry.Choice.TheVariants as choices;
 
 use crate::machine::Machine;

@@ -1,59 +1,19 @@
 // Calls are entered: fast, barred, untraced, or held under the next number.
 ghost use Rattle.std.specs.Prelude.{◌≡◌, ◌<◌, ◌-◌, ◌^◌, Some, IfOk, OnOk, OnErr};
-ghost use Rattle.st_machine.specs.Entering.{IsHeadOf, IsUnposted, IsWayOf};
-ghost use Rattle.st_machine.specs.Machine.{IsNext, IsStep, Stands};
-ghost use Rattle.st_machine.specs.declared.step.Step.TheVariants as steps;
+ghost use Rattle.st_next.specs.Entering.{IsUnposted, IsWayOf};
+ghost use Rattle.st_next.specs.Machine.{IsNext, IsStep, Stands};
+ghost use Rattle.st_next.specs.declared.step.Step.TheVariants as steps;
 ghost use Rattle.st_model.specs.Processes.{pid_of, IsPid};
 ghost use Rattle.st_trace.specs.declared.entry.Choice.TheVariants.{Thread};
 ghost use Rattle.st_trace.specs.declared.entry.Way.TheVariants.{Held};
 
 use crate::machine::Machine;
 use st_base::{Pid, Seq, Tid};
-use st_calls::{FastAnswer, Rule, SysCall};
-use st_lookaside::Head;
+use st_calls::SysCall;
 use st_trace::{Entry, Way};
 use std::alloc::{AllocError, Global};
 
 impl<'a> Machine<'a> {
-    // How a thread's call goes on. One that has to be judged is held under the next number.
-    fn way_of(&self, tid: Tid, pid: Pid, call: SysCall, regs: &[u64; 6]) -> Way
-        requires process { pid_of self.now.system.processes tid ≡ Some pid }
-        requires there { IsPid self.now.system.processes pid }
-        ensures { IsWayOf self.now tid call regs.now result }
-    {
-        if !self.system.traced(pid) {
-            return Way::Untraced;
-        }
-        match self.answer(pid, call, regs) {
-            FastAnswer::Permit => Way::Fast,
-            FastAnswer::Refuse(_) => Way::Barred(1),
-            FastAnswer::Ask => Way::Held(self.workers.next_seq()),
-        }
-    }
-
-    // The head of the message of a process's call, under this number.
-    fn head_of(
-        &self,
-        seq: Seq,
-        pid: Pid,
-        call: SysCall,
-        regs: &[u64; 6],
-    ) -> Result<Head, AllocError>
-        requires { IsPid self.now.system.processes pid }
-        ensures { IfOk result (IsHeadOf self.now seq pid call regs.now) }
-    {
-        Ok(Head {
-            seq,
-            pid,
-            ids: self.system.ids(pid),
-            cwd: self.system.cwd(pid).share()?,
-            policy: self.system.policy(pid).share()?,
-            rule: Rule::of(call, regs, self.input.options.aliasing),
-            call,
-            regs: *regs,
-        })
-    }
-
     // A thread enters a call that isn't held.
     fn enter_unheld(
         &mut self,
@@ -97,7 +57,7 @@ impl<'a> Machine<'a> {
         ensures err { OnErr result (Stands self.old self.new) }
         ensures input { self.new.input ≡ self.old.input }
     {
-        let head = self.head_of(seq, pid, call, &regs)?;
+        let head = self.view().head_of(seq, pid, call, &regs)?;
         self.workers.post(alloc, tid, head)?;
         let way = Way::Held(seq);
         self.threads[tid as usize - 1].enter(call, regs, way);
@@ -127,7 +87,7 @@ impl<'a> Machine<'a> {
         ensures err { OnErr result (Stands self.old self.new) }
         ensures input { self.new.input ≡ self.old.input }
     {
-        let way = self.way_of(tid, pid, call, &regs);
+        let way = self.view().way_of(tid, pid, call, &regs);
         match way {
             Way::Held(seq) => self.enter_held(alloc, tid, pid, call, regs, seq, added),
             Way::Fast | Way::Barred(_) | Way::Untraced => {

@@ -1,22 +1,23 @@
-ghost use Rattle.std.specs.Prelude.{◌≡◌, ◌≤◌, ◌<◌, ◌-◌, ℕ, IfSome, IfOk, Option, None, Some, length, map};
-ghost use Rattle.st_base.specs.Numbered.{item_at_number};
-ghost use Rattle.st_filter.specs.Policies.{policy_of};
+ghost use Rattle.std.specs.Prelude.{◌≡◌, IfOk, map};
 ghost use Rattle.st_law.specs.Inputs.{IsStartable};
 ghost use Rattle.st_law.specs.Machine.{first_state};
-ghost use Rattle.st_law.specs.State.{State, thread_count};
-ghost use Rattle.st_machine.specs.Machine.{IsMachine};
-ghost use Rattle.st_machine.specs.Thread.{first_row};
+ghost use Rattle.st_law.specs.State.{State, is_live};
+ghost use Rattle.st_compile.specs.Table.{IsTableOf};
+ghost use Rattle.st_operator.specs.Operator.{IsAdded};
+ghost use Rattle.st_workers.specs.Kept.{IsKept};
+ghost use Rattle.st_next.specs.Machine.{IsMachine};
+ghost use Rattle.st_threads.specs.Thread.{first_row};
 ghost use Rattle.st_reached.specs.Grants.{RepliesUngranted, SetIdsUngranted};
 ghost use Rattle.st_reached.specs.Scripts.{IsBounded};
 ghost use Rattle.st_system.specs.Start.{CanStart};
 
-use crate::thread::Thread;
-use st_base::Tid;
 use st_compile::FastTable;
 use st_law::Input;
 use st_learn::Session;
+use st_next::View;
 use st_operator::Operator;
 use st_system::System;
+use st_threads::Thread;
 use st_trace::ThreadRow;
 use st_workers::Workers;
 use std::alloc::{AllocError, Global};
@@ -38,7 +39,7 @@ pub struct Machine<'a> {
 impl<'a> Model for Machine<'a> {
     ghost use Rattle.std.specs.Coded.{codes};
     ghost use Rattle.st_filter.specs.FormulaCode.{formula_code};
-    ghost use Rattle.st_machine.specs.Machine.{IsRunning, Running};
+    ghost use Rattle.st_next.specs.Machine.{IsRunning, Running};
 
     ghost Value = { Running };
 
@@ -58,6 +59,30 @@ fn threads_of<'a>(alloc: Global, rows: &'a [ThreadRow]) -> Result<Vec<Thread<'a>
         .collect(alloc)
 }
 
+// The workers and the threads of an input, before their first step.
+fn workers_and_threads<'a>(
+    alloc: Global,
+    input: &'a Input,
+) -> Result<(Workers, Vec<Thread<'a>>), AllocError>
+    ensures workers { IfOk result (λ both. IsKept input.now (first_state input.now) (is_live (first_state input.now)) both.0) }
+    ensures threads { IfOk result (λ both. both.1.items ≡ map (λ row. first_row row.body) input.now.start.threads) }
+{
+    let threads = threads_of(alloc, input.start.threads.as_slice())?;
+    Ok((Workers::new(alloc, input.options.workers)?, threads))
+}
+
+// The kernel's own answers under the policies of an input, and what the operator has added before the first step.
+fn answers_and_operator<'a>(
+    alloc: Global,
+    input: &'a Input,
+) -> Result<(FastTable, Operator<'a>), AllocError>
+    ensures answers { IfOk result (λ both. IsTableOf input.now.policies both.0) }
+    ensures operator { IfOk result (λ both. IsAdded input.now (first_state input.now) both.1) }
+{
+    let answers = FastTable::build(alloc, &input.policies)?;
+    Ok((answers, Operator::new(alloc, input.replies.as_slice())?))
+}
+
 impl<'a> Machine<'a> {
     /// The machine that a run of an input starts with.
     pub fn start(alloc: Global, input: &'a Input) -> Result<Self, AllocError>
@@ -69,13 +94,15 @@ impl<'a> Machine<'a> {
         ensures input { IfOk result (λ machine. machine.input ≡ input.now) }
         ensures first { IfOk result (λ machine. IsMachine machine (first_state input.now)) }
     {
+        let (workers, threads) = workers_and_threads(alloc, input)?;
+        let (answers, operator) = answers_and_operator(alloc, input)?;
         Ok(Machine {
             input,
             system: System::start(alloc, input)?,
-            workers: Workers::new(alloc, input.options.workers)?,
-            threads: threads_of(alloc, input.start.threads.as_slice())?,
-            answers: FastTable::build(alloc, &input.policies)?,
-            operator: Operator::new(alloc, input.replies.as_slice())?,
+            workers,
+            threads,
+            answers,
+            operator,
         })
     }
 
@@ -93,29 +120,17 @@ impl<'a> Machine<'a> {
         self.operator.session()
     }
 
-    // How far a thread has come; none exactly where the script has no such thread.
-    pub(crate) fn thread(&self, tid: Tid) -> Option<&Thread<'a>>
-        ensures none { result ≡ None → item_at_number self.now.threads tid ≡ None }
-        ensures some { IfSome result (λ thread. item_at_number self.now.threads tid ≡ Some thread.now) }
+    /// The machine as it stands, to be looked at.
+    pub fn view(&self) -> View<'_, 'a>
+        ensures { result ≡ self.now }
     {
-        self.threads.get((tid as usize).checked_sub(1)?)
-    }
-
-    /// How many threads the script has.
-    pub fn thread_count(&self) -> u32
-        ensures count { result ≡ thread_count self.now.input }
-        ensures threads { result ≡ length self.now.threads }
-        ensures few { result ≤ 64 }
-    {
-        self.threads.len() as u32
-    }
-
-    /// How many workers there are.
-    pub fn worker_count(&self) -> u32
-        ensures workers { result ≡ self.now.workers.calls.workers }
-        ensures input { result ≡ self.now.input.options.workers }
-        ensures few { result ≤ 8 }
-    {
-        self.workers.workers()
+        View::new(
+            self.input,
+            &self.system,
+            &self.workers,
+            &self.threads,
+            &self.answers,
+            &self.operator,
+        )
     }
 }

@@ -1,6 +1,6 @@
 // The steps of workers: each makes of the messages what its entry says, and leaves the entry with the caller.
 ghost use Rattle.std.specs.Prelude.{◌≡◌, ◌<◌, ℕ, Some, OnOk, OnErr};
-ghost use Rattle.st_machine.specs.Machine.{HasTask, IsStep, Stands};
+ghost use Rattle.st_next.specs.Machine.{HasTask, IsStep, Stands};
 ghost use Rattle.st_machine.specs.Serving.{is_applied};
 ghost use Rattle.st_messages.specs.Messages.{IsWorker};
 ghost use Rattle.st_trace.specs.declared.entry.Choice.TheVariants.{Worker};

@@ -1,5 +1,5 @@
 use Rattle.std.proofs.Common.{◌≡◌, ◌≤◌, ◌<◌, ℕ, false}
-use Rattle.st_machine.specs.Holding.{is_alike, message_held}
+use Rattle.st_next.specs.Holding.{is_alike, message_held}
 use Rattle.st_kernel.proofs.waking.first_alike.Given as goal
 
 -- none of the threads so far holds such a call

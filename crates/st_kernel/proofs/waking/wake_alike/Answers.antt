@@ -1,5 +1,5 @@
-use Rattle.std.proofs.Common.{◌≡◌, ◌∙◌, ◌≤◌, ◌<◌, arith, suc, length, refl, ap, sym, subst, ◌+◌}
-use Rattle.st_machine.specs.Holding.{is_alike, message_held}
+use Rattle.std.proofs.Common.{◌∙◌, arith, suc, length, refl, ap, sym, subst, ◌+◌}
+use Rattle.st_next.specs.Holding.{is_alike, message_held}
 use Rattle.st_kernel.proofs.Woken.{IsWokenTo, all_woken, marked, nothing_held, passed}
 use Rattle.st_kernel.proofs.waking.wake_alike.Goals as goal
 use Rattle.st_kernel.proofs.waking.wake_alike.Goals.{then-holds_alike, else-holds_alike}

@@ -1,5 +1,5 @@
 use Rattle.std.proofs.Common.{◌≡◌, ◌≤◌, suc, length}
-use Rattle.st_machine.specs.Holding.{is_alike, message_held}
+use Rattle.st_next.specs.Holding.{is_alike, message_held}
 use Rattle.st_kernel.proofs.Woken.{IsWokenTo}
 use Rattle.st_kernel.proofs.waking.wake_alike.Given as goal
 

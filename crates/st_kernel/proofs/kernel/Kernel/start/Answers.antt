@@ -5,7 +5,7 @@ use Rattle.st_kernel.proofs.kernel.Kernel.start.Goals as goal
 
 pub invariant_of-result : goal.invariant_of-result
 invariant_of-result c =
-    let marks : c.in_ok-asleep.asleep.items ≡ replicate c.thread_count.result false = c.in_ok-asleep.ensures.items_if_clones_equal (λ y same. search rules) in
+    let marks : c.in_ok-asleep.asleep.items ≡ replicate c.len.result false = c.in_ok-asleep.ensures.items_if_clones_equal (λ y same. search rules) in
     let none : c.new.result.items ≡ [] = c.new.ensures.items in
     record {
       machine = search rules;
@@ -14,6 +14,6 @@ invariant_of-result c =
       still = search rules;
       from = search rules;
       to = search rules;
-      marked = λ place is. absurd (true≢false (sym is ∙ ap (λ (asleep : List Bool). is_asleep asleep place) marks ∙ nobody_asleep c.thread_count.result place));
+      marked = λ place is. absurd (true≢false (sym is ∙ ap (λ (asleep : List Bool). is_asleep asleep place) marks ∙ nobody_asleep c.len.result place));
       count = search rules;
     }

@@ -1,5 +1,5 @@
 use Rattle.std.proofs.Common.{◌∙◌, ap, sym}
-use Rattle.st_machine.specs.Holding.{is_held_alike}
+use Rattle.st_next.specs.Holding.{is_held_alike}
 use Rattle.st_kernel.specs.Waking.{is_woken}
 use Rattle.st_kernel.proofs.waking.Woken.wake.Goals as goal
 

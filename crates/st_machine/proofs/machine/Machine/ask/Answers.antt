@@ -1,9 +1,10 @@
 use Rattle.std.proofs.Common.{◌∙◌, Some, ap, sym, subst}
 use Rattle.st_calls.specs.declared.judged.Snapshot.{Snapshot}
 use Rattle.st_trace.specs.declared.entry.Choice.TheVariants.{Operator}
-use Rattle.st_machine.specs.Machine.{IsStep, Running}
-use Rattle.st_machine.specs.Questions.{IsLeastFound}
-use Rattle.st_machine.proofs.Asked.{answered_on, answers_here, with_operator}
+use Rattle.st_next.specs.Machine.{IsStep, Running}
+use Rattle.st_next.specs.Questions.{IsLeastFound}
+use Rattle.st_next.proofs.Asked.{answers_here}
+use Rattle.st_machine.proofs.Answered.{answered_on, with_operator}
 use Rattle.st_machine.proofs.Served.{running_step}
 use Rattle.st_machine.proofs.machine.Machine.ask.Goals as goal
 
@@ -13,20 +14,20 @@ answer-requires c =
     let st = c.self.invariant.state in
     let is = c.self.invariant.is in
     let copies : Snapshot = c.get.result.now in
-    let x : IsLeastFound m (Some copies) = subst (λ (k : Running). IsLeastFound k (Some copies)) (sym c.self.view_is) (subst (IsLeastFound c.args.self.now) (c.in-Some.is ∙ ap Some (sym c.get.ensures)) c.in_ok-copies.ensures) in
+    let x : IsLeastFound m (Some copies) = subst (λ (k : Running). IsLeastFound k (Some copies)) (sym c.self.view_is) (subst (λ (k : Running). IsLeastFound k (Some copies)) c.view.ensures (subst (IsLeastFound c.view.result) (c.in-Some.is ∙ ap Some (sym c.get.ensures)) c.in_ok-copies.ensures)) in
     answers_here m st is copies (x st is).0 (x st is).1 (x st is).2
 
 pub invariant_of-self-2 : goal.invariant_of-self-2
 invariant_of-self-2 c =
     let m : Running = record { input = c.self.inside.input.now; system = c.self.inside.system; workers = c.self.inside.workers; threads = c.self.inside.threads.items; answers = c.self.inside.answers; operator = c.self.inside.operator } in
     let copies : Snapshot = c.get.result.now in
-    let x : IsLeastFound m (Some copies) = subst (λ (k : Running). IsLeastFound k (Some copies)) (sym c.self.view_is) (subst (IsLeastFound c.args.self.now) (c.in-Some.is ∙ ap Some (sym c.get.ensures)) c.in_ok-copies.ensures) in
+    let x : IsLeastFound m (Some copies) = subst (λ (k : Running). IsLeastFound k (Some copies)) (sym c.self.view_is) (subst (λ (k : Running). IsLeastFound k (Some copies)) c.view.ensures (subst (IsLeastFound c.view.result) (c.in-Some.is ∙ ap Some (sym c.get.ensures)) c.in_ok-copies.ensures)) in
     running_step m (with_operator m c.answer.new.self) Operator c.in_ok-answer.field-0 c.self.invariant (answered_on m c.answer.new.self copies c.in_ok-answer.field-0 x c.in_ok-answer.ensures.law)
 
 pub returns-clause-step : goal.returns-clause-step
 returns-clause-step c =
     let m : Running = record { input = c.self.inside.input.now; system = c.self.inside.system; workers = c.self.inside.workers; threads = c.self.inside.threads.items; answers = c.self.inside.answers; operator = c.self.inside.operator } in
     let copies : Snapshot = c.get.result.now in
-    let x : IsLeastFound m (Some copies) = subst (λ (k : Running). IsLeastFound k (Some copies)) (sym c.self.view_is) (subst (IsLeastFound c.args.self.now) (c.in-Some.is ∙ ap Some (sym c.get.ensures)) c.in_ok-copies.ensures) in
+    let x : IsLeastFound m (Some copies) = subst (λ (k : Running). IsLeastFound k (Some copies)) (sym c.self.view_is) (subst (λ (k : Running). IsLeastFound k (Some copies)) c.view.ensures (subst (IsLeastFound c.view.result) (c.in-Some.is ∙ ap Some (sym c.get.ensures)) c.in_ok-copies.ensures)) in
     subst (λ (k : Running). IsStep k Operator (Some c.in_ok-answer.field-0) (with_operator m c.answer.new.self)) c.self.view_is
     (answered_on m c.answer.new.self copies c.in_ok-answer.field-0 x c.in_ok-answer.ensures.law)

@@ -1,7 +1,7 @@
 use Rattle.std.proofs.Common.{Some, sym, subst}
 use Rattle.st_trace.specs.declared.entry.Choice.TheVariants as choice
 use Rattle.st_trace.specs.declared.entry.Entry.TheVariants as entry
-use Rattle.st_machine.specs.Machine.{HasTask, IsStep, Running, Stands}
+use Rattle.st_next.specs.Machine.{HasTask, IsStep, Running, Stands}
 use Rattle.st_machine.proofs.Served.{copied, process_there, on_err, running_stands, running_step, stands_so, with_workers}
 use Rattle.st_workers.specs.declared.task.Task.TheVariants as tasks
 use Rattle.st_machine.proofs.machine.Machine.copy.Goals as goal

@@ -5,9 +5,9 @@ use Rattle.st_trace.specs.declared.entry.Entry.TheVariants as entry
 use Rattle.st_law.specs.State.{is_live}
 use Rattle.st_workers.proofs.Ended.{lives_as}
 use Rattle.st_workers.proofs.Turns.{number_within, read_is}
-use Rattle.st_machine.specs.Machine.{IsNext, IsStep, Running}
-use Rattle.st_machine.specs.Thread.{ThreadRow}
-use Rattle.st_machine.specs.declared.step.Step.TheVariants as steps
+use Rattle.st_next.specs.Machine.{IsNext, IsStep, Running}
+use Rattle.st_threads.specs.Thread.{ThreadRow}
+use Rattle.st_next.specs.declared.step.Step.TheVariants as steps
 use Rattle.st_machine.proofs.After.{with_parts}
 use Rattle.st_machine.proofs.Moving.{denied_lives, denied_step, row_here}
 use Rattle.st_machine.proofs.Served.{running_step}

@@ -3,9 +3,9 @@ use Rattle.st_base.specs.Numbered.{item_at_number}
 use Rattle.st_trace.specs.declared.entry.Choice.TheVariants as choice
 use Rattle.st_trace.specs.declared.entry.Entry.TheVariants as entry
 use Rattle.st_workers.proofs.Turns.{number_within, read_is}
-use Rattle.st_machine.specs.Machine.{IsNext, IsStep, Running}
-use Rattle.st_machine.specs.Thread.{ThreadRow}
-use Rattle.st_machine.specs.declared.step.Step.TheVariants as steps
+use Rattle.st_next.specs.Machine.{IsNext, IsStep, Running}
+use Rattle.st_threads.specs.Thread.{ThreadRow}
+use Rattle.st_next.specs.declared.step.Step.TheVariants as steps
 use Rattle.st_machine.proofs.After.{with_parts}
 use Rattle.st_machine.proofs.Moving.{ended_step, row_here}
 use Rattle.st_machine.proofs.Served.{running_step}

@@ -8,14 +8,14 @@ use Rattle.st_law.specs.Messages.{new_head}
 use Rattle.st_law.specs.State.{State}
 use Rattle.st_workers.specs.Kept.{head_of}
 use Rattle.st_workers.proofs.Turns.{read_is}
-use Rattle.st_machine.specs.Entering.{IsHeadOf, IsWayOf}
-use Rattle.st_machine.specs.Machine.{IsMachine, IsNext, IsStep, Running, Stands}
-use Rattle.st_machine.specs.Thread.{ThreadRow, row_entered}
-use Rattle.st_machine.specs.declared.step.Step.TheVariants as steps
+use Rattle.st_next.specs.Entering.{IsHeadOf, IsWayOf}
+use Rattle.st_next.specs.Machine.{IsMachine, IsNext, IsStep, Running, Stands}
+use Rattle.st_threads.specs.Thread.{ThreadRow, row_entered}
+use Rattle.st_next.specs.declared.step.Step.TheVariants as steps
 use Rattle.st_machine.proofs.After.{with_parts}
 use Rattle.st_machine.proofs.Entered.{held_step, next_number, no_number}
 use Rattle.st_machine.proofs.Moving.{row_entering}
-use Rattle.st_machine.proofs.NextSteps.{owner_is}
+use Rattle.st_next.proofs.NextSteps.{owner_is}
 use Rattle.st_machine.proofs.Room.{room_left}
 use Rattle.st_machine.proofs.Served.{on_err, running_stands, running_step, stands_so, with_workers}
 use Rattle.st_machine.proofs.machine.Machine.enter_held.Goals as goal
@@ -72,7 +72,7 @@ put c = c.enter.ensures ∙ ap (λ (r : ThreadRow). row_entered r c.args.call c.
 -- the head is that of the law's machine
 head : (c : goal.Joined-added) (st : State) → IsMachine (old c) st → head_of c.args.tid c.in_ok-head.head ≡ new_head (old c).input c.args.tid (st.threads c.args.tid).owner (st.processes (st.threads c.args.tid).owner) c.args.call c.args.regs
 head c st is =
-    let posted : IsHeadOf (old c) c.args.seq c.args.pid c.args.call c.args.regs c.in_ok-head.head = subst (λ (k : Running). IsHeadOf k c.args.seq c.args.pid c.args.call c.args.regs c.in_ok-head.head) (sym c.self.view_is) c.in_ok-head.ensures in
+    let posted : IsHeadOf (old c) c.args.seq c.args.pid c.args.call c.args.regs c.in_ok-head.head = subst (λ (k : Running). IsHeadOf k c.args.seq c.args.pid c.args.call c.args.regs c.in_ok-head.head) (c.view.ensures ∙ sym c.self.view_is) c.in_ok-head.ensures in
     let process = ap (λ (k : Running). pid_of k.system.processes c.args.tid) c.self.view_is ∙ c.requires.process in
     posted.law st c.args.tid is ∙ ap (λ (pid : ℕ). new_head (old c).input c.args.tid pid (st.processes pid) c.args.call c.args.regs) (sym (owner_is (old c) st is c.args.tid c.args.pid process))
 

@@ -3,10 +3,10 @@ use Rattle.st_base.specs.Numbered.{item_at_number}
 use Rattle.st_trace.specs.declared.entry.Choice.TheVariants as choice
 use Rattle.st_trace.specs.declared.entry.Entry.TheVariants as entry
 use Rattle.st_workers.proofs.Turns.{number_within, read_is}
-use Rattle.st_machine.specs.Entering.{IsWayOf}
-use Rattle.st_machine.specs.Machine.{IsNext, IsStep, Running}
-use Rattle.st_machine.specs.Thread.{ThreadRow, row_entered}
-use Rattle.st_machine.specs.declared.step.Step.TheVariants as steps
+use Rattle.st_next.specs.Entering.{IsWayOf}
+use Rattle.st_next.specs.Machine.{IsNext, IsStep, Running}
+use Rattle.st_threads.specs.Thread.{ThreadRow, row_entered}
+use Rattle.st_next.specs.declared.step.Step.TheVariants as steps
 use Rattle.st_machine.proofs.After.{with_parts}
 use Rattle.st_machine.proofs.Entered.{unheld_step}
 use Rattle.st_machine.proofs.Moving.{row_entering}

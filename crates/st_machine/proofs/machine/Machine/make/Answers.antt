@@ -9,11 +9,11 @@ use Rattle.st_trace.specs.declared.entry.Choice.TheVariants as choice
 use Rattle.st_trace.specs.declared.entry.Entry.{Entry}
 use Rattle.st_trace.specs.declared.entry.Entry.TheVariants as entry
 use Rattle.st_workers.proofs.Turns.{read_is, whole_again}
-use Rattle.st_machine.specs.Ending.{HaveCalls, HaveEnded, is_ended_by}
-use Rattle.st_machine.specs.Machine.{IsNext, IsRunning, IsStep, Running}
-use Rattle.st_machine.specs.Making.{request_with}
-use Rattle.st_machine.specs.Thread.{ThreadRow}
-use Rattle.st_machine.specs.declared.step.Step.TheVariants as steps
+use Rattle.st_threads.specs.Ending.{HaveCalls, HaveEnded, is_ended_by}
+use Rattle.st_next.specs.Machine.{IsNext, IsRunning, IsStep, Running}
+use Rattle.st_next.specs.Making.{request_with}
+use Rattle.st_threads.specs.Thread.{ThreadRow}
+use Rattle.st_next.specs.declared.step.Step.TheVariants as steps
 use Rattle.st_machine.proofs.After.{with_parts}
 use Rattle.st_machine.proofs.MadeSteps.{calls_closed, making, seq_there}
 use Rattle.st_machine.proofs.Moving.{row_making}
@@ -55,7 +55,7 @@ closed c = c.deref_mut.ensures.value
 
 done : (c : goal.Joined-added) → IsDone c.args.made.call (request_with (old c) c.args.tid c.args.pid c.args.made) c.in_ok-outcome.outcome (old c).system c.execute.new.self
 done c = subst (λ (request : Request). IsDone c.args.made.call request c.in_ok-outcome.outcome (old c).system c.execute.new.self)
-    (c.request_with-request.ensures ∙ ap (λ (k : Running). request_with k c.args.tid c.args.pid c.args.made) (sym c.self.view_is)) c.in_ok-outcome.ensures.done
+    (c.request_with-request.ensures ∙ ap (λ (k : Running). request_with k c.args.tid c.args.pid c.args.made) (c.view.ensures ∙ sym c.self.view_is)) c.in_ok-outcome.ensures.done
 
 over : (c : goal.Joined-added) → HaveEnded (is_ended_by c.execute.new.self.processes c.args.tid c.args.pid c.in_ok-outcome.outcome.changes) (set (old c).threads (c.args.tid - 1) (record (row c).0 { pending = None })) c.end_call.new.workers c.end_by_all.new.threads c.end_by_all.new.workers
 over c = subst (λ (rows : List ThreadRow). HaveEnded (is_ended_by c.execute.new.self.processes c.args.tid c.args.pid c.in_ok-outcome.outcome.changes) rows c.end_call.new.workers c.end_by_all.new.threads c.end_by_all.new.workers) (closed c)

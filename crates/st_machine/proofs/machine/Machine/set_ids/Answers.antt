@@ -12,15 +12,15 @@ use Rattle.st_trace.specs.declared.entry.Choice.TheVariants as choice
 use Rattle.st_trace.specs.declared.entry.Entry.{Entry}
 use Rattle.st_trace.specs.declared.entry.Entry.TheVariants as entry
 use Rattle.st_workers.proofs.Turns.{read_is, whole_again}
-use Rattle.st_machine.specs.Machine.{IsNext, IsRunning, IsStep, Running}
-use Rattle.st_machine.specs.Making.{request_with}
-use Rattle.st_machine.specs.Renewing.{CanRenew, HaveRenewed, numbers_from, renewals_from}
-use Rattle.st_machine.specs.Thread.{ThreadRow}
-use Rattle.st_machine.specs.declared.step.Step.TheVariants as steps
+use Rattle.st_next.specs.Machine.{IsNext, IsRunning, IsStep, Running}
+use Rattle.st_next.specs.Making.{request_with}
+use Rattle.st_threads.specs.Renewing.{CanRenew, HaveRenewed, numbers_from, renewals_from}
+use Rattle.st_threads.specs.Thread.{ThreadRow}
+use Rattle.st_next.specs.declared.step.Step.TheVariants as steps
 use Rattle.st_machine.proofs.After.{with_parts}
 use Rattle.st_machine.proofs.MadeSteps.{seq_there}
 use Rattle.st_machine.proofs.Moving.{row_making}
-use Rattle.st_machine.proofs.RenewedLaw.{count_renewed}
+use Rattle.st_threads.proofs.RenewedLaw.{count_renewed}
 use Rattle.st_machine.proofs.RenewedSteps.{can_set, copies_set, cwd_set, room_for_all, room_set, setting, there_set}
 use Rattle.st_machine.proofs.Served.{running_step}
 use Rattle.st_machine.proofs.machine.Machine.set_ids.Goals as goal
@@ -64,7 +64,7 @@ early_closed c = c.deref_mut.ensures.value
 
 early_done : (c : goal.After-renew_all-arg-2-1) → IsDone c.args.made.call (request_with (early_old c) c.args.tid c.args.pid c.args.made) c.in_ok-outcome.outcome (early_old c).system c.execute.new.self
 early_done c = subst (λ (request : Request). IsDone c.args.made.call request c.in_ok-outcome.outcome (early_old c).system c.execute.new.self)
-    (c.request_with-request.ensures ∙ ap (λ (k : Running). request_with k c.args.tid c.args.pid c.args.made) (sym c.self.view_is)) c.in_ok-outcome.ensures.done
+    (c.request_with-request.ensures ∙ ap (λ (k : Running). request_with k c.args.tid c.args.pid c.args.made) (c.view.ensures ∙ sym c.self.view_is)) c.in_ok-outcome.ensures.done
 
 pub renew_all-requires-clause-there : goal.renew_all-requires-clause-there
 renew_all-requires-clause-there c = there_set (early_old c) c.args.tid c.args.pid c.args.made (early_next c) (early_process c) (early_row c).0 (early_row c).1 c.requires.sets c.in_ok-outcome.outcome c.execute.new.self (early_done c)
@@ -117,7 +117,7 @@ closed c = c.deref_mut.ensures.value
 
 done : (c : goal.After-drop-outcome) → IsDone c.args.made.call (request_with (old c) c.args.tid c.args.pid c.args.made) c.in_ok-outcome.outcome (old c).system c.execute.new.self
 done c = subst (λ (request : Request). IsDone c.args.made.call request c.in_ok-outcome.outcome (old c).system c.execute.new.self)
-    (c.request_with-request.ensures ∙ ap (λ (k : Running). request_with k c.args.tid c.args.pid c.args.made) (sym c.self.view_is)) c.in_ok-outcome.ensures.done
+    (c.request_with-request.ensures ∙ ap (λ (k : Running). request_with k c.args.tid c.args.pid c.args.made) (c.view.ensures ∙ sym c.self.view_is)) c.in_ok-outcome.ensures.done
 
 abbrev new : goal.After-drop-outcome → List ThreadRow → Running
 new c rows = with_parts (old c) c.execute.new.self c.renew_all.new.workers rows

@@ -8,10 +8,10 @@ use Rattle.st_trace.specs.declared.entry.Choice.TheVariants as choice
 use Rattle.st_trace.specs.declared.entry.Entry.{Entry}
 use Rattle.st_trace.specs.declared.entry.Entry.TheVariants as entry
 use Rattle.st_workers.proofs.Turns.{read_is}
-use Rattle.st_machine.specs.Machine.{IsNext, IsRunning, IsStep, Running}
-use Rattle.st_machine.specs.Making.{request_with}
-use Rattle.st_machine.specs.Thread.{ThreadRow}
-use Rattle.st_machine.specs.declared.step.Step.TheVariants as steps
+use Rattle.st_next.specs.Machine.{IsNext, IsRunning, IsStep, Running}
+use Rattle.st_next.specs.Making.{request_with}
+use Rattle.st_threads.specs.Thread.{ThreadRow}
+use Rattle.st_next.specs.declared.step.Step.TheVariants as steps
 use Rattle.st_machine.proofs.After.{with_parts}
 use Rattle.st_machine.proofs.MadeSteps.{seq_there}
 use Rattle.st_machine.proofs.Moving.{row_making}
@@ -43,7 +43,7 @@ closed c = c.close.ensures ∙ ap (λ (r : ThreadRow). record r { pending = None
 
 done : (c : goal.After-drop-outcome) → IsDone c.args.made.call (request_with (old c) c.args.tid c.args.pid c.args.made) c.in_ok-outcome.outcome (old c).system c.execute.new.self
 done c = subst (λ (request : Request). IsDone c.args.made.call request c.in_ok-outcome.outcome (old c).system c.execute.new.self)
-    (c.request_with-request.ensures ∙ ap (λ (k : Running). request_with k c.args.tid c.args.pid c.args.made) (sym c.self.view_is)) c.in_ok-outcome.ensures.done
+    (c.request_with-request.ensures ∙ ap (λ (k : Running). request_with k c.args.tid c.args.pid c.args.made) (c.view.ensures ∙ sym c.self.view_is)) c.in_ok-outcome.ensures.done
 
 abbrev new : (c : goal.After-drop-outcome) → ThreadRow → Running
 new c r = with_parts (old c) c.execute.new.self c.end_call.new.workers (set (old c).threads (c.args.tid - 1) r)

@@ -1,6 +1,0 @@
-use Rattle.std.proofs.Common.{Option, ℕ, subst}
-use Rattle.st_machine.specs.Ending.{EndsCall}
-use Rattle.st_machine.proofs.ending.make_dying.Goals as goal
-
-pub returns-clause-kept : goal.returns-clause-kept
-returns-clause-kept c = subst (λ (seq : Option ℕ). EndsCall seq c.args.workers.now c.end_call.new.workers) c.number_held.ensures c.end_call.ensures

@@ -1,7 +1,0 @@
-use Rattle.std.proofs.Common.{◌≡◌, take}
-use Rattle.st_machine.specs.Questions.{least_held}
-use Rattle.st_machine.proofs.machine.Machine.least_held.Given as goal
-
--- the least number of the threads so far
-abbrev pub invariant-loop-thread : goal.invariant-loop-thread
-invariant-loop-thread l = l.least ≡ least_held (take l.thread-index l.self.threads)

@@ -1,6 +1,0 @@
-use Rattle.st_machine.specs.Questions.{IsLeastAmong}
-use Rattle.st_machine.proofs.machine.Machine.least_question.Given as goal
-
--- the least question of the threads so far
-abbrev pub invariant-loop-thread : goal.invariant-loop-thread
-invariant-loop-thread l = IsLeastAmong l.self l.thread-index l.least

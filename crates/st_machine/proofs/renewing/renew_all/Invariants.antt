@@ -1,5 +1,0 @@
-use Rattle.st_machine.proofs.Renewed.{RenewedSoFar}
-use Rattle.st_machine.proofs.renewing.renew_all.Given as goal
-
-abbrev pub invariant-loop-i : goal.invariant-loop-i
-invariant-loop-i l = RenewedSoFar l.fn.system.processes l.fn.pid l.fn.caller l.fn.threads l.fn.workers l.i l.threads l.workers l.cwds.items

@@ -1,5 +1,0 @@
-use Rattle.std.proofs.Common.{refl}
-use Rattle.st_machine.proofs.thread.Thread.new.Goals as goal
-
-pub returns : goal.returns
-returns c = refl

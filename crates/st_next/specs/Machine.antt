@@ -1,0 +1,75 @@
+-- What runs, against the law's machine.
+use Rattle.std.specs.Prelude.{◌≡◌, ℕ, List, length, Option, Some, None}
+use Rattle.st_base.specs.Numbered.{item_at_number}
+use Rattle.st_compile.specs.Table.{BinaryAnswers, IsTableOf}
+use Rattle.st_trace.specs.declared.entry.Choice.{Choice}
+use Rattle.st_trace.specs.declared.entry.Entry.{Entry}
+use Rattle.st_law.specs.declared.input.Input.{Input}
+use Rattle.st_law.specs.Inputs.{IsStartable}
+use Rattle.st_law.specs.Machine.{entry_of, state_after, state_of_run, thread_entry}
+use Rattle.st_law.specs.State.{State, is_live, thread_count}
+use Rattle.st_operator.specs.Operator.{Added, IsAdded}
+use Rattle.st_reached.specs.Grants.{RepliesUngranted, SetIdsUngranted}
+use Rattle.st_reached.specs.Scripts.{IsBounded}
+use Rattle.st_system.specs.System.{IsSystem, Parts}
+use Rattle.st_workers.specs.Kept.{IsKept}
+use Rattle.st_workers.specs.Tasks.{task_of, IsTask, IsThere}
+use Rattle.st_workers.specs.UnderWay.{UnderWay}
+use Rattle.st_workers.specs.declared.task.Task.{Task}
+use Rattle.st_next.specs.Step.{step_entry}
+use Rattle.st_threads.specs.Thread.{ThreadRow, IsRowOf}
+use Rattle.st_next.specs.declared.step.Step.{Step}
+
+-- the modelled system, the messages under way, and how far each thread of the script has come
+pub record Running : Type 0 where
+  pub input : Input
+  pub system : Parts
+  pub workers : UnderWay
+  pub threads : List ThreadRow
+  -- the kernel's own answers under the policies that were read
+  pub answers : List BinaryAnswers
+  -- what the operator has added
+  pub operator : Added
+
+-- some choices lead to a state from where an input starts
+pub record IsReached (i : Input) (st : State) : Type 0 where
+  pub startable : IsStartable i
+  pub choices : List Choice
+  pub state_is : st ≡ state_of_run i choices
+
+-- what runs is the law's machine in this state
+pub record IsMachine (m : Running) (st : State) : Type 0 where
+  pub reached : IsReached m.input st
+  pub bounded : IsBounded m.input.start
+  pub ungranted : SetIdsUngranted m.input.policies
+  pub replies : RepliesUngranted m.input.replies
+  pub system : IsSystem m.input st m.system
+  pub workers : IsKept m.input st (is_live st) m.workers
+  pub threads : (t : ℕ) → IsRowOf (item_at_number m.threads t) (st.threads t)
+  pub count : length m.threads ≡ thread_count m.input
+  pub answers : IsTableOf m.input.policies m.answers
+  pub operator : IsAdded m.input st m.operator
+
+-- what runs is the law's machine in some state
+pub record IsRunning (m : Running) : Type 0 where
+  pub state : State
+  pub is : IsMachine m state
+
+-- the law's machine has a thread do this next
+abbrev pub IsNext : Running → ℕ → Step → Type 0
+IsNext m t step = (st : State) → IsMachine m st → thread_entry m.input st t ≡ step_entry m.input st t step
+
+-- what runs is as good as before
+abbrev pub Stands : Running → Running → Type 0
+Stands old new = (st : State) → IsMachine old st → IsMachine new st
+
+-- a choice adds this entry, and what runs has gone on by it; or it adds none, and what runs is as good as before
+abbrev pub IsStep : Running → Choice → Option Entry → Running → Type 0
+IsStep old c None new = (st : State) → IsMachine old st → (entry_of old.input st c ≡ None) × IsMachine new st
+IsStep old c (Some e) new = (st : State) → IsMachine old st → (entry_of old.input st c ≡ Some e) × IsMachine new (state_after old.input st e)
+
+-- a worker does this next, here and by the law's machine, and what it needs for it is there
+pub record HasTask (m : Running) (worker : ℕ) (task : Task) : Type 0 where
+  pub here : task_of m.workers worker ≡ task
+  pub there : IsThere m.workers.calls task
+  pub law : (i : Input) (st : State) → IsKept i st (is_live st) m.workers → IsTask i st m.workers worker task

@@ -1,0 +1,25 @@
+-- What the steps of a thread mean: the entry that each adds.
+use Rattle.std.specs.Prelude.{ℕ, Option, Some, None}
+use Rattle.st_effects.specs.Effect.{effect}
+use Rattle.st_trace.specs.declared.entry.Entry.{Entry}
+use Rattle.st_trace.specs.declared.entry.Entry.TheVariants.{Stored, Denied, Ended}
+use Rattle.st_law.specs.declared.input.Input.{Input}
+use Rattle.st_law.specs.Machine.{entered_entry, failed_entry, used_entry}
+use Rattle.st_law.specs.State.{State, request_of, system_of}
+use Rattle.st_next.specs.declared.step.Step.{Step}
+use Rattle.st_next.specs.declared.step.Step.TheVariants.{Wait, End, Store, Enter, Make, Fail, Deny}
+use Rattle.st_next.specs.declared.step.Use.{Use}
+
+-- a call is made, with its outcome over the system of now
+abbrev pub use_entry : Input → State → ℕ → Use → Entry
+use_entry i st t made = used_entry t made.seq made.call made.regs made.args made.ids (effect (system_of i st) made.call (request_of i st t made.regs made.args made.ids))
+
+-- the entry of a step of thread t; none where it waits
+abbrev pub step_entry : Input → State → ℕ → Step → Option Entry
+step_entry i st t Wait = None
+step_entry i st t End = Some (Ended t)
+step_entry i st t (Store place word) = Some (Stored t place word)
+step_entry i st t (Enter call regs) = entered_entry i st t call regs
+step_entry i st t (Make made) = Some (use_entry i st t made)
+step_entry i st t (Fail call regs ids errno) = Some (failed_entry t call regs ids errno)
+step_entry i st t (Deny seq errno cause) = Some (Denied t seq errno cause)

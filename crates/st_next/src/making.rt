@@ -1,0 +1,36 @@
+// What calls are made with.
+ghost use Rattle.std.specs.Prelude.{◌≡◌};
+ghost use Rattle.st_base.specs.Numbered.{item_at_number};
+ghost use Rattle.st_next.specs.Making.{child_of_row, request_with};
+
+use crate::step::Use;
+use crate::view::View;
+use st_base::{Pid, Tid};
+use st_request::Request;
+
+impl<'v, 'a> View<'v, 'a> {
+    /// The thread that a thread's pending call starts; 0 where it is no fork.
+    pub fn child_of(&self, tid: Tid) -> Tid
+        ensures { result ≡ child_of_row (item_at_number self.now.threads tid) }
+    {
+        match self.thread(tid) {
+            Some(thread) => thread.child(),
+            None => 0,
+        }
+    }
+
+    /// What a thread of this process makes its call with.
+    pub fn request_with<'b>(&self, tid: Tid, pid: Pid, made: &'b Use) -> Request<'b>
+        ensures { result ≡ request_with self.now tid pid made.now }
+    {
+        Request {
+            tid,
+            pid,
+            ids: made.ids,
+            regs: made.regs,
+            args: made.args.as_slice(),
+            child: self.child_of(tid),
+            inherit: self.input.options.inherit,
+        }
+    }
+}

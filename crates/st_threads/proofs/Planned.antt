@@ -1,0 +1,79 @@
+-- What renewals need is planned one after the other.
+use native.Mathlib.Omega.{arith}
+use Rattle.std.proofs.Common.{◌≡◌, ◌≤◌, ◌<◌, ◌+◌, ◌-◌, ◌^◌, ◌∙◌, ℕ, suc, drop, replicate, List, [], ◌∷◌, ◌++◌, length, Option, Some, None, refl, ap, sym}
+use Rattle.std.proofs.lemmas.List.{append_assoc, append-nil}
+use Rattle.std.proofs.Math.ListN.{drop_of_length-le}
+use Rattle.std.specs.Prelude.{IfSome}
+use Rattle.st_model.specs.Processes.{Processes}
+use Rattle.st_names.specs.Name.{Components}
+use Rattle.st_trace.specs.declared.entry.Change.{Change}
+use Rattle.st_threads.specs.Renewing.{next_behind, number_renewed, numbers_from, renewals_from, with_number}
+use Rattle.st_threads.specs.Thread.{ThreadRow}
+
+one_renewal : (next : ℕ) (seq : Option ℕ) (numbers : List ℕ) → renewals_from next (with_number seq []) ++ renewals_from (next_behind next seq) numbers ≡ renewals_from next (with_number seq numbers)
+one_renewal next None numbers = refl
+one_renewal next (Some q) numbers = refl
+
+one_copy : (cwd : Components) (seq : Option ℕ) (numbers : List ℕ) → replicate (length (with_number seq [])) cwd ++ replicate (length numbers) cwd ≡ replicate (length (with_number seq numbers)) cwd
+one_copy cwd None numbers = refl
+one_copy cwd (Some q) numbers = refl
+
+one_next : (next : ℕ) (seq : Option ℕ) → next_behind next seq ≤ next + 1
+one_next next None = omega arith
+one_next next (Some q) = omega arith
+
+module _ (processes : Processes) (pid caller next : ℕ) (rows : List ThreadRow) (front : List Change) (cwd : Components) where
+  abbrev numbers : ℕ → List ThreadRow → List ℕ
+  numbers t some = numbers_from processes pid caller t some
+
+  -- the renewals of the first n threads are planned
+  pub record PlannedSoFar (n : ℕ) (changes : List Change) (cwds : List Components) (now : ℕ) : Type 0 where
+    pub told : changes ++ renewals_from now (numbers (suc n) (drop n rows)) ≡ front ++ renewals_from next (numbers 1 rows)
+    pub copies : cwds ++ replicate (length (numbers (suc n) (drop n rows))) cwd ≡ replicate (length (numbers 1 rows)) cwd
+    pub room : now + length (drop n rows) < 2 ^ 64
+
+  pub none_planned : (changes : List Change) (cwds : List Components) (now : ℕ) → changes ≡ front → cwds ≡ [] → now ≡ next → next + length rows < 2 ^ 64 → PlannedSoFar 0 changes cwds now
+  none_planned changes cwds now changes_are cwds_are now_is room = record {
+    told = λ k. changes_are k ++ renewals_from (now_is k) (numbers 1 rows);
+    copies = ap (λ (l : List Components). l ++ replicate (length (numbers 1 rows)) cwd) cwds_are;
+    room = omega (arith, room, now_is);
+  }
+
+  module _ (n : ℕ) (changes : List Change) (cwds : List Components) (now : ℕ) (so_far : PlannedSoFar n changes cwds now) where
+    pub all_told : length rows ≤ n → changes ≡ front ++ renewals_from next (numbers 1 rows)
+    all_told end = sym (append-nil changes) ∙ ap (λ (l : List ThreadRow). changes ++ renewals_from now (numbers (suc n) l)) (sym (drop_of_length-le rows {i = n} end)) ∙ so_far.told
+
+    pub all_copied : length rows ≤ n → cwds ≡ replicate (length (numbers 1 rows)) cwd
+    all_copied end = sym (append-nil cwds) ∙ ap (λ (l : List ThreadRow). cwds ++ replicate (length (numbers (suc n) l)) cwd) (sym (drop_of_length-le rows {i = n} end)) ∙ so_far.copies
+
+    module _ (row : ThreadRow) (here : drop n rows ≡ row ∷ drop (n + 1) rows) (seq : Option ℕ) (seq_is : seq ≡ number_renewed processes pid caller (n + 1) row) where
+      after : n + 1 ≡ suc n
+      after = omega arith
+
+      seq_here : seq ≡ number_renewed processes pid caller (suc n) row
+      seq_here = seq_is ∙ ap (λ (k : ℕ). number_renewed processes pid caller k row) after
+
+      abbrev rest : List ℕ
+      rest = numbers (suc (suc n)) (drop (n + 1) rows)
+
+      numbers_are : with_number seq rest ≡ numbers (suc n) (drop n rows)
+      numbers_are = ap (λ (s : Option ℕ). with_number s rest) seq_here ∙ ap (numbers (suc n)) (sym here)
+
+      rest_is : numbers (suc (n + 1)) (drop (n + 1) rows) ≡ rest
+      rest_is = ap (λ (k : ℕ). numbers (suc k) (drop (n + 1) rows)) after
+
+      pub next_room : IfSome seq (λ q. now < 2 ^ 64 - 1)
+      next_room = by seq where
+        by : (o : Option ℕ) → IfSome o (λ q. now < 2 ^ 64 - 1)
+        by None = tt
+        by (Some q) = let left = so_far.room in let more = ap length here in omega (arith, left, more)
+
+      pub next_planned : (told : List Change) (copied : List Components) (then : ℕ) → told ≡ changes ++ renewals_from now (with_number seq []) → copied ≡ cwds ++ replicate (length (with_number seq [])) cwd → then ≡ next_behind now seq
+          → PlannedSoFar (n + 1) told copied then
+      next_planned told copied then told_is copied_is then_is = record {
+        told = (λ k. told_is k ++ renewals_from (then_is k) (rest_is k)) ∙ append_assoc changes (renewals_from now (with_number seq [])) (renewals_from (next_behind now seq) rest)
+            ∙ ap (λ (l : List Change). changes ++ l) (one_renewal now seq rest) ∙ ap (λ (l : List ℕ). changes ++ renewals_from now l) numbers_are ∙ so_far.told;
+        copies = (λ k. copied_is k ++ replicate (length (rest_is k)) cwd) ∙ append_assoc cwds (replicate (length (with_number seq [])) cwd) (replicate (length rest) cwd)
+            ∙ ap (λ (l : List Components). cwds ++ l) (one_copy cwd seq rest) ∙ ap (λ (l : List ℕ). cwds ++ replicate (length l) cwd) numbers_are ∙ so_far.copies;
+        room = let left = so_far.room in let more = ap length here in let most = one_next now seq in omega (arith, left, more, most, then_is);
+      }

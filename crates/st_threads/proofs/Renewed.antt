@@ -1,0 +1,202 @@
+-- Held calls that draw new numbers one after the other.
+use native.Mathlib.Omega.{arith}
+use Rattle.std.proofs.Common.{◌≡◌, ◌≢◌, ◌≤◌, ◌<◌, ◌+◌, ◌-◌, ◌^◌, ◌∙◌, ℕ, zero, suc, ◌==◌, Bool, true, false, cond, set, get_or, take, drop, replicate, List, [], ◌∷◌, ◌++◌, length, Option, Some, None, refl, ap, sym, subst, length-append}
+use Rattle.std.proofs.lemmas.Bool.{ne_eqb}
+use Rattle.std.proofs.lemmas.List.{append_assoc, append-nil, drop-set-lt, get_or-replicate, length-replicate, take_more_set}
+use Rattle.std.proofs.Math.ListN.{drop_of_length-le}
+use Rattle.std.specs.Prelude.{IfSome}
+use Rattle.st_messages.specs.Messages as calls
+use Rattle.st_model.specs.Process.{Process}
+use Rattle.st_model.specs.Processes.{Processes, process_at}
+use Rattle.st_names.specs.Name.{Components}
+use Rattle.st_law.specs.State.{State}
+use Rattle.st_workers.specs.Kept.{IsKept, messages_renewed}
+use Rattle.st_workers.specs.UnderWay.{UnderWay}
+use Rattle.st_workers.proofs.Ended.{lives_as}
+use Rattle.st_threads.specs.Renewing.{AreOthers, CanRenew, HaveRenewed, LiveApart, RenewsAll, RenewsIf, RenewsOne, next_behind, number_renewed, numbers_from, row_renewed, rows_renewed, with_number}
+use Rattle.st_threads.specs.Thread.{ThreadRow}
+
+-- ---- lists of one item
+
+at_end : {X : Type 0} (xs : List X) (x d : X) → get_or (xs ++ x ∷ []) (length xs) d ≡ x
+at_end [] x d = refl
+at_end (y ∷ xs) x d = at_end xs x d
+
+-- the last of a list of one item is that item
+pub last_of : {X : Type 0} (front : List X) (x : X) (all : List X) (item : X) → all ≡ front ++ x ∷ [] → all ≡ replicate (length all) item → x ≡ item
+last_of front x all item split same =
+    let count : length all ≡ length front + 1 = ap length split ∙ length-append front (x ∷ []) in
+    sym (at_end front x x) ∙ ap (λ l. get_or l (length front) x) (sym split ∙ same) ∙ get_or-replicate (length all) (length front) item x (omega (arith, count))
+
+-- ---- one number is renewed
+
+-- numbers that live go on where another is renewed
+live_behind : (alive : ℕ → Bool) (q fresh : ℕ) (numbers : List ℕ) → AreOthers q numbers → LiveApart alive numbers → LiveApart (λ other. cond (other == fresh) true (cond (other == q) false (alive other))) numbers
+live_behind alive q fresh [] others live = tt
+live_behind alive q fresh (p ∷ numbers) others live = (
+  ap (λ (b : Bool). cond (p == fresh) true (cond b false (alive p))) (ne_eqb p q others.0) ∙ ap (λ (b : Bool). cond (p == fresh) true b) live.0 ∙ always (p == fresh),
+  live.1,
+  live_behind alive q fresh numbers others.1 live.2,
+) where
+  always : (b : Bool) → cond b true true ≡ true
+  always true = refl
+  always false = refl
+
+module _ (process : Process) (q : ℕ) (numbers : List ℕ) (between left : UnderWay) (can : CanRenew between (q ∷ numbers)) (renews : RenewsOne process q between left) where
+  abbrev fresh : ℕ
+  fresh = suc can.state.posted
+
+  abbrev later : ℕ → Bool
+  later other = cond (other == fresh) true (cond (other == q) false (can.alive other))
+
+  abbrev then : State
+  then = record can.state { messages = messages_renewed process q fresh can.state.messages; posted = fresh }
+
+  kept : IsKept can.input then later left
+  kept = renews can.input can.state.messages can.state.turns can.alive later can.state.posted can.kept (λ other. refl)
+
+  one_next : left.calls.next ≡ suc between.calls.next
+  one_next = kept.agrees.next ∙ ap suc (sym can.kept.agrees.next)
+
+  one_can : CanRenew left numbers
+  one_can = record { input = can.input; state = then; alive = later; kept = kept; live = live_behind can.alive q fresh numbers can.live.1 can.live.2 }
+
+-- ---- one is, if there is one
+
+pub lives_if : (seq : Option ℕ) (numbers : List ℕ) (workers : UnderWay) → CanRenew workers (with_number seq numbers) → IfSome seq (λ q. calls.is_live workers.calls q ≡ true)
+lives_if None numbers workers can = tt
+lives_if (Some q) numbers workers can = lives_as can.input can.state can.alive workers q can.kept ∙ can.live.0
+
+next_if : (process : Process) (seq : Option ℕ) (numbers : List ℕ) (between left : UnderWay) → CanRenew between (with_number seq numbers) → RenewsIf process seq between left → left.calls.next ≡ next_behind between.calls.next seq
+next_if process None numbers between left can renews = ap (λ (w : UnderWay). w.calls.next) renews
+next_if process (Some q) numbers between left can renews = one_next process q numbers between left can renews
+
+can_if : (process : Process) (seq : Option ℕ) (numbers : List ℕ) (between left : UnderWay) → CanRenew between (with_number seq numbers) → RenewsIf process seq between left → CanRenew left numbers
+can_if process None numbers between left can renews = subst (λ (w : UnderWay). CanRenew w numbers) (sym renews) can
+can_if process (Some q) numbers between left can renews = one_can process q numbers between left can renews
+
+all_if : (process : Process) (seq : Option ℕ) (numbers : List ℕ) (between left new : UnderWay) → RenewsIf process seq between left → RenewsAll process numbers left new → RenewsAll process (with_number seq numbers) between new
+all_if process None numbers between left new renews all = subst (λ (w : UnderWay). RenewsAll process numbers w new) renews all
+all_if process (Some q) numbers between left new renews all = (left, renews, all)
+
+one_length : (seq : Option ℕ) (numbers : List ℕ) → length (with_number seq numbers) ≡ length (with_number seq []) + length numbers
+one_length None numbers = omega arith
+one_length (Some q) numbers = omega arith
+
+next_most : (next : ℕ) (seq : Option ℕ) → next_behind next seq ≤ next + 1
+next_most next None = omega arith
+next_most next (Some q) = omega arith
+
+-- ---- the threads of the script up to a number
+
+module _ (processes : Processes) (pid caller : ℕ) where
+  abbrev numbers : ℕ → List ThreadRow → List ℕ
+  numbers t rows = numbers_from processes pid caller t rows
+
+  abbrev renewed : ℕ → ℕ → List ThreadRow → List ThreadRow
+  renewed next t rows = rows_renewed processes pid caller next t rows
+
+  abbrev process : Process
+  process = process_at processes pid
+
+  -- the calls of the first n threads have drawn their numbers
+  pub record RenewedSoFar (before : List ThreadRow) (workers : UnderWay) (n : ℕ) (now : List ThreadRow) (between : UnderWay) (cwds : List Components) : Type 0 where
+    pub rows : take n now ++ renewed between.calls.next (suc n) (drop n now) ≡ renewed workers.calls.next 1 before
+    pub all : (left : UnderWay) → RenewsAll process (numbers (suc n) (drop n now)) between left → RenewsAll process (numbers 1 before) workers left
+    pub can : CanRenew between (numbers (suc n) (drop n now))
+    pub copies : cwds ≡ replicate (length (numbers (suc n) (drop n now))) process.cwd
+    pub room : between.calls.next + length (drop n now) < 2 ^ 64
+
+  -- none of them has at first
+  pub none_so_far : (before : List ThreadRow) (workers : UnderWay) (cwds : List Components) → CanRenew workers (numbers 1 before) → workers.calls.next + length before < 2 ^ 64 → cwds ≡ replicate (length (numbers 1 before)) process.cwd → RenewedSoFar before workers 0 before workers cwds
+  none_so_far before workers cwds can room copies = record { rows = refl; all = λ left all. all; can = can; copies = copies; room = room }
+
+  module _ (before : List ThreadRow) (workers : UnderWay) (n : ℕ) (now : List ThreadRow) (between : UnderWay) (cwds : List Components) (so_far : RenewedSoFar before workers n now between cwds) where
+    -- all of them have at last
+    pub all_renewed : length now ≤ n → HaveRenewed processes pid caller before workers now between
+    all_renewed end =
+        let none : drop n now ≡ [] = drop_of_length-le now {i = n} end in
+        record {
+          rows_are = sym (take_whole now n end) ∙ sym (append-nil (take n now)) ∙ ap (λ (l : List ThreadRow). take n now ++ renewed between.calls.next (suc n) l) (sym none) ∙ so_far.rows;
+          all = so_far.all between (subst (λ (l : List ThreadRow). RenewsAll process (numbers (suc n) l) between between) (sym none) refl);
+        } where
+          take_whole : (l : List ThreadRow) (k : ℕ) → length l ≤ k → take k l ≡ l
+          take_whole [] zero e = refl
+          take_whole [] (suc k) e = refl
+          take_whole (row ∷ l) zero e = absurd (omega (arith, e))
+          take_whole (row ∷ l) (suc k) e = ap (λ (m : List ThreadRow). row ∷ m) (take_whole l k (omega (arith, e)))
+
+    module _ (row : ThreadRow) (inside : n < length now) (here : drop n now ≡ row ∷ drop (n + 1) now) (seq : Option ℕ) (seq_is : seq ≡ number_renewed processes pid caller (n + 1) row) where
+      after : n + 1 ≡ suc n
+      after = omega arith
+
+      seq_here : seq ≡ number_renewed processes pid caller (suc n) row
+      seq_here = seq_is ∙ ap (λ (k : ℕ). number_renewed processes pid caller k row) after
+
+      abbrev rest : List ℕ
+      rest = numbers (suc (suc n)) (drop (n + 1) now)
+
+      numbers_are : numbers (suc n) (drop n now) ≡ with_number seq rest
+      numbers_are = ap (numbers (suc n)) here ∙ ap (λ (s : Option ℕ). with_number s rest) (sym seq_here)
+
+      can : CanRenew between (with_number seq rest)
+      can = subst (CanRenew between) numbers_are so_far.can
+
+      copies : cwds ≡ replicate (length (with_number seq rest)) process.cwd
+      copies = so_far.copies ∙ ap (λ (l : List ℕ). replicate (length l) process.cwd) numbers_are
+
+      count : length cwds ≡ length (with_number seq rest)
+      count = ap length copies ∙ length-replicate (length (with_number seq rest)) process.cwd
+
+      pub next_lives : IfSome seq (λ q. calls.is_live between.calls q ≡ true)
+      next_lives = lives_if seq rest between can
+
+      room : between.calls.next + 1 + length (drop (n + 1) now) < 2 ^ 64
+      room = let left = so_far.room in let more = ap length here in omega (arith, left, more)
+
+      pub next_room : IfSome seq (λ q. between.calls.next < 2 ^ 64 - 1)
+      next_room = by seq where
+        by : (o : Option ℕ) → IfSome o (λ q. between.calls.next < 2 ^ 64 - 1)
+        by None = tt
+        by (Some q) = let left = room in omega (arith, left)
+
+      pub next_copy : IfSome seq (λ q. cwds ≢ [])
+      next_copy = by seq count where
+        by : (o : Option ℕ) → length cwds ≡ length (with_number o rest) → IfSome o (λ q. cwds ≢ [])
+        by None e = tt
+        by (Some q) e = λ none. let nothing = ap length none in omega (arith, e, nothing)
+
+      pub next_same : cwds ≡ replicate (length cwds) process.cwd
+      next_same = copies ∙ ap (λ (k : ℕ). replicate k process.cwd) (sym count)
+
+      module _ (left : UnderWay) (kept : RenewsIf process seq between left) (fewer : List Components) (one : length cwds ≡ length (with_number seq []) + length fewer) (same : fewer ≡ replicate (length fewer) process.cwd) where
+        abbrev rows_next : List ThreadRow
+        rows_next = set now n (row_renewed between.calls.next seq row)
+
+        left_over : drop (n + 1) rows_next ≡ drop (n + 1) now
+        left_over = drop-set-lt (n + 1) now n (row_renewed between.calls.next seq row) (omega arith)
+
+        next_is : left.calls.next ≡ next_behind between.calls.next seq
+        next_is = next_if process seq rest between left can kept
+
+        numbers_then : numbers (suc (n + 1)) (drop (n + 1) rows_next) ≡ rest
+        numbers_then = λ k. numbers (suc (after k)) (left_over k)
+
+        rows_then : take (n + 1) rows_next ++ renewed left.calls.next (suc (n + 1)) (drop (n + 1) rows_next) ≡ take n now ++ renewed between.calls.next (suc n) (drop n now)
+        rows_then = (λ k. take_more_set now n (row_renewed between.calls.next seq row) inside k ++ renewed (next_is k) (suc (after k)) (left_over k))
+            ∙ append_assoc (take n now) (row_renewed between.calls.next seq row ∷ []) (renewed (next_behind between.calls.next seq) (suc (suc n)) (drop (n + 1) now))
+            ∙ ap (λ (s : Option ℕ). take n now ++ (row_renewed between.calls.next s row ∷ renewed (next_behind between.calls.next s) (suc (suc n)) (drop (n + 1) now))) seq_here
+            ∙ ap (λ (l : List ThreadRow). take n now ++ renewed between.calls.next (suc n) l) (sym here)
+
+        few : length fewer ≡ length rest
+        few = let a = one in let b = count in let d = one_length seq rest in omega (arith, a, b, d)
+
+        -- the next thread's has drawn one too, if it does
+        pub next_renewed : RenewedSoFar before workers (n + 1) rows_next left fewer
+        next_renewed = record {
+          rows = rows_then ∙ so_far.rows;
+          all = λ new all. so_far.all new (subst (λ (l : List ℕ). RenewsAll process l between new) (sym numbers_are) (all_if process seq rest between left new kept (subst (λ (l : List ℕ). RenewsAll process l left new) numbers_then all)));
+          can = subst (CanRenew left) (sym numbers_then) (can_if process seq rest between left can kept);
+          copies = same ∙ ap (λ (k : ℕ). replicate k process.cwd) (few ∙ ap length (sym numbers_then));
+          room = let most = next_most between.calls.next seq in let is = next_is in let before = room in let tail = ap length left_over in omega (arith, most, is, before, tail);
+        }

@@ -1,0 +1,14 @@
+use Rattle.std.proofs.Common.{◌∙◌, Bool, Option, ℕ, ap, cond, false, sym, subst}
+use Rattle.st_model.specs.Tree.{is_number}
+use Rattle.st_reached.proofs.Life.{eqb-sym}
+use Rattle.st_workers.specs.Kept.{IsKept}
+use Rattle.st_threads.specs.Ending.{life_without_number}
+use Rattle.st_threads.proofs.ending.end_call.Goals as goal
+
+pub returns-in-Some : goal.returns-in-Some
+returns-in-Some c = λ i st alive kept.
+    c.cancel.ensures.kept i st.messages st.turns alive (life_without_number alive c.args.seq) st.posted kept
+    (λ other. ap (λ (b : Bool). cond b false (alive other)) (ap (is_number other) c.in-Some.is ∙ eqb-sym c.in-Some.seq other))
+
+pub returns-in_default : goal.returns-in_default
+returns-in_default c = λ i st alive kept. subst (λ (seq : Option ℕ). IsKept i st (life_without_number alive seq) c.args.workers.now) (sym c.in_default.is) kept

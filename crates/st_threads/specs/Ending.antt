@@ -1,0 +1,93 @@
+-- How the held calls of threads end: their own as it is made or denied, and those of threads that have nothing left but to end.
+use Rattle.std.specs.Prelude.{◌≡◌, ℕ, Bool, true, false, ◌&&◌, ◌||◌, ◌==◌, not, if◌then◌else◌, List, [], ◌∷◌, length, Option, Some, None, unwrap_or, option_map}
+use Rattle.st_base.specs.Numbered.{item_at_number}
+use Rattle.st_model.specs.Processes.{Processes, pid_of}
+use Rattle.st_model.specs.Tree.{is_number}
+use Rattle.st_trace.specs.declared.entry.Change.{Change}
+use Rattle.st_trace.specs.declared.entry.Change.TheVariants.{Dying, Execed}
+use Rattle.st_law.specs.declared.input.Input.{Input}
+use Rattle.st_law.specs.Messages.{Head}
+use Rattle.st_law.specs.State.{State}
+use Rattle.st_workers.specs.Kept.{IsKept}
+use Rattle.st_workers.specs.UnderWay.{UnderWay}
+use Rattle.st_threads.specs.Thread.{ThreadRow, number_held}
+
+-- ---- which numbers are held
+
+-- a thread holds a call under this number, by its row
+abbrev pub HasNumber : Option ThreadRow → ℕ → Type 0
+HasNumber None q = ⊥
+HasNumber (Some row) q = number_held row ≡ Some q
+
+-- a number lives, and is this thread's
+pub record IsNumberOf (st : State) (alive : ℕ → Bool) (t q : ℕ) : Type 0 where
+  pub lives : alive q ≡ true
+  pub head : Head
+  pub posted : (st.messages q).head ≡ Some head
+  pub tid_is : head.tid ≡ t
+
+-- each number that lives is that of its thread's held call, and the number of each held call lives
+pub record AreHeld (st : State) (alive : ℕ → Bool) (rows : List ThreadRow) : Type 0 where
+  pub own : (q : ℕ) (head : Head) → alive q ≡ true → (st.messages q).head ≡ Some head → HasNumber (item_at_number rows head.tid) q
+  pub lives : (t : ℕ) (row : ThreadRow) (q : ℕ) → item_at_number rows t ≡ Some row → number_held row ≡ Some q → IsNumberOf st alive t q
+
+-- the messages under way are those of the calls that threads hold, in some state
+pub record HaveCalls (rows : List ThreadRow) (workers : UnderWay) : Type 0 where
+  pub input : Input
+  pub state : State
+  pub alive : ℕ → Bool
+  pub kept : IsKept input state alive workers
+  pub held : AreHeld state alive rows
+
+-- ---- a call ends
+
+-- its number, if it has one, lives no more
+abbrev pub life_without_number : (ℕ → Bool) → Option ℕ → ℕ → Bool
+life_without_number alive seq other = if is_number other seq then false else alive other
+
+-- what is kept once it has ended
+abbrev pub EndsCall : Option ℕ → UnderWay → UnderWay → Type 0
+EndsCall seq old new = (i : Input) (st : State) (alive : ℕ → Bool) → IsKept i st alive old → IsKept i st (life_without_number alive seq) new
+
+-- ---- threads have nothing left but to end
+
+-- a thread that has nothing left but to end, or that goes on
+abbrev pub row_dying_if : Bool → ThreadRow → ThreadRow
+row_dying_if true row = record row { dying = true }
+row_dying_if false row = row
+
+-- the process of a thread, 0 before it starts
+abbrev pub owner_of : Processes → ℕ → ℕ
+owner_of processes t = unwrap_or (pid_of processes t) 0
+
+-- whether a thread ends with a process; one is spared
+abbrev pub ends_with : Processes → ℕ → ℕ → ℕ → Bool
+ends_with processes pid spared t = owner_of processes t == pid && not (t == spared)
+
+-- whether the thread of a head is one of these
+abbrev pub is_head_among : (ℕ → Bool) → Option Head → Bool
+is_head_among dies None = false
+is_head_among dies (Some head) = dies head.tid
+
+-- which numbers live without those of these threads
+abbrev pub life_but : (ℕ → Bool) → State → (ℕ → Bool) → ℕ → Bool
+life_but dies st alive other = if is_head_among dies (st.messages other).head then false else alive other
+
+-- these threads have nothing left but to end, and their held calls have ended
+pub record HaveEnded (dies : ℕ → Bool) (before : List ThreadRow) (workers : UnderWay) (new : List ThreadRow) (left : UnderWay) : Type 0 where
+  pub count : length new ≡ length before
+  pub rows : (t : ℕ) → item_at_number new t ≡ option_map (λ row. row_dying_if (dies t) row) (item_at_number before t)
+  pub kept : (i : Input) (st : State) (alive : ℕ → Bool) → IsKept i st alive workers → AreHeld st alive before → IsKept i st (life_but dies st alive) left
+
+-- ---- what changes end
+
+-- whether a change ends a thread, this being the caller with its process
+abbrev pub is_end_of : Processes → ℕ → ℕ → ℕ → Change → Bool
+is_end_of processes caller pid t (Dying dying) = ends_with processes dying 0 t
+is_end_of processes caller pid t (Execed binary space) = ends_with processes pid caller t
+is_end_of processes caller pid t _ = false
+
+-- whether one of these changes does
+abbrev pub is_ended_by : Processes → ℕ → ℕ → List Change → ℕ → Bool
+is_ended_by processes caller pid [] t = false
+is_ended_by processes caller pid (change ∷ changes) t = is_end_of processes caller pid t change || is_ended_by processes caller pid changes t

@@ -1,0 +1,91 @@
+-- How the held calls of a process draw new numbers behind a call that sets ids.
+use Rattle.std.specs.Prelude.{◌≡◌, ◌≢◌, ℕ, suc, Bool, true, not, ◌&&◌, ◌==◌, if◌then◌else◌, List, [], ◌∷◌, Option, Some, None}
+use Rattle.st_model.specs.Process.{Process}
+use Rattle.st_model.specs.Processes.{Processes, process_at}
+use Rattle.st_trace.specs.declared.entry.Change.{Change}
+use Rattle.st_trace.specs.declared.entry.Change.TheVariants.{Renewed}
+use Rattle.st_law.specs.declared.input.Input.{Input}
+use Rattle.st_law.specs.State.{Message, State}
+use Rattle.st_workers.specs.Kept.{messages_renewed, AreKept, IsKept, RenewsLife}
+use Rattle.st_workers.specs.UnderWay.{UnderWay}
+use Rattle.st_threads.specs.Ending.{owner_of}
+use Rattle.st_threads.specs.Thread.{ThreadRow, number_held}
+
+-- ---- which calls
+
+-- the number of a thread's held call, if it is renewed: the thread is of the process, and isn't the caller
+abbrev pub number_renewed : Processes → ℕ → ℕ → ℕ → ThreadRow → Option ℕ
+number_renewed processes pid caller t row = if owner_of processes t == pid && not (t == caller) then number_held row else None
+
+-- one number more, if there is one
+abbrev pub with_number : Option ℕ → List ℕ → List ℕ
+with_number None numbers = numbers
+with_number (Some q) numbers = q ∷ numbers
+
+-- the numbers that are renewed, of the threads from t on, in their order
+abbrev pub numbers_from : Processes → ℕ → ℕ → ℕ → List ThreadRow → List ℕ
+numbers_from processes pid caller t [] = []
+numbers_from processes pid caller t (row ∷ rows) = with_number (number_renewed processes pid caller t row) (numbers_from processes pid caller (suc t) rows)
+
+-- ---- what becomes of them
+
+-- each number is renewed, under the numbers from this one on
+abbrev pub renewals_from : ℕ → List ℕ → List Change
+renewals_from next [] = []
+renewals_from next (q ∷ numbers) = Renewed q next ∷ renewals_from (suc next) numbers
+
+-- the next number, once one was drawn or not
+abbrev pub next_behind : ℕ → Option ℕ → ℕ
+next_behind next None = next
+next_behind next (Some q) = suc next
+
+-- a thread whose held call has drawn a number, or hasn't
+abbrev pub row_renewed : ℕ → Option ℕ → ThreadRow → ThreadRow
+row_renewed next None row = row
+row_renewed next (Some q) row = record row { number = next }
+
+-- the threads from t on, once each number is renewed
+abbrev pub rows_renewed : Processes → ℕ → ℕ → ℕ → ℕ → List ThreadRow → List ThreadRow
+rows_renewed processes pid caller next t [] = []
+rows_renewed processes pid caller next t (row ∷ rows) =
+    row_renewed next (number_renewed processes pid caller t row) row ∷ rows_renewed processes pid caller (next_behind next (number_renewed processes pid caller t row)) (suc t) rows
+
+-- ---- the messages
+
+-- a live number is renewed under the next one, by its process
+abbrev pub RenewsOne : Process → ℕ → UnderWay → UnderWay → Type 0
+RenewsOne process q old new = (i : Input) (messages : ℕ → Message) (turns : ℕ → Option ℕ) (alive later : ℕ → Bool) (posted : ℕ)
+    → AreKept i messages turns alive posted old → RenewsLife alive q (suc posted) later → AreKept i (messages_renewed process q (suc posted) messages) turns later (suc posted) new
+
+-- one is, if there is one
+abbrev pub RenewsIf : Process → Option ℕ → UnderWay → UnderWay → Type 0
+RenewsIf process None old new = new ≡ old
+RenewsIf process (Some q) old new = RenewsOne process q old new
+
+-- one after the other is
+abbrev pub RenewsAll : Process → List ℕ → UnderWay → UnderWay → Type 0
+RenewsAll process [] old new = new ≡ old
+RenewsAll process (q ∷ numbers) old new = (between : UnderWay) × RenewsOne process q old between × RenewsAll process numbers between new
+
+-- none of these numbers is this one
+abbrev pub AreOthers : ℕ → List ℕ → Type 0
+AreOthers q [] = Unit {0}
+AreOthers q (p ∷ numbers) = (p ≢ q) × AreOthers q numbers
+
+-- each of these numbers lives, and no two of them are one
+abbrev pub LiveApart : (ℕ → Bool) → List ℕ → Type 0
+LiveApart alive [] = Unit {0}
+LiveApart alive (q ∷ numbers) = (alive q ≡ true) × AreOthers q numbers × LiveApart alive numbers
+
+-- the messages under way are those of some state, where each of these numbers lives
+pub record CanRenew (workers : UnderWay) (numbers : List ℕ) : Type 0 where
+  pub input : Input
+  pub state : State
+  pub alive : ℕ → Bool
+  pub kept : IsKept input state alive workers
+  pub live : LiveApart alive numbers
+
+-- the held calls of a process but the caller's have drawn new numbers, in the order of threads
+pub record HaveRenewed (processes : Processes) (pid caller : ℕ) (rows : List ThreadRow) (workers : UnderWay) (new : List ThreadRow) (left : UnderWay) : Type 0 where
+  pub rows_are : new ≡ rows_renewed processes pid caller workers.calls.next 1 rows
+  pub all : RenewsAll (process_at processes pid) (numbers_from processes pid caller 1 rows) workers left

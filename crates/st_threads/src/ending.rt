@@ -1,0 +1,96 @@
+// Held calls end with their threads.
+ghost use Rattle.std.specs.Prelude.{◌≡◌, ◌<◌, ◌^◌, true, length, IfSome};
+ghost use Rattle.st_threads.specs.Ending.{EndsCall, HaveCalls, HaveEnded, ends_with, is_end_of, is_ended_by, owner_of, row_dying_if};
+ghost use Rattle.st_threads.specs.Thread.{number_held};
+ghost use Rattle.st_messages.specs.Messages.{is_live};
+
+use crate::thread::Thread;
+use st_base::{Pid, Seq, Tid};
+use st_system::System;
+use st_trace::Change;
+use st_workers::Workers;
+
+/// The call of this number ends, if there is one.
+pub fn end_call(workers: &mut Workers, seq: Option<Seq>)
+    requires { IfSome seq (λ q. is_live workers.old.calls q ≡ true) }
+    ensures { EndsCall seq workers.old workers.new }
+{
+    if let Some(seq) = seq {
+        workers.cancel(seq);
+    }
+}
+
+// A thread has nothing left but to end, and the call that it holds ends.
+fn make_dying(thread: &mut Thread<'_>, workers: &mut Workers)
+    requires { IfSome (number_held thread.old) (λ q. is_live workers.old.calls q ≡ true) }
+    ensures thread { thread.new ≡ row_dying_if true thread.old }
+    ensures kept { EndsCall (number_held thread.old) workers.old workers.new }
+{
+    end_call(workers, thread.number_held());
+    thread.die();
+}
+
+// Whether a thread ends with a process; one is spared.
+fn ends_with(system: &System, pid: Pid, spared: Tid, tid: Tid) -> bool
+    ensures { result ≡ ends_with system.now.processes pid spared tid }
+{
+    let owner = system.pid_of(tid).unwrap_or(0);
+    owner == pid && tid != spared
+}
+
+// The threads of a process have nothing left but to end; one is spared.
+fn end_threads(
+    threads: &mut [Thread<'_>],
+    workers: &mut Workers,
+    system: &System,
+    pid: Pid,
+    spared: Tid,
+)
+    requires calls { HaveCalls threads.old workers.old }
+    requires few { length threads.old < 2 ^ 31 }
+    ensures { HaveEnded (ends_with system.now.processes pid spared) threads.old workers.old threads.new workers.new }
+{
+    for i in 0..threads.len() {
+        if ends_with(system, pid, spared, i as Tid + 1) {
+            make_dying(&mut threads[i], workers);
+        }
+    }
+}
+
+// What a change ends: an end of a process ends all its threads, and another binary all but the caller.
+fn end_by(
+    threads: &mut [Thread<'_>],
+    workers: &mut Workers,
+    system: &System,
+    caller: Tid,
+    pid: Pid,
+    change: &Change,
+)
+    requires calls { HaveCalls threads.old workers.old }
+    requires few { length threads.old < 2 ^ 31 }
+    ensures { HaveEnded (λ t. is_end_of system.now.processes caller pid t change.now) threads.old workers.old threads.new workers.new }
+{
+    match change {
+        Change::Dying(dying) => end_threads(threads, workers, system, *dying, 0),
+        Change::Execed { .. } => end_threads(threads, workers, system, pid, caller),
+        _ => {}
+    }
+}
+
+/// What the changes of a caller's call end: the threads of a process that dies, and all but the caller where another binary runs.
+pub fn end_by_all(
+    threads: &mut [Thread<'_>],
+    workers: &mut Workers,
+    system: &System,
+    caller: Tid,
+    pid: Pid,
+    changes: &[Change],
+)
+    requires calls { HaveCalls threads.old workers.old }
+    requires few { length threads.old < 2 ^ 31 }
+    ensures { HaveEnded (is_ended_by system.now.processes caller pid changes.now) threads.old workers.old threads.new workers.new }
+{
+    for change in changes {
+        end_by(threads, workers, system, caller, pid, change);
+    }
+}

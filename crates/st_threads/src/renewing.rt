@@ -1,0 +1,158 @@
+// Held calls draw new numbers behind a call that sets ids of their process.
+ghost use Rattle.std.specs.Prelude.{◌≡◌, ◌≢◌, ◌<◌, ◌+◌, ◌-◌, ◌^◌, true, [], ◌∷◌, ◌++◌, length, replicate, IfSome, IfOk, OnOk};
+ghost use Rattle.st_lookaside.specs.Need.{IsShort};
+ghost use Rattle.st_threads.specs.Renewing.{next_behind, number_renewed, numbers_from, renewals_from, row_renewed, with_number, CanRenew, HaveRenewed, RenewsIf};
+ghost use Rattle.st_messages.specs.Messages.{is_live};
+ghost use Rattle.st_model.specs.Processes.{process_at, IsPid};
+ghost use Rattle.st_trace.specs.declared.entry.Change.TheVariants.{SetIds};
+
+use crate::ending::end_call;
+use crate::thread::Thread;
+use st_base::{Ids, Pid, Seq, Sequence, Shared, Tid};
+use st_names::AbsName;
+use st_system::System;
+use st_trace::Change;
+use st_workers::Workers;
+use std::alloc::{AllocError, Global};
+
+// The number of a thread's held call, if it is renewed: the thread is of the process, and isn't the caller.
+fn number_renewed(
+    thread: &Thread<'_>,
+    system: &System,
+    pid: Pid,
+    caller: Tid,
+    tid: Tid,
+) -> Option<Seq>
+    ensures { result ≡ number_renewed system.now.processes pid caller tid thread.now }
+{
+    let owner = system.pid_of(tid).unwrap_or(0);
+    if owner == pid && tid != caller {
+        thread.number_held()
+    } else {
+        None
+    }
+}
+
+// ---- with memory, before anything changes
+
+/// What renewals need: the changes that the entry tells, and the directory of the process for each.
+#[derive(Debug, Drop)]
+pub struct RenewalPlan {
+    pub changes: Sequence<Change>,
+    pub cwds: Vec<Shared<AbsName>>,
+    // The number that the next renewal draws.
+    next: Seq,
+}
+
+impl RenewalPlan {
+    // No renewal yet, behind the change of ids.
+    fn new(alloc: Global, set: Ids, next: Seq) -> Result<Self, AllocError>
+        ensures changes { IfOk result (λ plan. plan.changes ≡ SetIds set ∷ []) }
+        ensures cwds { IfOk result (λ plan. plan.cwds.items ≡ []) }
+        ensures next { IfOk result (λ plan. plan.next ≡ next) }
+    {
+        let mut changes = Sequence::new(alloc);
+        changes.push(Change::SetIds(set))?;
+        Ok(RenewalPlan {
+            changes,
+            cwds: Vec::new(alloc),
+            next,
+        })
+    }
+
+    // One renewal more, if there is one.
+    fn add(&mut self, seq: Option<Seq>, cwd: &Shared<AbsName>) -> Result<(), AllocError>
+        requires { IfSome seq (λ q. self.old.next < 2 ^ 64 - 1) }
+        ensures changes { OnOk result (self.new.changes ≡ self.old.changes ++ renewals_from self.old.next (with_number seq [])) }
+        ensures cwds { OnOk result (self.new.cwds.items ≡ self.old.cwds.items ++ replicate (length (with_number seq [])) cwd.now) }
+        ensures next { OnOk result (self.new.next ≡ next_behind self.old.next seq) }
+    {
+        if let Some(old) = seq {
+            let new = self.next;
+            self.changes.push(Change::Renewed { old, new })?;
+            self.cwds.push(cwd.share()?)?;
+            self.next = new + 1;
+        }
+        Ok(())
+    }
+}
+
+/// Plans that the held calls of a process but the caller's draw new numbers, from the next one on. All memory is taken here.
+pub fn plan_renewals(
+    alloc: Global,
+    threads: &[Thread<'_>],
+    system: &System,
+    pid: Pid,
+    caller: Tid,
+    set: Ids,
+    next: Seq,
+) -> Result<RenewalPlan, AllocError>
+    requires there { IsPid system.now.processes pid }
+    requires few { length threads.now < 2 ^ 31 }
+    requires room { next + length threads.now < 2 ^ 64 }
+    ensures changes { IfOk result (λ plan. plan.changes ≡ SetIds set ∷ renewals_from next (numbers_from system.now.processes pid caller 1 threads.now)) }
+    ensures cwds { IfOk result (λ plan. plan.cwds.items ≡ replicate (length (numbers_from system.now.processes pid caller 1 threads.now)) (process_at system.now.processes pid).cwd) }
+    ensures short { IfOk result (λ plan. IsShort (process_at system.now.processes pid).cwd) }
+{
+    let cwd = system.cwd(pid);
+    let mut plan = RenewalPlan::new(alloc, set, next)?;
+    for i in 0..threads.len() {
+        let seq = number_renewed(&threads[i], system, pid, caller, i as Tid + 1);
+        plan.add(seq, cwd)?;
+    }
+    Ok(plan)
+}
+
+// ---- without memory, once the ids are set
+
+// The call that a thread holds draws the next number, if it is one that does.
+fn renew_call(
+    thread: &mut Thread<'_>,
+    workers: &mut Workers,
+    system: &System,
+    pid: Pid,
+    seq: Option<Seq>,
+    cwds: &mut Vec<Shared<AbsName>>,
+)
+    requires there { IsPid system.now.processes pid }
+    requires live { IfSome seq (λ q. is_live workers.old.calls q ≡ true) }
+    requires room { IfSome seq (λ q. workers.old.calls.next < 2 ^ 64 - 1) }
+    requires cwds { IfSome seq (λ q. cwds.old.items ≢ []) }
+    requires same { cwds.old.items ≡ replicate (length cwds.old.items) (process_at system.now.processes pid).cwd }
+    requires short { IsShort (process_at system.now.processes pid).cwd }
+    ensures thread { thread.new ≡ row_renewed workers.old.calls.next seq thread.old }
+    ensures kept { RenewsIf (process_at system.now.processes pid) seq workers.old workers.new }
+    ensures count { length cwds.old.items ≡ length (with_number seq []) + length cwds.new.items }
+    ensures same { cwds.new.items ≡ replicate (length cwds.new.items) (process_at system.now.processes pid).cwd }
+{
+    if let Some(seq) = seq {
+        let Some(cwd) = cwds.pop() else {
+            unreachable!()
+        };
+        thread.renew(workers.renew(seq, system.ids(pid), cwd));
+    }
+}
+
+/// The held calls of a process but the caller's draw new numbers, in the order of threads. Each takes one of these copies of the
+/// process's directory.
+pub fn renew_all(
+    threads: &mut [Thread<'_>],
+    workers: &mut Workers,
+    system: &System,
+    pid: Pid,
+    caller: Tid,
+    mut cwds: Vec<Shared<AbsName>>,
+)
+    requires there { IsPid system.now.processes pid }
+    requires few { length threads.old < 2 ^ 31 }
+    requires calls { CanRenew workers.old (numbers_from system.now.processes pid caller 1 threads.old) }
+    requires room { workers.old.calls.next + length threads.old < 2 ^ 64 }
+    requires cwds { cwds.items ≡ replicate (length (numbers_from system.now.processes pid caller 1 threads.old)) (process_at system.now.processes pid).cwd }
+    requires short { IsShort (process_at system.now.processes pid).cwd }
+    ensures { HaveRenewed system.now.processes pid caller threads.old workers.old threads.new workers.new }
+{
+    for i in 0..threads.len() {
+        let seq = number_renewed(&threads[i], system, pid, caller, i as Tid + 1);
+        renew_call(&mut threads[i], workers, system, pid, seq, &mut cwds);
+    }
+}

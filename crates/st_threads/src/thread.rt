@@ -1,0 +1,191 @@
+ghost use Rattle.std.specs.Prelude.{◌≡◌, drop, true, None};
+ghost use Rattle.st_law.specs.State.{child_of_pending};
+ghost use Rattle.st_law.specs.Threads.{child_of_next};
+ghost use Rattle.st_threads.specs.Thread.{first_row, number_held, row_entered};
+
+use st_base::{Seq, Tid};
+use st_calls::SysCall;
+use st_trace::{Instr, Way};
+use std::marker::Model;
+
+/// A call that a thread has entered, and that is neither made nor denied yet.
+#[derive(Clone, Copy, Debug)]
+pub struct PendingCall {
+    pub call: SysCall,
+    pub regs: [u64; 6],
+    pub way: Way,
+    /// The thread that it starts; 0 where it is no fork of the body.
+    pub child: Tid,
+}
+
+impl Model for PendingCall {
+    ghost use Rattle.st_law.specs.Threads as law;
+
+    ghost Value = { law.PendingCall };
+
+    ghost view = { λ p. record { call = p.call; regs = p.regs; way = p.way; child = p.child } };
+
+    ghost inverse = { λ p. record { call = p.call; regs = p.regs; way = p.way; child = p.child } };
+}
+
+/// How far a thread has come. Which process is its own, the system knows.
+#[derive(Debug, Drop)]
+pub struct Thread<'a> {
+    left: &'a [Instr],
+    pending: Option<PendingCall>,
+    number: Seq,
+    dying: bool,
+    ended: bool,
+}
+
+impl<'a> Model for Thread<'a> {
+    ghost use Rattle.st_threads.specs.Thread.{ThreadRow};
+
+    ghost Value = { ThreadRow };
+
+    ghost view = { λ t. record { left = t.left.now; pending = t.pending; number = t.number; dying = t.dying; ended = t.ended } };
+}
+
+// What follows the first instruction.
+fn rest_of<'a>(body: &'a [Instr]) -> &'a [Instr]
+    ensures { result.now ≡ drop 1 body.now }
+{
+    match body {
+        [_, rest @ ..] => rest,
+        [] => body,
+    }
+}
+
+// The thread that the first instruction starts; 0 where it is no fork.
+fn child_of(body: &[Instr]) -> Tid
+    ensures { result ≡ child_of_next body.now }
+{
+    match body {
+        [Instr::Fork(child), ..] => *child,
+        _ => 0,
+    }
+}
+
+impl<'a> Thread<'a> {
+    /// A thread before its first step.
+    pub fn new(body: &'a [Instr]) -> Self
+        ensures { result ≡ first_row body.now }
+    {
+        Thread {
+            left: body,
+            pending: None,
+            number: 0,
+            dying: false,
+            ended: false,
+        }
+    }
+
+    /// The instructions that are left.
+    pub fn left(&self) -> &'a [Instr]
+        ensures { result.now ≡ self.now.left }
+    {
+        self.left
+    }
+
+    /// The call that it has entered.
+    pub fn pending(&self) -> Option<PendingCall>
+        ensures { result ≡ self.now.pending }
+    {
+        self.pending
+    }
+
+    /// The number of its held call.
+    pub fn number(&self) -> Seq
+        ensures { result ≡ self.now.number }
+    {
+        self.number
+    }
+
+    /// The number of the call that it holds; one that is dying holds none.
+    pub fn number_held(&self) -> Option<Seq>
+        ensures { result ≡ number_held self.now }
+    {
+        if self.dying {
+            return None;
+        }
+        match self.pending?.way {
+            Way::Held(_) => Some(self.number),
+            Way::Fast | Way::Barred(_) | Way::Untraced => None,
+        }
+    }
+
+    /// The thread that its pending call starts; 0 where it is no fork of the body.
+    pub fn child(&self) -> Tid
+        ensures { result ≡ child_of_pending self.now.pending }
+    {
+        match self.pending {
+            Some(entered) => entered.child,
+            None => 0,
+        }
+    }
+
+    /// Whether it has nothing left but to end.
+    pub fn is_dying(&self) -> bool
+        ensures { result ≡ self.now.dying }
+    {
+        self.dying
+    }
+
+    /// Whether it has ended.
+    pub fn has_ended(&self) -> bool
+        ensures { result ≡ self.now.ended }
+    {
+        self.ended
+    }
+
+    /// Goes on behind its next instruction.
+    pub fn go_on(&mut self)
+        ensures { self.new ≡ record self.old { left = drop 1 self.old.left } }
+    {
+        self.left = rest_of(self.left);
+    }
+
+    /// Enters the call of its next instruction, and goes on behind that. A held call has the number of its message.
+    pub fn enter(&mut self, call: SysCall, regs: [u64; 6], way: Way)
+        ensures { self.new ≡ row_entered self.old call regs way }
+    {
+        if let Way::Held(seq) = way {
+            self.number = seq;
+        }
+        self.pending = Some(PendingCall {
+            call,
+            regs,
+            way,
+            child: child_of(self.left),
+        });
+        self.left = rest_of(self.left);
+    }
+
+    /// Its call was made or denied.
+    pub fn close(&mut self)
+        ensures { self.new ≡ record self.old { pending = None } }
+    {
+        self.pending = None;
+    }
+
+    /// The call that it holds has a new number.
+    pub fn renew(&mut self, seq: Seq)
+        ensures { self.new ≡ record self.old { number = seq } }
+    {
+        self.number = seq;
+    }
+
+    /// It has nothing left but to end.
+    pub fn die(&mut self)
+        ensures { self.new ≡ record self.old { dying = true } }
+    {
+        self.dying = true;
+    }
+
+    /// It ends.
+    pub fn end(&mut self)
+        ensures { self.new ≡ record self.old { ended = true } }
+    {
+        self.ended = true;
+    }
+}
