@@ -1,4 +1,2 @@
-pub mod Binaries
 pub mod Cited
 mod Refused
-pub mod Settling

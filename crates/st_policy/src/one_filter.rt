@@ -4,10 +4,10 @@ ghost use Rattle.st_grammar.specs.Draft.{first_draft, is_binary_place};
 ghost use Rattle.st_grammar.specs.OneFilter.{behind_filter, filter_at_end, begin_filter, no_filter, filter_of_tokens, filter_in};
 
 use crate::reader::lexical;
-use crate::steps::Reader;
 use st_filter::Filter;
 use st_grammar::{Env, PolicyFault, Symbol};
 use st_lex::{LexFault, Token, tokens};
+use st_steps::Reader;
 use std::alloc::Global;
 
 // Behind a filter's line stands nothing.
@@ -39,59 +39,57 @@ fn begin_filter<'a>(alloc: Global, at: u32, symbol: &Symbol<'a>) -> Result<Reade
     Ok(reader)
 }
 
-impl<'a> Reader<'a> {
-    // A filter at the end of its text's tokens: the text's end may end it, and what is no token fits nowhere.
-    fn filter_at_end(
-        &mut self,
-        alloc: Global,
-        env: &Env,
-        end: u32,
-        broken: Option<LexFault>,
-    ) -> Result<Filter, PolicyFault>
-        requires { is_binary_place self.old.walk.place ≡ false }
-        ensures ok { IfOk result (λ filter. filter_at_end env.now end self.old.walk self.old.draft broken ≡ Ok filter) }
-        ensures fault { IfErr result (λ f. f ≢ PolicyFault.NoMemory → filter_at_end env.now end self.old.walk self.old.draft broken ≡ Err f) }
-    {
-        match broken {
-            None => {
-                self.step(alloc, env, end, &Symbol::Line)?;
-                Ok(self.take_filter(alloc)?)
-            }
-            Some(fault) => match self.step(alloc, env, end, &Symbol::Broken) {
-                Ok(()) => Err(PolicyFault::Lex(fault)),
-                Err(found) => Err(lexical(fault, found)),
-            },
+// A filter at the end of its text's tokens: the text's end may end it, and what is no token fits nowhere.
+fn filter_at_end<'a>(
+    reader: &mut Reader<'a>,
+    alloc: Global,
+    env: &Env,
+    end: u32,
+    broken: Option<LexFault>,
+) -> Result<Filter, PolicyFault>
+    requires { is_binary_place reader.old.walk.place ≡ false }
+    ensures ok { IfOk result (λ filter. filter_at_end env.now end reader.old.walk reader.old.draft broken ≡ Ok filter) }
+    ensures fault { IfErr result (λ f. f ≢ PolicyFault.NoMemory → filter_at_end env.now end reader.old.walk reader.old.draft broken ≡ Err f) }
+{
+    match broken {
+        None => {
+            reader.step(alloc, env, end, &Symbol::Line)?;
+            Ok(reader.take_filter(alloc)?)
         }
+        Some(fault) => match reader.step(alloc, env, end, &Symbol::Broken) {
+            Ok(()) => Err(PolicyFault::Lex(fault)),
+            Err(found) => Err(lexical(fault, found)),
+        },
     }
+}
 
-    // The filter that begins with the token that was read, and goes on with those behind it.
-    #[tactic(auto, using(crate::proofs::Cited::stands_elsewhere))]
-    fn rest_of_filter(
-        &mut self,
-        alloc: Global,
-        env: &Env,
-        text: &'a [u8],
-        broken: Option<LexFault>,
-        first: &Token,
-        tokens: &[Token],
-    ) -> Result<Filter, PolicyFault>
-        requires small { length text.now < 2 ^ 32 }
-        requires walk { begin_filter first.now.at (symbol_of text.now first.now) ≡ Ok self.old.walk }
-        requires draft { self.old.draft ≡ first_draft }
-        ensures ok { IfOk result (λ filter. filter_of_tokens env.now text.now broken (first.now ∷ tokens.now) ≡ Ok filter) }
-        ensures fault { IfErr result (λ f. f ≢ PolicyFault.NoMemory → filter_of_tokens env.now text.now broken (first.now ∷ tokens.now) ≡ Err f) }
-    {
-        let mut rest = tokens;
-        while let Some((token, behind)) = rest.split_first() {
-            let symbol = Symbol::of(text, token);
-            self.step(alloc, env, token.at, &symbol)?;
-            if symbol.is_line() {
-                return behind_filter(self.take_filter(alloc)?, behind, broken);
-            }
-            rest = behind;
+// The filter that begins with the token that was read, and goes on with those behind it.
+#[tactic(auto, using(crate::proofs::Cited::stands_elsewhere))]
+fn rest_of_filter<'a>(
+    reader: &mut Reader<'a>,
+    alloc: Global,
+    env: &Env,
+    text: &'a [u8],
+    broken: Option<LexFault>,
+    first: &Token,
+    tokens: &[Token],
+) -> Result<Filter, PolicyFault>
+    requires small { length text.now < 2 ^ 32 }
+    requires walk { begin_filter first.now.at (symbol_of text.now first.now) ≡ Ok reader.old.walk }
+    requires draft { reader.old.draft ≡ first_draft }
+    ensures ok { IfOk result (λ filter. filter_of_tokens env.now text.now broken (first.now ∷ tokens.now) ≡ Ok filter) }
+    ensures fault { IfErr result (λ f. f ≢ PolicyFault.NoMemory → filter_of_tokens env.now text.now broken (first.now ∷ tokens.now) ≡ Err f) }
+{
+    let mut rest = tokens;
+    while let Some((token, behind)) = rest.split_first() {
+        let symbol = Symbol::of(text, token);
+        reader.step(alloc, env, token.at, &symbol)?;
+        if symbol.is_line() {
+            return behind_filter(reader.take_filter(alloc)?, behind, broken);
         }
-        self.filter_at_end(alloc, env, text.len() as u32, broken)
+        rest = behind;
     }
+    filter_at_end(reader, alloc, env, text.len() as u32, broken)
 }
 
 // The filter whose tokens are this one and those behind it.
@@ -108,7 +106,7 @@ fn filter_of_tokens(
     ensures fault { IfErr result (λ f. f ≢ PolicyFault.NoMemory → filter_of_tokens env.now text.now broken (first.now ∷ tokens.now) ≡ Err f) }
 {
     let mut reader = begin_filter(alloc, first.at, &Symbol::of(text, first))?;
-    reader.rest_of_filter(alloc, env, text, broken, first, tokens)
+    rest_of_filter(&mut reader, alloc, env, text, broken, first, tokens)
 }
 
 // Where a text has no token.

@@ -8,11 +8,11 @@ ghost use Rattle.st_grammar.specs.Refusals.{place_from, place_in, refusal_in};
 ghost use Rattle.st_grammar.specs.Draft.{is_between_rows, is_binary_place, ends_filter, filter_of, first_draft, as_reading, read_step, read_end, read_from, first_reading, set_of, policies_in};
 ghost use Rattle.st_filter.specs.declared.set.TheConstants.{MOST_FILTERS};
 
-use crate::steps::Reader;
 use st_base::Text;
 use st_filter::{Filter, PolicySet};
 use st_grammar::{Env, PolicyFault, PolicyRefusal, Symbol};
 use st_lex::{LexFault, Token, tokens, unquote};
+use st_steps::Reader;
 use std::alloc::{AllocError, Global};
 
 fn if_absolute(name: Text) -> Option<Text>
@@ -51,150 +51,151 @@ pub(crate) fn lexical(fault: LexFault, found: PolicyFault) -> PolicyFault
     }
 }
 
-// Rows, and what they add to the policies.
-impl<'a> Reader<'a> {
-    // Behind `Policy:`. Kept out of line, since few symbols are binaries.
-    #[inline(never)]
-    fn read_binary(
-        &mut self,
-        alloc: Global,
-        env: &Env,
-        set: &mut PolicySet,
-        at: u32,
-        symbol: &Symbol<'a>,
-    ) -> Result<(), PolicyFault>
-        requires { is_binary_place self.old.walk.place ≡ true }
-        ensures ok { OnOk result (read_step env.now (as_reading self.old.walk self.old.draft set.old) at (seen symbol.now) ≡ Ok (as_reading self.new.walk self.new.draft set.new)) }
-        ensures fault { IfErr result (λ f. f ≢ PolicyFault.NoMemory → read_step env.now (as_reading self.old.walk self.old.draft set.old) at (seen symbol.now) ≡ Err f) }
-        ensures same { OnErr result (set.new ≡ set.old) }
-    {
-        let Some(binary) = binary_of(alloc, env, symbol)? else {
-            return Err(PolicyFault::Expected(at));
-        };
-        self.walk.begin_policy(set, at, binary.bytes())?;
-        set.begin(alloc, binary)?;
-        Ok(())
-    }
+// Behind `Policy:`. Kept out of line, since few symbols are binaries.
+#[inline(never)]
+fn read_binary<'a>(
+    reader: &mut Reader<'a>,
+    alloc: Global,
+    env: &Env,
+    set: &mut PolicySet,
+    at: u32,
+    symbol: &Symbol<'a>,
+) -> Result<(), PolicyFault>
+    requires { is_binary_place reader.old.walk.place ≡ true }
+    ensures ok { OnOk result (read_step env.now (as_reading reader.old.walk reader.old.draft set.old) at (seen symbol.now) ≡ Ok (as_reading reader.new.walk reader.new.draft set.new)) }
+    ensures fault { IfErr result (λ f. f ≢ PolicyFault.NoMemory → read_step env.now (as_reading reader.old.walk reader.old.draft set.old) at (seen symbol.now) ≡ Err f) }
+    ensures same { OnErr result (set.new ≡ set.old) }
+{
+    let Some(binary) = binary_of(alloc, env, symbol)? else {
+        return Err(PolicyFault::Expected(at));
+    };
+    reader.walk.begin_policy(set, at, binary.bytes())?;
+    set.begin(alloc, binary)?;
+    Ok(())
+}
 
-    // The end of a filter's row adds it to the policies. Kept out of line, since most symbols end no row.
-    #[inline(never)]
-    fn end_filter(&mut self, alloc: Global, set: &mut PolicySet) -> Result<(), AllocError>
-        requires { filters_in set.old < MOST_FILTERS }
-        ensures ok { OnOk result (set.new ≡ add_filter set.old (filter_of self.old.walk.name self.old.draft)) }
-        ensures draft { OnOk result (self.new.draft ≡ first_draft) }
-        ensures walk { self.new.walk ≡ self.old.walk }
-        ensures same { OnErr result (set.new ≡ set.old) }
-    {
-        let filter = self.take_filter(alloc)?;
-        set.add_filter(filter)
-    }
+// The end of a filter's row adds it to the policies. Kept out of line, since most symbols end no row.
+#[inline(never)]
+fn end_filter<'a>(
+    reader: &mut Reader<'a>,
+    alloc: Global,
+    set: &mut PolicySet,
+) -> Result<(), AllocError>
+    requires { filters_in set.old < MOST_FILTERS }
+    ensures ok { OnOk result (set.new ≡ add_filter set.old (filter_of reader.old.walk.name reader.old.draft)) }
+    ensures draft { OnOk result (reader.new.draft ≡ first_draft) }
+    ensures walk { reader.new.walk ≡ reader.old.walk }
+    ensures same { OnErr result (set.new ≡ set.old) }
+{
+    let filter = reader.take_filter(alloc)?;
+    set.add_filter(filter)
+}
 
-    // At every other place; the end of a filter's row adds it to the policies.
-    #[inline]
-    #[tactic(auto, using(crate::proofs::Cited::line_leaves))]
-    fn read_other(
-        &mut self,
-        alloc: Global,
-        env: &Env,
-        set: &mut PolicySet,
-        at: u32,
-        symbol: &Symbol<'a>,
-    ) -> Result<(), PolicyFault>
-        requires other { is_binary_place self.old.walk.place ≡ false }
-        requires room { ends_filter self.old.walk.place ≡ true → filters_in set.old < MOST_FILTERS }
-        ensures ok { OnOk result (read_step env.now (as_reading self.old.walk self.old.draft set.old) at (seen symbol.now) ≡ Ok (as_reading self.new.walk self.new.draft set.new)) }
-        ensures fault { IfErr result (λ f. f ≢ PolicyFault.NoMemory → read_step env.now (as_reading self.old.walk self.old.draft set.old) at (seen symbol.now) ≡ Err f) }
-        ensures same { OnErr result (set.new ≡ set.old) }
-    {
-        let ends = symbol.is_line() && self.walk.place().ends_filter();
-        self.step(alloc, env, at, symbol)?;
-        if ends {
-            self.end_filter(alloc, set)?;
-        }
-        Ok(())
+// At every other place; the end of a filter's row adds it to the policies.
+#[inline]
+#[tactic(auto, using(crate::proofs::Cited::line_leaves))]
+fn read_other<'a>(
+    reader: &mut Reader<'a>,
+    alloc: Global,
+    env: &Env,
+    set: &mut PolicySet,
+    at: u32,
+    symbol: &Symbol<'a>,
+) -> Result<(), PolicyFault>
+    requires other { is_binary_place reader.old.walk.place ≡ false }
+    requires room { ends_filter reader.old.walk.place ≡ true → filters_in set.old < MOST_FILTERS }
+    ensures ok { OnOk result (read_step env.now (as_reading reader.old.walk reader.old.draft set.old) at (seen symbol.now) ≡ Ok (as_reading reader.new.walk reader.new.draft set.new)) }
+    ensures fault { IfErr result (λ f. f ≢ PolicyFault.NoMemory → read_step env.now (as_reading reader.old.walk reader.old.draft set.old) at (seen symbol.now) ≡ Err f) }
+    ensures same { OnErr result (set.new ≡ set.old) }
+{
+    let ends = symbol.is_line() && reader.walk.place().ends_filter();
+    reader.step(alloc, env, at, symbol)?;
+    if ends {
+        end_filter(reader, alloc, set)?;
     }
+    Ok(())
+}
 
-    // Reads one symbol.
-    #[inline]
-    fn read(
-        &mut self,
-        alloc: Global,
-        env: &Env,
-        set: &mut PolicySet,
-        at: u32,
-        symbol: &Symbol<'a>,
-    ) -> Result<(), PolicyFault>
-        requires { ends_filter self.old.walk.place ≡ true → filters_in set.old < MOST_FILTERS }
-        ensures ok { OnOk result (read_step env.now (as_reading self.old.walk self.old.draft set.old) at (seen symbol.now) ≡ Ok (as_reading self.new.walk self.new.draft set.new)) }
-        ensures fault { IfErr result (λ f. f ≢ PolicyFault.NoMemory → read_step env.now (as_reading self.old.walk self.old.draft set.old) at (seen symbol.now) ≡ Err f) }
-        ensures same { OnErr result (set.new ≡ set.old) }
-    {
-        if self.walk.place().is_binary() {
-            self.read_binary(alloc, env, set, at, symbol)
-        } else {
-            self.read_other(alloc, env, set, at, symbol)
-        }
+// Reads one symbol.
+#[inline]
+fn read<'a>(
+    reader: &mut Reader<'a>,
+    alloc: Global,
+    env: &Env,
+    set: &mut PolicySet,
+    at: u32,
+    symbol: &Symbol<'a>,
+) -> Result<(), PolicyFault>
+    requires { ends_filter reader.old.walk.place ≡ true → filters_in set.old < MOST_FILTERS }
+    ensures ok { OnOk result (read_step env.now (as_reading reader.old.walk reader.old.draft set.old) at (seen symbol.now) ≡ Ok (as_reading reader.new.walk reader.new.draft set.new)) }
+    ensures fault { IfErr result (λ f. f ≢ PolicyFault.NoMemory → read_step env.now (as_reading reader.old.walk reader.old.draft set.old) at (seen symbol.now) ≡ Err f) }
+    ensures same { OnErr result (set.new ≡ set.old) }
+{
+    if reader.walk.place().is_binary() {
+        read_binary(reader, alloc, env, set, at, symbol)
+    } else {
+        read_other(reader, alloc, env, set, at, symbol)
     }
+}
 
-    // The text's end ends a row, or what stands there is no token.
-    fn end(
-        &mut self,
-        alloc: Global,
-        env: &Env,
-        set: &mut PolicySet,
-        text: &[u8],
-        broken: Option<LexFault>,
-    ) -> Result<(), PolicyFault>
-        requires small { length text.now < 2 ^ 32 }
-        requires room { ends_filter self.old.walk.place ≡ true → filters_in set.old < MOST_FILTERS }
-        ensures ok { OnOk result (read_end env.now text.now broken (as_reading self.old.walk self.old.draft set.old) ≡ Ok (as_reading self.new.walk self.new.draft set.new)) }
-        ensures fault { IfErr result (λ f. f ≢ PolicyFault.NoMemory → read_end env.now text.now broken (as_reading self.old.walk self.old.draft set.old) ≡ Err f) }
-        ensures same { OnErr result (set.new ≡ set.old) }
-    {
-        let at = text.len() as u32;
-        match broken {
-            None => self.read(alloc, env, set, at, &Symbol::Line),
-            Some(fault) => match self.read(alloc, env, set, at, &Symbol::Broken) {
-                Ok(()) => Ok(()),
-                Err(found) => Err(lexical(fault, found)),
-            },
-        }
-    }
-
-    // Reads tokens and what stands behind them; where that fails, the set has what was read of it.
-    #[tactic(auto, using(crate::proofs::Cited::old_is_kept, crate::proofs::Cited::has_room))]
-    fn read_all(
-        &mut self,
-        alloc: Global,
-        text: &'a [u8],
-        env: &Env,
-        set: &mut PolicySet,
-        tokens: &[Token],
-        broken: Option<LexFault>,
-    ) -> Result<(), PolicyRefusal>
-        requires small { length text.now < 2 ^ 32 }
-        requires sound { IsSound set.old (as_reading self.old.walk self.old.draft set.old) }
-        ensures ok { OnOk result (set_of (read_from env.now text.now broken (as_reading self.old.walk self.old.draft set.old) tokens.now) ≡ Ok set.new) }
-        ensures fault { IfErr result (λ r. r.fault ≢ PolicyFault.NoMemory → read_from env.now text.now broken (as_reading self.old.walk self.old.draft set.old) tokens.now ≡ Err r.fault) }
-        ensures place { IfErr result (λ r. r.fault ≢ PolicyFault.NoMemory → place_from env.now text.now (as_reading self.old.walk self.old.draft set.old) tokens.now ≡ r.place) }
-        ensures kept { OnErr result (take (length set.old) set.new ≡ set.old) }
-    {
-        for token in tokens {
-            let symbol = Symbol::of(text, token);
-            let place = self.walk.place();
-            // A blank line leaves everything as it is.
-            if symbol.is_line() && place.is_between_rows() {
-                continue;
-            }
-            if let Err(fault) = self.read(alloc, env, set, token.at, &symbol) {
-                return Err(PolicyRefusal { fault, place });
-            }
-        }
-        let place = self.walk.place();
-        match self.end(alloc, env, set, text, broken) {
+// The text's end ends a row, or what stands there is no token.
+fn end<'a>(
+    reader: &mut Reader<'a>,
+    alloc: Global,
+    env: &Env,
+    set: &mut PolicySet,
+    text: &[u8],
+    broken: Option<LexFault>,
+) -> Result<(), PolicyFault>
+    requires small { length text.now < 2 ^ 32 }
+    requires room { ends_filter reader.old.walk.place ≡ true → filters_in set.old < MOST_FILTERS }
+    ensures ok { OnOk result (read_end env.now text.now broken (as_reading reader.old.walk reader.old.draft set.old) ≡ Ok (as_reading reader.new.walk reader.new.draft set.new)) }
+    ensures fault { IfErr result (λ f. f ≢ PolicyFault.NoMemory → read_end env.now text.now broken (as_reading reader.old.walk reader.old.draft set.old) ≡ Err f) }
+    ensures same { OnErr result (set.new ≡ set.old) }
+{
+    let at = text.len() as u32;
+    match broken {
+        None => read(reader, alloc, env, set, at, &Symbol::Line),
+        Some(fault) => match read(reader, alloc, env, set, at, &Symbol::Broken) {
             Ok(()) => Ok(()),
-            Err(fault) => Err(PolicyRefusal { fault, place }),
+            Err(found) => Err(lexical(fault, found)),
+        },
+    }
+}
+
+// Reads tokens and what stands behind them; where that fails, the set has what was read of it.
+#[tactic(auto, using(crate::proofs::Cited::old_is_kept, crate::proofs::Cited::has_room))]
+fn read_all<'a>(
+    reader: &mut Reader<'a>,
+    alloc: Global,
+    text: &'a [u8],
+    env: &Env,
+    set: &mut PolicySet,
+    tokens: &[Token],
+    broken: Option<LexFault>,
+) -> Result<(), PolicyRefusal>
+    requires small { length text.now < 2 ^ 32 }
+    requires sound { IsSound set.old (as_reading reader.old.walk reader.old.draft set.old) }
+    ensures ok { OnOk result (set_of (read_from env.now text.now broken (as_reading reader.old.walk reader.old.draft set.old) tokens.now) ≡ Ok set.new) }
+    ensures fault { IfErr result (λ r. r.fault ≢ PolicyFault.NoMemory → read_from env.now text.now broken (as_reading reader.old.walk reader.old.draft set.old) tokens.now ≡ Err r.fault) }
+    ensures place { IfErr result (λ r. r.fault ≢ PolicyFault.NoMemory → place_from env.now text.now (as_reading reader.old.walk reader.old.draft set.old) tokens.now ≡ r.place) }
+    ensures kept { OnErr result (take (length set.old) set.new ≡ set.old) }
+{
+    for token in tokens {
+        let symbol = Symbol::of(text, token);
+        let place = reader.walk.place();
+        // A blank line leaves everything as it is.
+        if symbol.is_line() && place.is_between_rows() {
+            continue;
         }
+        if let Err(fault) = read(reader, alloc, env, set, token.at, &symbol) {
+            return Err(PolicyRefusal { fault, place });
+        }
+    }
+    let place = reader.walk.place();
+    match end(reader, alloc, env, set, text, broken) {
+        Ok(()) => Ok(()),
+        Err(fault) => Err(PolicyRefusal { fault, place }),
     }
 }
 
@@ -216,7 +217,7 @@ fn read_tokens(
     ensures few { OnOk result (filters_in set.old ≤ MOST_FILTERS) }
 {
     let mut reader = Reader::new(alloc, set.filters());
-    reader.read_all(alloc, text, env, set, tokens, broken)
+    read_all(&mut reader, alloc, text, env, set, tokens, broken)
 }
 
 // Reads a text; where that fails, the set has what was read of it.

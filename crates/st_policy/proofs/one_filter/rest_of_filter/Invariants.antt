@@ -1,13 +1,13 @@
 use Rattle.std.proofs.Common.{◌≡◌, ◌∷◌, length}
 use Rattle.st_grammar.specs.OneFilter.{filter_from, filter_of_tokens}
 use Rattle.st_grammar.proofs.OneFilters.{InFilter}
-use Rattle.st_policy.proofs.steps.Reader.rest_of_filter.Given as goal
+use Rattle.st_policy.proofs.one_filter.rest_of_filter.Given as goal
 
 -- what is left, read behind what was read, gives the answer; and what was read begins a filter
 abbrev pub invariant-loop-token : goal.invariant-loop-token
 invariant-loop-token l = record {
-  rest : filter_of_tokens l.env l.text l.broken (l.first ∷ l.tokens) ≡ filter_from l.env l.text l.broken l.self.walk l.self.draft l.rest;
-  within : InFilter l.env l.self.walk l.self.draft;
+  rest : filter_of_tokens l.env l.text l.broken (l.first ∷ l.tokens) ≡ filter_from l.env l.text l.broken l.reader.walk l.reader.draft l.rest;
+  within : InFilter l.env l.reader.walk l.reader.draft;
 }
 
 abbrev pub decreases-loop-token : goal.decreases-loop-token

@@ -2,10 +2,10 @@
 use Rattle.std.proofs.Common.{◌≡◌, true, false, List, [], ◌∷◌, ◌++◌, map, refl, ap, ◌∙◌}
 use Rattle.std.specs.Prelude.{reverse}
 use Rattle.std.proofs.lemmas.List.{map-append, reverse-append}
-use Rattle.st_policy.specs.declared.stack.PendingOperand as kept
+use Rattle.st_steps.specs.declared.stack.PendingOperand as kept
 use Rattle.st_filter.specs.Formula.{Formula}
 use Rattle.st_grammar.specs.Draft.{PendingOperand, Negation, Group, Both, Either, reduced, settle, close_either, without_group}
-use Rattle.st_policy.specs.Stack.{waiting, stacked, is_tight, is_either, is_group, newest_is, with_right_operand}
+use Rattle.st_steps.specs.Stack.{waiting, stacked, is_tight, is_either, is_group, newest_is, with_right_operand}
 
 pub stacked_push : (items : List kept.PendingOperand) (p : kept.PendingOperand) → stacked (items ++ p ∷ []) ≡ waiting p ∷ stacked items
 stacked_push items p = ap reverse (map-append waiting items (p ∷ [])) ∙ reverse-append (map waiting items) (waiting p ∷ [])

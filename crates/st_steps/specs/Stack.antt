@@ -1,7 +1,7 @@
 -- What waits for its right operand, as it is kept.
 use Rattle.std.specs.Prelude.{Bool, true, false, box_value, List, [], ◌∷◌, map, reverse}
-use Rattle.st_policy.specs.declared.stack.PendingOperand.{PendingOperand}
-use Rattle.st_policy.specs.declared.stack.PendingOperand.TheVariants as kept
+use Rattle.st_steps.specs.declared.stack.PendingOperand.{PendingOperand}
+use Rattle.st_steps.specs.declared.stack.PendingOperand.TheVariants as kept
 use Rattle.st_filter.specs.Formula.{Formula, formula}
 use Rattle.st_filter.specs.Formula as formula
 use Rattle.st_grammar.specs.Draft as spec

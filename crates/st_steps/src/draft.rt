@@ -1,6 +1,6 @@
 ghost use Rattle.std.specs.Prelude.{◌≡◌, OnOk};
 ghost use Rattle.st_filter.specs.Formula.{formula};
-ghost use Rattle.st_policy.specs.Stack.{waiting};
+ghost use Rattle.st_steps.specs.Stack.{waiting};
 ghost use Rattle.st_grammar.specs.Draft.{close_either, first_draft, with_pending, with_operand, joins_both, joins_either, close_group, filter_of};
 
 use crate::stack::{PendingOperand, Stack};
@@ -12,7 +12,7 @@ use std::mem::replace;
 
 /// What a row of a policy has spelled so far.
 #[derive(Drop)]
-pub(crate) struct Draft {
+pub struct Draft {
     pending: Stack,
     // The operand that was read last.
     expr: Expr,

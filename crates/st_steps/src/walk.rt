@@ -17,7 +17,7 @@ const MOST_JOINS: u32 = 64;
 
 /// How far the grammar has come in a text. Parts of the text are named and not copied.
 #[derive(Drop)]
-pub(crate) struct GrammarState<'a> {
+pub struct GrammarState<'a> {
     place: Place,
     // How many filters there are, this one and those of earlier files too.
     filters: usize,
@@ -63,7 +63,7 @@ impl<'a> GrammarState<'a> {
     }
 
     /// Where the next token stands.
-    pub(crate) fn place(&self) -> Place
+    pub fn place(&self) -> Place
         ensures { result ≡ self.now.place }
     {
         self.place
@@ -88,7 +88,7 @@ impl<'a> GrammarState<'a> {
     }
 
     /// Behind `Policy:`, where this binary is named.
-    pub(crate) fn begin_policy(
+    pub fn begin_policy(
         &mut self,
         known: &PolicySet,
         at: u32,
@@ -108,7 +108,7 @@ impl<'a> GrammarState<'a> {
 // Filters.
 impl<'a> GrammarState<'a> {
     /// At the front of a row, where a filter's name stands.
-    pub(crate) fn begin_filter(&mut self, at: u32, word: &'a [u8]) -> Result<(), PolicyFault>
+    pub fn begin_filter(&mut self, at: u32, word: &'a [u8]) -> Result<(), PolicyFault>
         ensures ok { IsStepped result self.new (step_name self.old at (filter_name word.now)) }
     {
         let Some(name) = native_name(word) else {

@@ -1,6 +1,6 @@
 ghost use Rattle.std.specs.Prelude.{◌≡◌, ◌∷◌, [], true, false, OnOk, IfOk, IfSome, IfNone, OnOk};
 ghost use Rattle.st_filter.specs.Formula.{formula};
-ghost use Rattle.st_policy.specs.Stack.{waiting, is_tight, is_either, is_group, newest_is, with_right_operand};
+ghost use Rattle.st_steps.specs.Stack.{waiting, is_tight, is_either, is_group, newest_is, with_right_operand};
 ghost use Rattle.st_grammar.specs.Draft.{reduced, settle, close_either, without_group};
 
 use st_filter::Expr;
@@ -79,7 +79,7 @@ impl Model for Stack {
     ghost use Rattle.std.specs.Coded.{codes};
     ghost use Rattle.st_filter.specs.FormulaCode.{formula_code};
     ghost use Rattle.st_grammar.specs.Draft.{PendingOperand};
-    ghost use Rattle.st_policy.specs.Stack.{stacked};
+    ghost use Rattle.st_steps.specs.Stack.{stacked};
 
     ghost Value = { List PendingOperand };
 

@@ -4,8 +4,8 @@ use Rattle.std.specs.Str.{bytes_eq}
 use Rattle.st_grammar.specs.Diagram.{binaries, step_to}
 use Rattle.st_grammar.specs.declared.fault.PolicyFault.TheVariants.{DuplicatePolicy}
 use Rattle.st_grammar.specs.declared.place.Place.TheVariants as place
-use Rattle.st_policy.proofs.Binaries.{has_policy_among}
-use Rattle.st_policy.proofs.walk.GrammarState.begin_policy.Goals as goal
+use Rattle.st_steps.proofs.Binaries.{has_policy_among}
+use Rattle.st_steps.proofs.walk.GrammarState.begin_policy.Goals as goal
 
 pub returns-then-has-clause-ok : goal.returns-then-has-clause-ok
 returns-then-has-clause-ok c = λ memory.

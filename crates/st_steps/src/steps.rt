@@ -18,15 +18,15 @@ use std::alloc::{AllocError, Global};
 /// How far a text is read, but for its policies. Each step takes one symbol in: the grammar goes on, and the row's draft gets what the
 /// symbol spells.
 #[derive(Drop)]
-pub(crate) struct Reader<'a> {
-    pub(crate) walk: GrammarState<'a>,
-    pub(crate) draft: Draft,
+pub struct Reader<'a> {
+    pub walk: GrammarState<'a>,
+    pub draft: Draft,
 }
 
 // Rows and headers.
 impl<'a> Reader<'a> {
     /// The front of a text, with so many filters read before it.
-    pub(crate) fn new(alloc: Global, filters: usize) -> Self
+    pub fn new(alloc: Global, filters: usize) -> Self
         ensures walk { result.walk ≡ record { place = Place.Start; filters = filters; name = FilterName.Other []; label = []; label_at = 0; parens = 0; joins = 0 } }
         ensures draft { result.draft ≡ first_draft }
     {
@@ -524,7 +524,7 @@ impl<'a> Reader<'a> {
 // All places.
 impl<'a> Reader<'a> {
     /// Takes in a symbol at every place but a header's binary.
-    pub(crate) fn step(
+    pub fn step(
         &mut self,
         alloc: Global,
         env: &Env,
@@ -580,7 +580,7 @@ impl<'a> Reader<'a> {
     }
 
     /// The filter that the row has spelled; nothing is left of its draft.
-    pub(crate) fn take_filter(&mut self, alloc: Global) -> Result<Filter, AllocError>
+    pub fn take_filter(&mut self, alloc: Global) -> Result<Filter, AllocError>
         ensures filter { IfOk result (λ filter. filter ≡ filter_of self.old.walk.name self.old.draft) }
         ensures walk { self.new.walk ≡ self.old.walk }
         ensures draft { OnOk result (self.new.draft ≡ first_draft) }

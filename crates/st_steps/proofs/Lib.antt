@@ -1,0 +1,2 @@
+pub mod Binaries
+pub mod Settling
