@@ -226,6 +226,10 @@ pub on_err : {A E P : Type 0} (result : Result A E) → P → OnErr result P
 on_err (Ok a) x = tt
 on_err (Err e) x = x
 
+-- what is left with the caller is the entry
+pub left_as : (old new : Running) (c : Choice) (added : Option Entry) (e : Entry) → added ≡ Some e → IsStep old c (Some e) new → IsStep old c added new
+left_as old new c added e is step = subst (λ (o : Option Entry). IsStep old c o new) (sym is) step
+
 -- what stands twice stands
 pub stands_on : (a b d : UnderWay) → Stands a b → Stands b d → Stands a d
 stands_on a b d first second = λ i messages turns alive posted kept. second i messages turns alive posted (first i messages turns alive posted kept)

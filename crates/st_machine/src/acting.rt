@@ -8,6 +8,7 @@ ghost use Rattle.st_next.specs.declared.step.Step.TheVariants as steps;
 ghost use Rattle.st_trace.specs.declared.entry.Choice.TheVariants.{Thread};
 
 use crate::machine::Machine;
+use crate::placing::{leave, leave_none};
 use st_base::{Errno, Ids, Pid, Seq, Sequence, Tid};
 use st_calls::SysCall;
 use st_next::{Step, Use};
@@ -23,7 +24,7 @@ impl<'a> Machine<'a> {
     {
         self.system.end_thread(tid);
         self.threads[tid as usize - 1].end();
-        *added = Some(Entry::Ended { tid });
+        leave(added, Entry::Ended { tid });
     }
 
     // A thread stores a word.
@@ -34,7 +35,7 @@ impl<'a> Machine<'a> {
     {
         self.system.store(tid, place, word);
         self.threads[tid as usize - 1].go_on();
-        *added = Some(Entry::Stored { tid, place, word });
+        leave(added, Entry::Stored { tid, place, word });
     }
 
     // A thread's call, which isn't held, fails before it is made.
@@ -60,7 +61,10 @@ impl<'a> Machine<'a> {
             args: CallArgs::own(Sequence::new(alloc)),
             ids,
         };
-        *added = Some(failed.entry(tid, CallResult::Failed(errno), Sequence::new(alloc)));
+        leave(
+            added,
+            failed.entry(tid, CallResult::Failed(errno), Sequence::new(alloc)),
+        );
     }
 
     // A thread's barred call is denied.
@@ -70,12 +74,15 @@ impl<'a> Machine<'a> {
         ensures input { self.new.input ≡ self.old.input }
     {
         self.threads[tid as usize - 1].close();
-        *added = Some(Entry::Denied {
-            tid,
-            seq: None,
-            errno,
-            cause,
-        });
+        leave(
+            added,
+            Entry::Denied {
+                tid,
+                seq: None,
+                errno,
+                cause,
+            },
+        );
     }
 
     // A thread's held call is denied, and its number ends.
@@ -93,12 +100,15 @@ impl<'a> Machine<'a> {
     {
         self.threads[tid as usize - 1].close();
         self.workers.cancel(seq);
-        *added = Some(Entry::Denied {
-            tid,
-            seq: Some(seq),
-            errno,
-            cause,
-        });
+        leave(
+            added,
+            Entry::Denied {
+                tid,
+                seq: Some(seq),
+                errno,
+                cause,
+            },
+        );
     }
 
     // A thread's call is denied.
@@ -168,11 +178,11 @@ impl<'a> Machine<'a> {
     {
         let step = self.view().next_step(alloc, tid)?;
         if let Step::Wait = step {
-            *added = None;
+            leave_none(added);
             return Ok(());
         }
         let Some(pid) = self.system.pid_of(tid) else {
-            *added = None;
+            leave_none(added);
             return Ok(());
         };
         self.act(alloc, tid, pid, step, added)

@@ -4,6 +4,7 @@ ghost use Rattle.st_next.specs.Machine.{IsStep, Stands};
 ghost use Rattle.st_trace.specs.declared.entry.Choice.TheVariants.{Operator};
 
 use crate::machine::Machine;
+use crate::placing::{leave, leave_none};
 use st_trace::Entry;
 use std::alloc::{AllocError, Global};
 
@@ -16,10 +17,13 @@ impl<'a> Machine<'a> {
         ensures input { self.new.input ≡ self.old.input }
     {
         let Some(copies) = self.view().least_question(alloc)? else {
-            *added = None;
+            leave_none(added);
             return Ok(());
         };
-        *added = Some(self.operator.answer(alloc, self.input, copies.get())?);
+        leave(
+            added,
+            self.operator.answer(alloc, self.input, copies.get())?,
+        );
         Ok(())
     }
 }

@@ -4,6 +4,7 @@ ghost use Rattle.st_next.specs.Machine.{IsStep, Stands};
 ghost use Rattle.st_trace.specs.declared.entry.Choice.TheVariants as choices;
 
 use crate::machine::Machine;
+use crate::placing::leave_none;
 use st_base::Worker;
 use st_trace::{Choice, Entry};
 use std::alloc::{AllocError, Global};
@@ -21,7 +22,7 @@ impl<'a> Machine<'a> {
         ensures input { self.new.input ≡ self.old.input }
     {
         if worker < 1 || worker > self.workers.workers() {
-            *added = None;
+            leave_none(added);
             return Ok(());
         }
         self.serve(alloc, worker, added)

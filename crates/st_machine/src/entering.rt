@@ -8,6 +8,7 @@ ghost use Rattle.st_trace.specs.declared.entry.Choice.TheVariants.{Thread};
 ghost use Rattle.st_trace.specs.declared.entry.Way.TheVariants.{Held};
 
 use crate::machine::Machine;
+use crate::placing::leave;
 use st_base::{Pid, Seq, Tid};
 use st_calls::SysCall;
 use st_trace::{Entry, Way};
@@ -30,12 +31,15 @@ impl<'a> Machine<'a> {
         ensures input { self.new.input ≡ self.old.input }
     {
         self.threads[tid as usize - 1].enter(call, regs, way);
-        *added = Some(Entry::Entered {
-            tid,
-            call,
-            regs,
-            way,
-        });
+        leave(
+            added,
+            Entry::Entered {
+                tid,
+                call,
+                regs,
+                way,
+            },
+        );
     }
 
     // A thread enters a call that is held under the next number, and its message is posted. Without memory all is as good as before.
@@ -61,12 +65,15 @@ impl<'a> Machine<'a> {
         self.workers.post(alloc, tid, head)?;
         let way = Way::Held(seq);
         self.threads[tid as usize - 1].enter(call, regs, way);
-        *added = Some(Entry::Entered {
-            tid,
-            call,
-            regs,
-            way,
-        });
+        leave(
+            added,
+            Entry::Entered {
+                tid,
+                call,
+                regs,
+                way,
+            },
+        );
         Ok(())
     }
 

@@ -13,6 +13,7 @@ ghost use Rattle.st_system.specs.Steps.{CanMake};
 ghost use Rattle.st_trace.specs.declared.entry.Choice.TheVariants.{Thread};
 
 use crate::machine::Machine;
+use crate::placing::leave;
 use st_base::{Pid, Tid};
 use st_calls::SysCall;
 use st_next::Use;
@@ -63,7 +64,7 @@ impl<'a> Machine<'a> {
             pid,
             changes,
         );
-        *added = Some(made.entry(tid, outcome.result, outcome.changes));
+        leave(added, made.entry(tid, outcome.result, outcome.changes));
         Ok(())
     }
 

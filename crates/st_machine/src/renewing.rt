@@ -13,6 +13,7 @@ ghost use Rattle.st_system.specs.Steps.{CanMake};
 ghost use Rattle.st_trace.specs.declared.entry.Choice.TheVariants.{Thread as Moves};
 
 use crate::machine::Machine;
+use crate::placing::leave;
 use st_base::{Ids, Pid, Sequence, Tid};
 use st_next::Use;
 use st_procs::ids_after;
@@ -64,7 +65,7 @@ impl<'a> Machine<'a> {
             tid,
             plan.cwds,
         );
-        *added = Some(made.entry(tid, outcome.result, plan.changes));
+        leave(added, made.entry(tid, outcome.result, plan.changes));
         Ok(())
     }
 
@@ -92,7 +93,7 @@ impl<'a> Machine<'a> {
         let outcome = self.system.execute(alloc, made.call, &request)?;
         self.threads[tid as usize - 1].close();
         end_call(&mut self.workers, made.seq);
-        *added = Some(made.entry(tid, outcome.result, Sequence::new(alloc)));
+        leave(added, made.entry(tid, outcome.result, Sequence::new(alloc)));
         Ok(())
     }
 

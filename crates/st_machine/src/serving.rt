@@ -7,6 +7,7 @@ ghost use Rattle.st_trace.specs.declared.entry.Choice.TheVariants.{Worker};
 ghost use Rattle.st_workers.specs.declared.task.Task.TheVariants as tasks;
 
 use crate::machine::Machine;
+use crate::placing::{leave, leave_none};
 use st_base::{Errno, Pid, Seq, Worker};
 use st_filter::decide;
 use st_messages::Delivered;
@@ -39,7 +40,7 @@ impl<'a> Machine<'a> {
     {
         match self.workers.task(worker) {
             Task::Rest => {
-                *added = None;
+                leave_none(added);
                 Ok(())
             }
             Task::Claim => self.claim(alloc, worker, added),
@@ -74,7 +75,7 @@ impl<'a> Machine<'a> {
         ensures input { self.new.input ≡ self.old.input }
     {
         let seq = self.workers.claim(alloc, worker)?;
-        *added = Some(Entry::Claimed { worker, seq });
+        leave(added, Entry::Claimed { worker, seq });
         Ok(())
     }
 
@@ -96,12 +97,15 @@ impl<'a> Machine<'a> {
     {
         let word = self.system.word(pid, place);
         self.workers.copy(alloc, worker, word)?;
-        *added = Some(Entry::Copied {
-            seq,
-            part,
-            place,
-            word,
-        });
+        leave(
+            added,
+            Entry::Copied {
+                seq,
+                part,
+                place,
+                word,
+            },
+        );
         Ok(())
     }
 
@@ -123,12 +127,15 @@ impl<'a> Machine<'a> {
         let seen = self.system.look(&name);
         let text = seen.copy(alloc)?;
         self.workers.look(alloc, worker, seen)?;
-        *added = Some(Entry::Looked {
-            seq,
-            part,
-            name,
-            seen: text,
-        });
+        leave(
+            added,
+            Entry::Looked {
+                seq,
+                part,
+                name,
+                seen: text,
+            },
+        );
         Ok(())
     }
 
@@ -139,7 +146,7 @@ impl<'a> Machine<'a> {
         ensures input { self.new.input ≡ self.old.input }
     {
         self.workers.fault(worker);
-        *added = Some(Entry::Faulted { seq, errno });
+        leave(added, Entry::Faulted { seq, errno });
     }
 
     // A ready worker answers with what the filters that were read say of its copies.
@@ -152,11 +159,14 @@ impl<'a> Machine<'a> {
         let copies = self.workers.copies(worker);
         let verdict = decide(self.input.policies.get(copies.policy.get().bytes()), copies);
         let (snapshot, delivered) = self.workers.answer(worker, verdict);
-        *added = Some(Entry::Answered {
-            worker,
-            snapshot,
-            verdict,
-            applied: is_applied(delivered),
-        });
+        leave(
+            added,
+            Entry::Answered {
+                worker,
+                snapshot,
+                verdict,
+                applied: is_applied(delivered),
+            },
+        );
     }
 }

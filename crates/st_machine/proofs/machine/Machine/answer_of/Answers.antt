@@ -2,7 +2,7 @@ use Rattle.std.proofs.Common.{List, ◌≡◌, Some, ap, sym, subst, ◌∙◌}
 use Rattle.st_trace.specs.declared.entry.Choice.TheVariants as choice
 use Rattle.st_trace.specs.declared.entry.Entry.TheVariants as entry
 use Rattle.st_next.specs.Machine.{HasTask, IsStep, Running}
-use Rattle.st_machine.proofs.Served.{answered, applied_as, same_copies, running_step, with_workers}
+use Rattle.st_machine.proofs.Served.{answered, applied_as, left_as, running_step, same_copies, with_workers}
 use Rattle.st_workers.specs.declared.task.Task.TheVariants as tasks
 use Rattle.st_calls.specs.declared.judged.Snapshot.{Snapshot}
 use Rattle.st_filter.specs.Formula.{FilterValue}
@@ -11,14 +11,14 @@ use Rattle.st_filter.specs.Policies.{filters_of, policy_of}
 use Rattle.st_messages.specs.Messages.{is_live}
 use Rattle.st_machine.proofs.machine.Machine.answer_of.Goals as goal
 
-abbrev old : goal.Joined-added → Running
+abbrev old : goal.After-leave → Running
 old c = record { input = c.self.inside.input.now; system = c.self.inside.system; workers = c.self.inside.workers; threads = c.self.inside.threads.items; answers = c.self.inside.answers; operator = c.self.inside.operator }
 
-task : (c : goal.Joined-added) → HasTask (old c) c.args.worker tasks.Answer
+task : (c : goal.After-leave) → HasTask (old c) c.args.worker tasks.Answer
 task c = subst (λ (m : Running). HasTask m c.args.worker (tasks.Answer)) (sym c.self.view_is) c.requires.task
 
 -- the copies that were judged are those of the answer
-judged : (c : goal.Joined-added) → c.decide-verdict.result ≡ verdict (filters_of c.answer-snapshot.result.0.rule (policy_of c.self.inside.input.now.policies c.answer-snapshot.result.0.policy)) c.answer-snapshot.result.0
+judged : (c : goal.After-leave) → c.decide-verdict.result ≡ verdict (filters_of c.answer-snapshot.result.0.rule (policy_of c.self.inside.input.now.policies c.answer-snapshot.result.0.policy)) c.answer-snapshot.result.0
 judged c =
     let policies = c.self.inside.input.now.policies in
     let copies : Snapshot = c.copies-copies.result.now in
@@ -27,7 +27,7 @@ judged c =
     ∙ ap (λ (filters : List FilterValue). verdict (filters_of copies.rule filters) copies) (c.get-2.ensures.is ∙ ap (policy_of policies) (c.bytes.ensures ∙ c.get.ensures))
     ∙ ap (λ (s : Snapshot). verdict (filters_of s.rule (policy_of policies s.policy)) s) same
 
-step : (c : goal.Joined-added) → IsStep (old c) (choice.Worker c.args.worker) (Some (entry.Answered c.args.worker c.answer-snapshot.result.0 c.decide-verdict.result c.is_applied.result)) (with_workers (old c) c.answer-snapshot.new.self)
+step : (c : goal.After-leave) → IsStep (old c) (choice.Worker c.args.worker) (Some (entry.Answered c.args.worker c.answer-snapshot.result.0 c.decide-verdict.result c.is_applied.result)) (with_workers (old c) c.answer-snapshot.new.self)
 step c = answered (old c) c.args.worker c.answer-snapshot.new.self c.answer-snapshot.result.0 c.decide-verdict.result c.is_applied.result c.answer-snapshot.ensures.copies (judged c)
     (λ i st alive kept. c.is_applied.ensures ∙ applied_as c.answer-snapshot.result.1 (is_live c.self.inside.workers.calls c.answer-snapshot.result.0.seq) c.answer-snapshot.ensures.applied ∙ c.answer-snapshot.ensures.lives i st alive kept)
     (task c) c.answer-snapshot.ensures.kept
@@ -36,4 +36,4 @@ pub invariant_of-self : goal.invariant_of-self
 invariant_of-self c = running_step (old c) (with_workers (old c) c.answer-snapshot.new.self) (choice.Worker c.args.worker) (entry.Answered c.args.worker c.answer-snapshot.result.0 c.decide-verdict.result c.is_applied.result) c.self.invariant (step c)
 
 pub returns-clause-step : goal.returns-clause-step
-returns-clause-step c = subst (λ (m : Running). IsStep m (choice.Worker c.args.worker) (Some (entry.Answered c.args.worker c.answer-snapshot.result.0 c.decide-verdict.result c.is_applied.result)) (with_workers (old c) c.answer-snapshot.new.self)) c.self.view_is (step c)
+returns-clause-step c = left_as _ _ (choice.Worker c.args.worker) _ _ c.leave.ensures (subst (λ (m : Running). IsStep m (choice.Worker c.args.worker) (Some (entry.Answered c.args.worker c.answer-snapshot.result.0 c.decide-verdict.result c.is_applied.result)) (with_workers (old c) c.answer-snapshot.new.self)) c.self.view_is (step c))

@@ -5,7 +5,7 @@ use Rattle.st_next.specs.Machine.{IsStep, Running}
 use Rattle.st_next.specs.Questions.{IsLeastFound}
 use Rattle.st_next.proofs.Asked.{answers_here}
 use Rattle.st_machine.proofs.Answered.{answered_on, with_operator}
-use Rattle.st_machine.proofs.Served.{running_step}
+use Rattle.st_machine.proofs.Served.{left_as, running_step}
 use Rattle.st_machine.proofs.machine.Machine.ask.Goals as goal
 
 pub answer-requires : goal.answer-requires
@@ -25,9 +25,9 @@ invariant_of-self-2 c =
     running_step m (with_operator m c.answer.new.self) Operator c.in_ok-answer.field-0 c.self.invariant (answered_on m c.answer.new.self copies c.in_ok-answer.field-0 x c.in_ok-answer.ensures.law)
 
 pub returns-clause-step : goal.returns-clause-step
-returns-clause-step c =
-    let m : Running = record { input = c.self.inside.input.now; system = c.self.inside.system; workers = c.self.inside.workers; threads = c.self.inside.threads.items; answers = c.self.inside.answers; operator = c.self.inside.operator } in
+returns-clause-step c = left_as _ _ Operator _ _ c.leave.ensures
+    (let m : Running = record { input = c.self.inside.input.now; system = c.self.inside.system; workers = c.self.inside.workers; threads = c.self.inside.threads.items; answers = c.self.inside.answers; operator = c.self.inside.operator } in
     let copies : Snapshot = c.get.result.now in
     let x : IsLeastFound m (Some copies) = subst (λ (k : Running). IsLeastFound k (Some copies)) (sym c.self.view_is) (subst (λ (k : Running). IsLeastFound k (Some copies)) c.view.ensures (subst (IsLeastFound c.view.result) (c.in-Some.is ∙ ap Some (sym c.get.ensures)) c.in_ok-copies.ensures)) in
     subst (λ (k : Running). IsStep k Operator (Some c.in_ok-answer.field-0) (with_operator m c.answer.new.self)) c.self.view_is
-    (answered_on m c.answer.new.self copies c.in_ok-answer.field-0 x c.in_ok-answer.ensures.law)
+    (answered_on m c.answer.new.self copies c.in_ok-answer.field-0 x c.in_ok-answer.ensures.law))

@@ -2,24 +2,24 @@ use Rattle.std.proofs.Common.{Some, sym, subst}
 use Rattle.st_trace.specs.declared.entry.Choice.TheVariants as choice
 use Rattle.st_trace.specs.declared.entry.Entry.TheVariants as entry
 use Rattle.st_next.specs.Machine.{HasTask, IsStep, Running, Stands}
-use Rattle.st_machine.proofs.Served.{copied, process_there, on_err, running_stands, running_step, stands_so, with_workers}
+use Rattle.st_machine.proofs.Served.{copied, left_as, on_err, process_there, running_stands, running_step, stands_so, with_workers}
 use Rattle.st_workers.specs.declared.task.Task.TheVariants as tasks
 use Rattle.st_machine.proofs.machine.Machine.copy.Goals as goal
 
-abbrev old : goal.Joined-added → Running
+abbrev old : goal.After-leave → Running
 old c = record { input = c.self.inside.input.now; system = c.self.inside.system; workers = c.self.inside.workers; threads = c.self.inside.threads.items; answers = c.self.inside.answers; operator = c.self.inside.operator }
 
-task : (c : goal.Joined-added) → HasTask (old c) c.args.worker (tasks.Copy c.args.seq c.args.pid c.args.part c.args.place)
+task : (c : goal.After-leave) → HasTask (old c) c.args.worker (tasks.Copy c.args.seq c.args.pid c.args.part c.args.place)
 task c = subst (λ (m : Running). HasTask m c.args.worker (tasks.Copy c.args.seq c.args.pid c.args.part c.args.place)) (sym c.self.view_is) c.requires.task
 
-step : (c : goal.Joined-added) → IsStep (old c) (choice.Worker c.args.worker) (Some (entry.Copied c.args.seq c.args.part c.args.place c.word-word.result)) (with_workers (old c) c.copy.new.self)
+step : (c : goal.After-leave) → IsStep (old c) (choice.Worker c.args.worker) (Some (entry.Copied c.args.seq c.args.part c.args.place c.word-word.result)) (with_workers (old c) c.copy.new.self)
 step c = copied (old c) c.args.worker c.copy.new.self c.args.seq c.args.pid c.args.part c.args.place c.word-word.result (task c) c.word-word.ensures.law (c.in_ok-copy.ensures.kept c.args.seq c.args.pid c.args.part c.args.place (task c).here)
 
 pub invariant_of-self-2 : goal.invariant_of-self-2
 invariant_of-self-2 c = running_step (old c) (with_workers (old c) c.copy.new.self) (choice.Worker c.args.worker) (entry.Copied c.args.seq c.args.part c.args.place c.word-word.result) c.self.invariant (step c)
 
 pub returns-clause-step : goal.returns-clause-step
-returns-clause-step c = subst (λ (m : Running). IsStep m (choice.Worker c.args.worker) (Some (entry.Copied c.args.seq c.args.part c.args.place c.word-word.result)) (with_workers (old c) c.copy.new.self)) c.self.view_is (step c)
+returns-clause-step c = left_as _ _ (choice.Worker c.args.worker) _ _ c.leave.ensures (subst (λ (m : Running). IsStep m (choice.Worker c.args.worker) (Some (entry.Copied c.args.seq c.args.part c.args.place c.word-word.result)) (with_workers (old c) c.copy.new.self)) c.self.view_is (step c))
 
 pub word-word-requires-clause-process : goal.word-word-requires-clause-process
 word-word-requires-clause-process c =

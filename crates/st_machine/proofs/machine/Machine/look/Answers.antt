@@ -2,19 +2,19 @@ use Rattle.std.proofs.Common.{Some, sym, subst, ◌∙◌}
 use Rattle.st_trace.specs.declared.entry.Choice.TheVariants as choice
 use Rattle.st_trace.specs.declared.entry.Entry.TheVariants as entry
 use Rattle.st_next.specs.Machine.{HasTask, IsStep, Running, Stands}
-use Rattle.st_machine.proofs.Served.{looked, on_err, running_stands, running_step, stands_on, stands_so, with_workers}
+use Rattle.st_machine.proofs.Served.{left_as, looked, on_err, running_stands, running_step, stands_on, stands_so, with_workers}
 use Rattle.st_workers.specs.declared.task.Task.TheVariants as tasks
 use Rattle.st_names.specs.declared.seen.SeenText.{SeenText}
 use Rattle.st_workers.specs.Kept.{Follows}
 use Rattle.st_machine.proofs.machine.Machine.look.Goals as goal
 
-abbrev old : goal.Joined-added → Running
+abbrev old : goal.After-leave → Running
 old c = record { input = c.self.inside.input.now; system = c.self.inside.system; workers = c.self.inside.workers; threads = c.self.inside.threads.items; answers = c.self.inside.answers; operator = c.self.inside.operator }
 
-task : (c : goal.Joined-added) → HasTask (old c) c.args.worker (tasks.Look c.args.seq c.args.part)
+task : (c : goal.After-leave) → HasTask (old c) c.args.worker (tasks.Look c.args.seq c.args.part)
 task c = subst (λ (m : Running). HasTask m c.args.worker (tasks.Look c.args.seq c.args.part)) (sym c.self.view_is) c.requires
 
-step : (c : goal.Joined-added) → IsStep (old c) (choice.Worker c.args.worker) (Some (entry.Looked c.args.seq c.args.part c.in_ok-name.name c.in_ok-text.text)) (with_workers (old c) c.look.new.self)
+step : (c : goal.After-leave) → IsStep (old c) (choice.Worker c.args.worker) (Some (entry.Looked c.args.seq c.args.part c.in_ok-name.name c.in_ok-text.text)) (with_workers (old c) c.look.new.self)
 step c = looked (old c) c.args.worker c.look.new.self c.look_name.new.self c.args.seq c.args.part c.in_ok-name.name c.in_ok-text.text (c.in_ok-text.ensures ∙ c.look-seen.ensures) c.look_name.ensures.stands
     (λ i st kept. c.in_ok-name.ensures.law i st c.args.seq c.args.part kept (task c).here)
     (subst (λ (seen : SeenText). Follows c.look_name.new.self (entry.Looked c.args.seq c.args.part c.in_ok-name.name seen) c.look.new.self) (sym c.in_ok-text.ensures)
@@ -24,7 +24,7 @@ pub invariant_of-self-2 : goal.invariant_of-self-2
 invariant_of-self-2 c = running_step (old c) (with_workers (old c) c.look.new.self) (choice.Worker c.args.worker) (entry.Looked c.args.seq c.args.part c.in_ok-name.name c.in_ok-text.text) c.self.invariant (step c)
 
 pub returns-clause-step : goal.returns-clause-step
-returns-clause-step c = subst (λ (m : Running). IsStep m (choice.Worker c.args.worker) (Some (entry.Looked c.args.seq c.args.part c.in_ok-name.name c.in_ok-text.text)) (with_workers (old c) c.look.new.self)) c.self.view_is (step c)
+returns-clause-step c = left_as _ _ (choice.Worker c.args.worker) _ _ c.leave.ensures (subst (λ (m : Running). IsStep m (choice.Worker c.args.worker) (Some (entry.Looked c.args.seq c.args.part c.in_ok-name.name c.in_ok-text.text)) (with_workers (old c) c.look.new.self)) c.self.view_is (step c))
 
 -- without memory
 

@@ -17,7 +17,7 @@ use Rattle.st_next.specs.declared.step.Step.TheVariants as steps
 use Rattle.st_machine.proofs.After.{with_parts}
 use Rattle.st_machine.proofs.MadeSteps.{calls_closed, making, seq_there}
 use Rattle.st_machine.proofs.Moving.{row_making}
-use Rattle.st_machine.proofs.Served.{running_step}
+use Rattle.st_machine.proofs.Served.{left_as, running_step}
 use Rattle.st_machine.proofs.machine.Machine.make.Goals as goal
 
 pub end_call-requires : goal.end_call-requires
@@ -40,41 +40,41 @@ end_by_all-requires-clause-calls c =
 
 -- ---- behind the call
 
-abbrev old : goal.Joined-added → Running
+abbrev old : goal.After-leave → Running
 old c = record { input = c.self.inside.input.now; system = c.self.inside.system; workers = c.self.inside.workers; threads = c.self.inside.threads.items; answers = c.self.inside.answers; operator = c.self.inside.operator }
 
-next : (c : goal.Joined-added) → IsNext (old c) c.args.tid (steps.Make c.args.made)
+next : (c : goal.After-leave) → IsNext (old c) c.args.tid (steps.Make c.args.made)
 next c = subst (λ (k : Running). IsNext k c.args.tid (steps.Make c.args.made)) (sym c.self.view_is) c.requires.next
 
-row : (c : goal.Joined-added) → (row : ThreadRow) × (item_at_number (old c).threads c.args.tid ≡ Some row)
+row : (c : goal.After-leave) → (row : ThreadRow) × (item_at_number (old c).threads c.args.tid ≡ Some row)
 row c = row_making (old c) c.self.invariant c.args.tid c.args.made (next c)
 
-closed : (c : goal.Joined-added) → c.deref_mut.result.now ≡ set (old c).threads (c.args.tid - 1) (record (row c).0 { pending = None })
+closed : (c : goal.After-leave) → c.deref_mut.result.now ≡ set (old c).threads (c.args.tid - 1) (record (row c).0 { pending = None })
 closed c = c.deref_mut.ensures.value
     ∙ ap (set (old c).threads (c.args.tid - 1)) (c.close.ensures ∙ ap (λ (r : ThreadRow). record r { pending = None }) (read_is (old c).threads c.args.tid (row c).0 c.index_mut.result.now (row c).1 c.index_mut.ensures.value))
 
-done : (c : goal.Joined-added) → IsDone c.args.made.call (request_with (old c) c.args.tid c.args.pid c.args.made) c.in_ok-outcome.outcome (old c).system c.execute.new.self
+done : (c : goal.After-leave) → IsDone c.args.made.call (request_with (old c) c.args.tid c.args.pid c.args.made) c.in_ok-outcome.outcome (old c).system c.execute.new.self
 done c = subst (λ (request : Request). IsDone c.args.made.call request c.in_ok-outcome.outcome (old c).system c.execute.new.self)
     (c.request_with-request.ensures ∙ ap (λ (k : Running). request_with k c.args.tid c.args.pid c.args.made) (c.view.ensures ∙ sym c.self.view_is)) c.in_ok-outcome.ensures.done
 
-over : (c : goal.Joined-added) → HaveEnded (is_ended_by c.execute.new.self.processes c.args.tid c.args.pid c.in_ok-outcome.outcome.changes) (set (old c).threads (c.args.tid - 1) (record (row c).0 { pending = None })) c.end_call.new.workers c.end_by_all.new.threads c.end_by_all.new.workers
+over : (c : goal.After-leave) → HaveEnded (is_ended_by c.execute.new.self.processes c.args.tid c.args.pid c.in_ok-outcome.outcome.changes) (set (old c).threads (c.args.tid - 1) (record (row c).0 { pending = None })) c.end_call.new.workers c.end_by_all.new.threads c.end_by_all.new.workers
 over c = subst (λ (rows : List ThreadRow). HaveEnded (is_ended_by c.execute.new.self.processes c.args.tid c.args.pid c.in_ok-outcome.outcome.changes) rows c.end_call.new.workers c.end_by_all.new.threads c.end_by_all.new.workers) (closed c)
     (subst (λ (changes : List Change). HaveEnded (is_ended_by c.execute.new.self.processes c.args.tid c.args.pid changes) c.deref_mut.result.now c.end_call.new.workers c.end_by_all.new.threads c.end_by_all.new.workers) c.as_slice-changes.ensures c.end_by_all.ensures)
 
-abbrev new : (c : goal.Joined-added) → List ThreadRow → Running
+abbrev new : (c : goal.After-leave) → List ThreadRow → Running
 new c rows = with_parts (old c) c.execute.new.self c.end_by_all.new.workers rows
 
-abbrev used : goal.Joined-added → Entry
+abbrev used : goal.After-leave → Entry
 used c = entry.Used c.args.tid c.args.made.seq c.args.made.call c.args.made.regs c.args.made.args c.args.made.ids c.in_ok-outcome.outcome.result c.in_ok-outcome.outcome.changes
 
-step : (c : goal.Joined-added) → IsStep (old c) (choice.Thread c.args.tid) (Some (used c)) (new c c.end_by_all.new.threads)
+step : (c : goal.After-leave) → IsStep (old c) (choice.Thread c.args.tid) (Some (used c)) (new c c.end_by_all.new.threads)
 step c = making (old c) c.args.tid c.args.pid c.args.made (next c) (ap (λ (k : Running). pid_of k.system.processes c.args.tid) c.self.view_is ∙ c.requires.process) (row c).0 (row c).1 c.requires.sets_none
     c.in_ok-outcome.outcome c.execute.new.self (done c) c.end_call.new.workers c.end_by_all.new.workers c.end_by_all.new.threads c.end_call.ensures (over c)
 
-abbrev rows : goal.Joined-added → List ThreadRow
+abbrev rows : goal.After-leave → List ThreadRow
 rows c = take c.self.inside.threads.len (c.end_by_all.new.threads ++ drop (length c.end_by_all.new.threads) (set (old c).threads (c.args.tid - 1) c.close.new.self))
 
-rows_are : (c : goal.Joined-added) → rows c ≡ c.end_by_all.new.threads
+rows_are : (c : goal.After-leave) → rows c ≡ c.end_by_all.new.threads
 rows_are c = whole_again c.end_by_all.new.threads (set (old c).threads (c.args.tid - 1) c.close.new.self) c.self.inside.threads.len (c.self.inside.threads.ok.0 ∙ sym (length-set (old c).threads (c.args.tid - 1) c.close.new.self))
     (c.end_by_all.ensures.count ∙ ap (λ (all : List ThreadRow). length all) c.deref_mut.ensures.value)
 
@@ -82,6 +82,7 @@ pub invariant_of-self-2 : goal.invariant_of-self-2
 invariant_of-self-2 c = subst (λ (all : List ThreadRow). IsRunning (new c all)) (sym (rows_are c)) (running_step (old c) (new c c.end_by_all.new.threads) (choice.Thread c.args.tid) (used c) c.self.invariant (step c))
 
 pub returns-clause-step : goal.returns-clause-step
-returns-clause-step c = subst (λ (k : Running). IsStep k (choice.Thread c.args.tid) (Some c.entry.result) (new c (rows c))) c.self.view_is
+returns-clause-step c = left_as _ _ (choice.Thread c.args.tid) _ _ c.leave.ensures
+    (subst (λ (k : Running). IsStep k (choice.Thread c.args.tid) (Some c.entry.result) (new c (rows c))) c.self.view_is
     (subst (λ (e : Entry). IsStep (old c) (choice.Thread c.args.tid) (Some e) (new c (rows c))) (sym c.entry.ensures)
-    (subst (λ (all : List ThreadRow). IsStep (old c) (choice.Thread c.args.tid) (Some (used c)) (new c all)) (sym (rows_are c)) (step c)))
+    (subst (λ (all : List ThreadRow). IsStep (old c) (choice.Thread c.args.tid) (Some (used c)) (new c all)) (sym (rows_are c)) (step c))))

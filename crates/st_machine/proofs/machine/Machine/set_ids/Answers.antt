@@ -22,7 +22,7 @@ use Rattle.st_machine.proofs.MadeSteps.{seq_there}
 use Rattle.st_machine.proofs.Moving.{row_making}
 use Rattle.st_threads.proofs.RenewedLaw.{count_renewed}
 use Rattle.st_machine.proofs.RenewedSteps.{can_set, copies_set, cwd_set, room_for_all, room_set, setting, there_set}
-use Rattle.st_machine.proofs.Served.{running_step}
+use Rattle.st_machine.proofs.Served.{left_as, running_step}
 use Rattle.st_machine.proofs.machine.Machine.set_ids.Goals as goal
 
 pub plan_renewals-requires-clause-room : goal.plan_renewals-requires-clause-room
@@ -149,7 +149,8 @@ pub invariant_of-self-2 : goal.invariant_of-self-2
 invariant_of-self-2 c = subst (λ (all : List ThreadRow). IsRunning (new c all)) (sym (rows_are c)) (running_step (old c) (new c c.renew_all.new.threads) (choice.Thread c.args.tid) (used c (told c)) c.self.invariant (step c))
 
 pub returns-clause-step : goal.returns-clause-step
-returns-clause-step c = subst (λ (k : Running). IsStep k (choice.Thread c.args.tid) (Some c.entry.result) (new c (rows c))) c.self.view_is
+returns-clause-step c = left_as _ _ (choice.Thread c.args.tid) _ _ c.leave.ensures
+    (subst (λ (k : Running). IsStep k (choice.Thread c.args.tid) (Some c.entry.result) (new c (rows c))) c.self.view_is
     (subst (λ (e : Entry). IsStep (old c) (choice.Thread c.args.tid) (Some e) (new c (rows c))) (sym c.entry.ensures)
     (subst (λ (changes : List Change). IsStep (old c) (choice.Thread c.args.tid) (Some (used c changes)) (new c (rows c))) (told_is c)
-    (subst (λ (all : List ThreadRow). IsStep (old c) (choice.Thread c.args.tid) (Some (used c (told c))) (new c all)) (sym (rows_are c)) (step c))))
+    (subst (λ (all : List ThreadRow). IsStep (old c) (choice.Thread c.args.tid) (Some (used c (told c))) (new c all)) (sym (rows_are c)) (step c)))))

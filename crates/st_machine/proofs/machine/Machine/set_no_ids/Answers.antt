@@ -16,7 +16,7 @@ use Rattle.st_machine.proofs.After.{with_parts}
 use Rattle.st_machine.proofs.MadeSteps.{seq_there}
 use Rattle.st_machine.proofs.Moving.{row_making}
 use Rattle.st_machine.proofs.RenewedSteps.{refusing}
-use Rattle.st_machine.proofs.Served.{running_step}
+use Rattle.st_machine.proofs.Served.{left_as, running_step}
 use Rattle.st_machine.proofs.machine.Machine.set_no_ids.Goals as goal
 
 pub end_call-requires : goal.end_call-requires
@@ -59,7 +59,8 @@ pub invariant_of-self-2 : goal.invariant_of-self-2
 invariant_of-self-2 c = subst (λ (r : ThreadRow). IsRunning (new c r)) (sym (closed c)) (running_step (old c) (new c (record (row c).0 { pending = None })) (choice.Thread c.args.tid) (used c []) c.self.invariant (step c))
 
 pub returns-clause-step : goal.returns-clause-step
-returns-clause-step c = subst (λ (k : Running). IsStep k (choice.Thread c.args.tid) (Some c.entry.result) (new c c.close.new.self)) c.self.view_is
+returns-clause-step c = left_as _ _ (choice.Thread c.args.tid) _ _ c.leave.ensures
+    (subst (λ (k : Running). IsStep k (choice.Thread c.args.tid) (Some c.entry.result) (new c c.close.new.self)) c.self.view_is
     (subst (λ (e : Entry). IsStep (old c) (choice.Thread c.args.tid) (Some e) (new c c.close.new.self)) (sym c.entry.ensures)
     (subst (λ (changes : List Change). IsStep (old c) (choice.Thread c.args.tid) (Some (used c changes)) (new c c.close.new.self)) (sym c.new.ensures)
-    (subst (λ (r : ThreadRow). IsStep (old c) (choice.Thread c.args.tid) (Some (used c [])) (new c r)) (sym (closed c)) (step c))))
+    (subst (λ (r : ThreadRow). IsStep (old c) (choice.Thread c.args.tid) (Some (used c [])) (new c r)) (sym (closed c)) (step c)))))
