@@ -16,14 +16,14 @@ use Rattle.st_filter.specs.declared.filter.FilterName.TheVariants as name
 use Rattle.st_filter.specs.declared.set.BinaryPolicy.{BinaryPolicy}
 use Rattle.st_filter.specs.Formula.{FilterValue}
 use Rattle.st_filter.specs.Policies.{add_filter}
-use Rattle.st_grammar.specs.Diagram.{GrammarState, StepResult, next, step, step_to, step_name, first_walk, is_line, binaries, fault_in, lexical}
-use Rattle.st_grammar.specs.Draft.{Draft, Reading, first_draft, draft_step, draft_after, set_after, filter_of, is_binary_place, reading_step, read_step, read_from, unless_lexical, first_reading, reading_of}
+use Rattle.st_grammar.specs.Diagram.{GrammarState, StepResult, next, step, step_to, step_name, first_walk, is_line, binaries, lexical}
+use Rattle.st_grammar.specs.Draft.{Draft, Reading, first_draft, draft_step, draft_after, set_after, filter_of, is_binary_place, reading_step, read_step, read_from, unless_lexical, first_reading, reading_of, error_in, fault_in}
 use Rattle.st_grammar.specs.Grammar.{IsFilter, AreRows, NoRow, Header}
 use Rattle.st_grammar.specs.OneFilter.{FilterResult, behind_filter, if_ended, if_broken, filter_at_end, filter_from, begin_filter, no_filter, filter_of_tokens, filter_in}
 use Rattle.st_grammar.specs.Symbol.{Symbol, Word, Colon, Comma, Line, Broken, symbol_of}
 use Rattle.st_grammar.specs.Words.{filter_name, may_test, may_test_label}
 use Rattle.st_grammar.proofs.ActionsKept.{denial-tails}
-use Rattle.st_grammar.proofs.Faults.{result_after, error_in, faults-agree}
+use Rattle.st_grammar.proofs.Texts.{result_after}
 use Rattle.st_grammar.proofs.FilterRows.{passes-filter}
 use Rattle.st_grammar.proofs.Filters.{HasFilters}
 use Rattle.st_grammar.proofs.Fronts.{Facts, HasFacts}
@@ -371,7 +371,7 @@ by-found text env fault word b other (Early a) =
 by-found text env fault word b other (Below s) =
     let big : List ℕ = header ++ text in
     let read : reading_of big env [] ≡ Err (moved 30 fault) = ap (λ (l : Lexed). read_from env big l.fault (first_reading []) l.tokens) (below-header text) ∙ header-read env text (optional_fault_after 30 (lexed_text text).fault) (moved_tokens 30 1 (lexed_text text).tokens) ∙ s.stops in
-    let faulty : fault_in big env [] ≡ Some (moved 30 fault) = faults-agree big env [] ∙ ap error_in read in
+    let faulty : fault_in big env [] ≡ Some (moved 30 fault) = ap error_in read in
     InRow word fault b other
     (λ e. let l = row-read env text e in s.none e.row e.line e.behind l.reading e.parts e.ends l.over)
     (first-fault big env [] (omega arith) (moved 30 fault) faulty)

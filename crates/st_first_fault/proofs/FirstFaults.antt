@@ -12,8 +12,8 @@ use Rattle.st_grammar.specs.declared.place.Place.TheVariants as place
 use Rattle.st_filter.specs.declared.set.BinaryPolicy.{BinaryPolicy}
 use Rattle.st_filter.specs.declared.set.TheConstants.{MOST_FILTERS}
 use Rattle.st_filter.specs.Policies.{filters_in}
-use Rattle.st_grammar.specs.Diagram.{StepResult, lexical, next, binaries, fault_in}
-use Rattle.st_grammar.specs.Draft.{Reading, reading_step, read_step, first_reading}
+use Rattle.st_grammar.specs.Diagram.{StepResult, lexical, next, binaries}
+use Rattle.st_grammar.specs.Draft.{Reading, reading_step, read_step, first_reading, fault_in}
 use Rattle.st_first_fault.specs.FirstFault.{symbol_here, place_here, fault_by, plain_fault, symbols_at, GoesOn, IsLabelAt, IsSpecial, NoCall, ManyFilters, Twice, NoNative, ManyOpening, ManyJoining, NoLabel, NoIndex, NoRe, Learns, NoError, NoIds, SetsIds, NoUser, Tells, Specially, Otherwise, IsFirstFault}
 use Rattle.st_grammar.specs.Symbol.{Symbol, Word, symbol_of}
 use Rattle.st_grammar.specs.Words.{may_test_label}

@@ -12,14 +12,14 @@ use Rattle.st_grammar.specs.declared.fault.PolicyFault.{PolicyFault}
 use Rattle.st_filter.specs.declared.set.BinaryPolicy.{BinaryPolicy}
 use Rattle.st_filter.specs.declared.set.TheConstants.{MOST_FILTERS}
 use Rattle.st_filter.specs.Policies.{filters_in}
-use Rattle.st_grammar.specs.Diagram.{fault_in, lexical}
-use Rattle.st_grammar.specs.Draft.{Reading, read_step, read_end, unless_lexical, read_from, first_reading, reading_of}
+use Rattle.st_grammar.specs.Diagram.{lexical}
+use Rattle.st_grammar.specs.Draft.{Reading, read_step, read_end, unless_lexical, read_from, first_reading, reading_of, error_in, fault_in}
 use Rattle.st_first_fault.specs.FirstFault.{symbol_at_end, symbol_here, place_here, symbols_at, GoesOn}
 use Rattle.st_grammar.specs.Grammar.{AreRows, symbols_in}
 use Rattle.st_grammar.specs.Symbol.{Symbol, Line, Broken, symbol_of}
 use Rattle.st_grammar.proofs.Complete.{AtRows, placed, rows-read}
 use Rattle.st_first_fault.proofs.Completions.{Ending, Printed}
-use Rattle.st_grammar.proofs.Faults.{result_after, error_in, faults-agree}
+use Rattle.st_grammar.proofs.Texts.{result_after}
 use Rattle.st_reread.proofs.PrintedTexts.{spelled-symbols}
 use Rattle.st_grammar.proofs.Readings.{Placed, symbols, Read, read_over, reading_followed, over-append, Leads}
 use Rattle.st_grammar.proofs.Sound.{Stands, StandsAfter, stands-step, first-stands}
@@ -204,7 +204,7 @@ error-is (Err found) fault e = cc
 
 -- a text with a fault stops there
 pub fault-stops : (text : List ℕ) (env : Env) (old : List BinaryPolicy) (fault : PolicyFault) → fault_in text env old ≡ Some fault → StopsIn env text (first_reading old) (lexed_text text).tokens fault
-fault-stops text env old fault e = stops-in env text (lexed_text text).tokens fault (first_reading old) (error-is (reading_of text env old) fault (sym (faults-agree text env old) ∙ e))
+fault-stops text env old fault e = stops-in env text (lexed_text text).tokens fault (first_reading old) (error-is (reading_of text env old) fault e)
 
 -- ---- what has been spelled there
 

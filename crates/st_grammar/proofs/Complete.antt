@@ -7,13 +7,13 @@ use Rattle.st_grammar.specs.declared.env.Env.{Env}
 use Rattle.st_grammar.specs.declared.place.Place.{Place}
 use Rattle.st_grammar.specs.declared.place.Place.TheVariants as place
 use Rattle.st_filter.specs.declared.set.BinaryPolicy.{BinaryPolicy}
-use Rattle.st_grammar.specs.Diagram.{GrammarState, fault_in}
-use Rattle.st_grammar.specs.Draft.{Draft, Reading, read_step, read_from, first_reading, reading_of}
+use Rattle.st_grammar.specs.Diagram.{GrammarState}
+use Rattle.st_grammar.specs.Draft.{Draft, Reading, read_step, read_from, first_reading, reading_of, error_in, fault_in}
 use Rattle.st_filter.specs.Policies.{add_filter, with_filter, has_policy, filters_in}
 use Rattle.st_filter.specs.Formula.{FilterValue}
 use Rattle.st_grammar.specs.Grammar.{IsFilter, IsHeader, AreRows, NoRow, Blank, Header, FilterRow, AreNew, symbols_in, Reads}
 use Rattle.st_grammar.specs.Symbol.{Symbol, Line, symbol_of}
-use Rattle.st_grammar.proofs.Faults.{result_after, error_in, faults-agree}
+use Rattle.st_grammar.proofs.Texts.{result_after}
 use Rattle.st_grammar.proofs.Readings.{Placed, symbols, read_over, reading_followed, Read, Leads, Passes, passes-none, passes-append, passes-one, passes-more, At, stands}
 use Rattle.st_grammar.proofs.Filters.{HasFilters}
 use Rattle.st_grammar.proofs.FilterRows.{row_place, step-blank, passes-filter, passes-header}
@@ -161,14 +161,14 @@ no-error (Err fault) e = absurd (cc)
 -- where there is no fault a set is read
 pub faultless-reads : (text : List ℕ) (env : Env) (old : List BinaryPolicy) → filters_in old ≤ MOST_FILTERS → fault_in text env old ≡ None → (set : List BinaryPolicy) × Reads text env old set
 faultless-reads text env old few e =
-    let x : (r : Reading) × (reading_of text env old ≡ Ok r) = no-error (reading_of text env old) (sym (faults-agree text env old) ∙ e) in
+    let x : (r : Reading) × (reading_of text env old ≡ Ok r) = no-error (reading_of text env old) e in
     (x.0.set, reading-is_sound text env old x.0 few x.1)
 
 -- where a set is read there is no fault
 pub reads-faultless : (text : List ℕ) (env : Env) (old set : List BinaryPolicy) → Reads text env old set → fault_in text env old ≡ None
 reads-faultless text env old set h =
     let x : (r : Reading) × (reading_of text env old ≡ Ok r) × (r.set ≡ set) = reading-is_complete text env old set h in
-    faults-agree text env old ∙ ap error_in x.1
+    ap error_in x.1
 
 pub faultless-iff : (text : List ℕ) (env : Env) (old : List BinaryPolicy) → filters_in old ≤ MOST_FILTERS → (fault_in text env old ≡ None) ↔ ((set : List BinaryPolicy) × Reads text env old set)
 faultless-iff text env old few = (faultless-reads text env old few, λ h. reads-faultless text env old h.0 h.1)

@@ -13,8 +13,7 @@ use Rattle.st_filter.specs.declared.filter.FilterName.TheVariants as name
 use Rattle.st_filter.specs.declared.filter.Op.TheVariants.{Eq}
 use Rattle.st_filter.specs.declared.filter.Who.TheVariants.{User}
 use Rattle.st_filter.specs.Formula.{FilterValue, True, Test, Not, And, Or}
-use Rattle.st_grammar.specs.Diagram.{fault_in}
-use Rattle.st_grammar.specs.Draft.{Reading, reading_of}
+use Rattle.st_grammar.specs.Draft.{Reading, reading_of, fault_in}
 use Rattle.st_filter.specs.declared.set.BinaryPolicy.{BinaryPolicy}
 use Rattle.st_grammar.specs.declared.fault.PolicyFault.{PolicyFault}
 

@@ -50,11 +50,14 @@ pub record IsFreshOf (k : Kept) (name : FilterName) (filters : ℕ) (grant : Opt
 abbrev pub IsFresh : Kept → GrammarState → Draft → Type 0
 IsFresh k w d = IsFreshOf k w.name w.filters d.grant d.log d.predicate
 
-pub record IsOperand (k : Kept) (s : List PendingOperand) (parens n : ℕ) (w : GrammarState) (d : Draft) : Type 0 where
-  pub fresh : IsFresh k w d
-  pub pending : d.expression.pending ≡ s
-  pub parens_are : w.parens ≡ parens
-  pub joins_are : w.joins ≡ n
+pub record IsOperandOf (Fresh : Type 0) (s : List PendingOperand) (parens n : ℕ) (waiting : List PendingOperand) (parens_now joins_now : ℕ) : Type 0 where
+  pub fresh : Fresh
+  pub pending : waiting ≡ s
+  pub parens_are : parens_now ≡ parens
+  pub joins_are : joins_now ≡ n
+
+abbrev pub IsOperand : Kept → List PendingOperand → ℕ → ℕ → GrammarState → Draft → Type 0
+IsOperand k s parens n w d = IsOperandOf (IsFresh k w d) s parens n d.expression.pending w.parens w.joins
 
 pub record IsJoint (k : Kept) (e : Reduced) (parens n : ℕ) (w : GrammarState) (d : Draft) : Type 0 where
   pub fresh : IsFresh k w d
@@ -78,33 +81,20 @@ step-true env k s parens n at r (stands w d h) = record {
 
 -- ---- tests
 
-pub record IsLabel (k : Kept) (s : List PendingOperand) (parens n : ℕ) (label : List ℕ) (w : GrammarState) (d : Draft) : Type 0 where
-  pub fresh : IsFresh k w d
-  pub pending : d.expression.pending ≡ s
-  pub parens_are : w.parens ≡ parens
-  pub joins_are : w.joins ≡ n
-  pub label_is : w.label ≡ label
-  pub index_is : d.index ≡ 0
+pub record IsArgumentOf (Front : Type 0) (label : List ℕ) (index : ℕ) (read : List ℕ) (i : ℕ) : Type 0 where
+  pub front : Front
+  pub label_is : read ≡ label
+  pub index_is : i ≡ index
 
-pub record IsArgument (k : Kept) (s : List PendingOperand) (parens n : ℕ) (label : List ℕ) (index : ℕ) (w : GrammarState) (d : Draft) : Type 0 where
-  pub fresh : IsFresh k w d
-  pub pending : d.expression.pending ≡ s
-  pub parens_are : w.parens ≡ parens
-  pub joins_are : w.joins ≡ n
-  pub label_is : w.label ≡ label
-  pub index_is : d.index ≡ index
+-- the argument that a test looks at
+abbrev pub IsArgument : Kept → List PendingOperand → ℕ → ℕ → List ℕ → ℕ → GrammarState → Draft → Type 0
+IsArgument k s parens n label index w d = IsArgumentOf (IsOperand k s parens n w d) label index w.label d.index
 
-pub record IsTest (k : Kept) (s : List PendingOperand) (parens n : ℕ) (label : List ℕ) (index : ℕ) (o : Op) (w : GrammarState) (d : Draft) : Type 0 where
-  pub fresh : IsFresh k w d
-  pub pending : d.expression.pending ≡ s
-  pub parens_are : w.parens ≡ parens
-  pub joins_are : w.joins ≡ n
-  pub label_is : w.label ≡ label
-  pub index_is : d.index ≡ index
-  pub op_is : d.op ≡ o
+abbrev pub IsTest : Kept → List PendingOperand → ℕ → ℕ → List ℕ → ℕ → Op → GrammarState → Draft → Type 0
+IsTest k s parens n label index o w d = IsArgument k s parens n label index w d × (d.op ≡ o)
 
 module _ (env : Env) (k : Kept) (s : List PendingOperand) (parens n : ℕ) where
-  step-label : (label : List ℕ) → is_label label ≡ true → Step1 env (AtOperand k s parens n) (Word label) (At place.Label k.set (IsLabel k s parens n label))
+  step-label : (label : List ℕ) → is_label label ≡ true → Step1 env (AtOperand k s parens n) (Word label) (At place.Label k.set (IsArgument k s parens n label 0))
   step-label label e at r (stands w d h) =
       let o : IsOther label = label-other label e in
       let r : Reading = places_of_reading place.Operand w d k.set in
@@ -121,49 +111,41 @@ module _ (env : Env) (k : Kept) (s : List PendingOperand) (parens n : ℕ) where
             ∙ step-unless env r (Word label) (bytes_eq label (codes "true")) real _ o.no_true
             ∙ step-if env r (Word label) (is_label label) found bad e
             ∙ ap (λ (d : Draft). Ok (places_of_reading place.Label next d k.set)) same;
-        holds = stands next d' (record { fresh = h.fresh; pending = h.pending; parens_are = h.parens_are; joins_are = h.joins_are; label_is = refl; index_is = refl });
+        holds = stands next d' (record { front = h; label_is = refl; index_is = refl });
       }
 
   -- the operator behind a label without an index
   step-first : (label op : List ℕ) (o : Op) → may_test k.name label 0 ≡ true → op_named op ≡ Some o →
-      Step1 env (At place.Label k.set (IsLabel k s parens n label)) (Word op) (At place.Text k.set (IsTest k s parens n label 0 o))
+      Step1 env (At place.Label k.set (IsArgument k s parens n label 0)) (Word op) (At place.Text k.set (IsTest k s parens n label 0 o))
   step-first label op o a e at r (stands w d h) =
       let r : Reading = places_of_reading place.Label w d k.set in
-      let allowed : may_test w.name w.label 0 ≡ true = ap (λ (f : FilterName). may_test f w.label 0) h.fresh.name_is ∙ ap (λ (l : List ℕ). may_test k.name l 0) h.label_is ∙ a in
+      let allowed : may_test w.name w.label 0 ≡ true = ap (λ (f : FilterName). may_test f w.label 0) h.front.fresh.name_is ∙ ap (λ (l : List ℕ). may_test k.name l 0) h.label_is ∙ a in
       let d' : Draft = record d { op = unwrap_or (op_named op) d.op } in
       record {
         reading = places_of_reading place.Text w d' k.set;
         step = step-if env r (Word op) (may_test w.name w.label 0) (step_op (record w { place = place.Label }) at op (op_named op)) (Err (UnknownArgument w.label_at)) allowed
             ∙ ap (λ (o : Option Op). reading_step env r (Word op) (step_op (record w { place = place.Label }) at op o)) e;
-        holds = stands w d' (record { fresh = h.fresh; pending = h.pending; parens_are = h.parens_are; joins_are = h.joins_are; label_is = h.label_is; index_is = h.index_is; op_is = ap (λ (o : Option Op). unwrap_or o d.op) e });
+        holds = stands w d' (h, ap (λ (o : Option Op). unwrap_or o d.op) e);
       }
 
-  step-open_bracket : (label : List ℕ) → Step1 env (At place.Label k.set (IsLabel k s parens n label)) OpenBracket (At place.Index k.set (IsLabel k s parens n label))
-  step-open_bracket label at r (stands w d h) = record {
-    reading = places_of_reading place.Index w d k.set;
-    step = refl;
-    holds = stands w d (record { fresh = h.fresh; pending = h.pending; parens_are = h.parens_are; joins_are = h.joins_are; label_is = h.label_is; index_is = h.index_is });
-  }
+  step-open_bracket : (label : List ℕ) → Step1 env (At place.Label k.set (IsArgument k s parens n label 0)) OpenBracket (At place.Index k.set (IsArgument k s parens n label 0))
+  step-open_bracket label at r (stands w d h) = record { reading = places_of_reading place.Index w d k.set; step = refl; holds = stands w d h }
 
   step-digits : (label digits : List ℕ) (index : ℕ) → index_in digits ≡ Some index → may_test k.name label index ≡ true →
-      Step1 env (At place.Index k.set (IsLabel k s parens n label)) (Word digits) (At place.IndexEnd k.set (IsArgument k s parens n label index))
+      Step1 env (At place.Index k.set (IsArgument k s parens n label 0)) (Word digits) (At place.IndexEnd k.set (IsArgument k s parens n label index))
   step-digits label digits index e a at r (stands w d h) =
       let r : Reading = places_of_reading place.Index w d k.set in
-      let allowed : may_test w.name w.label index ≡ true = ap (λ (f : FilterName). may_test f w.label index) h.fresh.name_is ∙ ap (λ (l : List ℕ). may_test k.name l index) h.label_is ∙ a in
+      let allowed : may_test w.name w.label index ≡ true = ap (λ (f : FilterName). may_test f w.label index) h.front.fresh.name_is ∙ ap (λ (l : List ℕ). may_test k.name l index) h.label_is ∙ a in
       let d' : Draft = record d { index = unwrap_or (index_in digits) d.index } in
       record {
         reading = places_of_reading place.IndexEnd w d' k.set;
         step = ap (λ (o : Option ℕ). reading_step env r (Word digits) (step_indexed (record w { place = place.Index }) at o)) e
             ∙ step-if env r (Word digits) (may_test w.name w.label index) (Ok (record w { place = place.IndexEnd })) (Err (UnknownArgument w.label_at)) allowed;
-        holds = stands w d' (record { fresh = h.fresh; pending = h.pending; parens_are = h.parens_are; joins_are = h.joins_are; label_is = h.label_is; index_is = ap (λ (o : Option ℕ). unwrap_or o d.index) e });
+        holds = stands w d' (record { front = h.front; label_is = h.label_is; index_is = ap (λ (o : Option ℕ). unwrap_or o d.index) e });
       }
 
   step-close_bracket : (label : List ℕ) (index : ℕ) → Step1 env (At place.IndexEnd k.set (IsArgument k s parens n label index)) CloseBracket (At place.Operator k.set (IsArgument k s parens n label index))
-  step-close_bracket label index at r (stands w d h) = record {
-    reading = places_of_reading place.Operator w d k.set;
-    step = refl;
-    holds = stands w d (record { fresh = h.fresh; pending = h.pending; parens_are = h.parens_are; joins_are = h.joins_are; label_is = h.label_is; index_is = h.index_is });
-  }
+  step-close_bracket label index at r (stands w d h) = record { reading = places_of_reading place.Operator w d k.set; step = refl; holds = stands w d h }
 
   step-operator : (label op : List ℕ) (index : ℕ) (o : Op) → op_named op ≡ Some o →
       Step1 env (At place.Operator k.set (IsArgument k s parens n label index)) (Word op) (At place.Text k.set (IsTest k s parens n label index o))
@@ -173,7 +155,7 @@ module _ (env : Env) (k : Kept) (s : List PendingOperand) (parens n : ℕ) where
       record {
         reading = places_of_reading place.Text w d' k.set;
         step = ap (λ (o : Option Op). reading_step env r (Word op) (step_op (record w { place = place.Operator }) at op o)) e;
-        holds = stands w d' (record { fresh = h.fresh; pending = h.pending; parens_are = h.parens_are; joins_are = h.joins_are; label_is = h.label_is; index_is = h.index_is; op_is = ap (λ (o : Option Op). unwrap_or o d.op) e });
+        holds = stands w d' (h, ap (λ (o : Option Op). unwrap_or o d.op) e);
       }
 
   step-text : (label source : List ℕ) (index : ℕ) (o : Op) →
@@ -181,13 +163,13 @@ module _ (env : Env) (k : Kept) (s : List PendingOperand) (parens n : ℕ) where
   step-text label source index o at r (stands w d h) =
       let f : Formula = Test w.label d.index d.op (unquoted env.dollars source) in
       let same : f ≡ Test label index o (unquoted env.dollars source) =
-      ap (λ (l : List ℕ). Test l d.index d.op (unquoted env.dollars source)) h.label_is
-      ∙ ap (λ (i : ℕ). Test label i d.op (unquoted env.dollars source)) h.index_is
-      ∙ ap (λ (o : Op). Test label index o (unquoted env.dollars source)) h.op_is in
+      ap (λ (l : List ℕ). Test l d.index d.op (unquoted env.dollars source)) h.0.label_is
+      ∙ ap (λ (i : ℕ). Test label i d.op (unquoted env.dollars source)) h.0.index_is
+      ∙ ap (λ (o : Op). Test label index o (unquoted env.dollars source)) h.1 in
       record {
         reading = places_of_reading place.Joint w (record d { expression = settle d.expression.pending f }) k.set;
         step = refl;
-        holds = stands w (record d { expression = settle d.expression.pending f }) (record { fresh = h.fresh; expression = ap (λ (s : List PendingOperand). settle s f) h.pending ∙ ap (settle s) same; parens_are = h.parens_are; joins_are = h.joins_are });
+        holds = stands w (record d { expression = settle d.expression.pending f }) (record { fresh = h.0.front.fresh; expression = ap (λ (s : List PendingOperand). settle s f) h.0.front.pending ∙ ap (settle s) same; parens_are = h.0.front.parens_are; joins_are = h.0.front.joins_are });
       }
 
   passes-first : (label op source : List ℕ) (o : Op) → is_label label ≡ true → may_test k.name label 0 ≡ true → op_named op ≡ Some o →

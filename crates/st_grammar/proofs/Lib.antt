@@ -4,7 +4,6 @@ pub mod Clauses
 pub mod Complete
 pub mod Examples
 pub mod Expressions
-pub mod Faults
 pub mod FilterRows
 pub mod FilterTails
 pub mod Filters
@@ -17,7 +16,6 @@ pub mod OperandsKept
 pub mod PredicatesKept
 pub mod Readings
 pub mod Results
-pub mod Rooms
 pub mod RowsKept
 pub mod Sound
 pub mod Stacks

@@ -1,6 +1,7 @@
 -- One filter alone is read as in a file, behind a header.
 use Rattle.std.proofs.Common.{◌≡◌, ℕ, Bool, true, false, ◌&&◌, if◌then◌else◌, List, [], ◌∷◌, ◌++◌, length, map, Option, None, Some, Ok, Err, codes, refl, ap, sym, subst, ◌∙◌, arith, append_assoc, append-nil}
 use Rattle.st_filter.specs.Formula.{FilterValue}
+use Rattle.st_filter.specs.Policies.{add_filter}
 use Rattle.st_filter.specs.declared.filter.FilterName.{FilterName}
 use Rattle.st_filter.specs.declared.set.BinaryPolicy.{BinaryPolicy}
 use Rattle.st_grammar.specs.declared.env.Env.{Env}
@@ -21,7 +22,6 @@ use Rattle.st_grammar.proofs.PredicatesKept.{predicate-filter, tail-filter}
 use Rattle.st_grammar.proofs.TailsKept.{user-tails}
 use Rattle.st_grammar.proofs.Fronts.{Behind, Facts, HasFacts}
 use Rattle.st_grammar.proofs.Readings.{places_of_reading}
-use Rattle.st_grammar.proofs.Rooms.{added, set_other}
 use Rattle.st_grammar.proofs.RowsKept.{fresh_policy}
 use Rattle.st_grammar.proofs.Lines.{line_leaves}
 use Rattle.st_grammar.proofs.Sound.{line-keeps}
@@ -99,7 +99,8 @@ and_false true c e = e
 and_false false c e = refl
 
 set_stays : (env : Env) (name : FilterName) (d : Draft) (s : Symbol) (p : Place) (set : List BinaryPolicy) → is_binary_place p ≡ false → is_line s ≡ false → set_after env name d s p set ≡ set
-set_stays env name d s p set h e = set_other env name d s p set h ∙ ap (λ b. added b set (filter_of name d)) (and_false (ends_filter p) (is_line s) e)
+set_stays env name d s place.Binary set h e = cc
+set_stays env name d s p set h e = ap (λ (b : Bool). if b then add_filter set (filter_of name d) else set) (and_false (ends_filter p) (is_line s) e)
 
 draft_goes : (env : Env) (label : List ℕ) (d : Draft) (s : Symbol) (p : Place) → is_line s ≡ false → draft_after env label d s p ≡ draft_step env label d s p
 draft_goes env label d s p e = let no : (ends_filter p && is_line s) ≡ false = and_false (ends_filter p) (is_line s) e in rw no refl

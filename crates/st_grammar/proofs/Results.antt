@@ -3,14 +3,12 @@ use Rattle.std.proofs.Common.{◌≡◌, ℕ, ◌≤◌, List, Some, option_map,
 use Rattle.st_grammar.specs.declared.env.Env.{Env}
 use Rattle.st_grammar.specs.declared.fault.PolicyFault.{PolicyFault}
 use Rattle.st_filter.specs.declared.set.BinaryPolicy.{BinaryPolicy}
-use Rattle.st_grammar.specs.Diagram.{fault_in}
-use Rattle.st_grammar.specs.Draft.{Reading, reading_of, set_of, policies_in}
+use Rattle.st_grammar.specs.Draft.{Reading, reading_of, error_in, fault_in, set_of, policies_in}
 use Rattle.st_grammar.specs.Grammar.{Reads}
 use Rattle.st_grammar.specs.Refusals.{place_in, refusal_in}
 use Rattle.st_grammar.specs.declared.fault.PolicyRefusal.{PolicyRefusal}
 use Rattle.st_grammar.specs.declared.place.Place.{Place}
 use Rattle.st_filter.specs.Policies.{filters_in}
-use Rattle.st_grammar.proofs.Faults.{error_in, faults-agree}
 use Rattle.st_grammar.proofs.Sound.{reading-is_sound}
 use Rattle.st_filter.specs.declared.set.TheConstants.{MOST_FILTERS}
 
@@ -31,7 +29,7 @@ module _ (text : List ℕ) (env : Env) (old : List BinaryPolicy) where
   fault-by fault (Err found) e = cc
 
   fault_found : (fault : PolicyFault) → policies_in text env old ≡ Err fault → fault_in text env old ≡ Some fault
-  fault_found fault e = faults-agree text env old ∙ fault-by fault (reading_of text env old) e
+  fault_found fault e = fault-by fault (reading_of text env old) e
 
   pub refusal_found : (refused : PolicyRefusal) → policies_in text env old ≡ Err refused.fault → place_in text env old ≡ refused.place → refusal_in text env old ≡ Some refused
   refusal_found refused e place =

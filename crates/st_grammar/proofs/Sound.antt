@@ -16,7 +16,7 @@ use Rattle.st_filter.specs.Formula.{FilterValue}
 use Rattle.st_grammar.specs.Grammar.{IsFilter, IsHeader, AreRows, NoRow, Blank, Header, FilterRow, AreNew, symbols_in, Reads}
 use Rattle.st_grammar.specs.Symbol.{Symbol, Line, Broken, symbol_of}
 use Rattle.st_grammar.specs.Words.{may_test, may_test_label}
-use Rattle.st_grammar.proofs.Faults.{result_after}
+use Rattle.st_grammar.proofs.Texts.{result_after}
 use Rattle.st_grammar.proofs.Readings.{Read, places_of_reading}
 use Rattle.st_grammar.proofs.Fronts.{RowFront, Behind, BelowHeader, Facts, HasFacts}
 use Rattle.st_grammar.proofs.OperandsKept.{kept-operand, kept-label, kept-index, kept-index_end, kept-operator, kept-text}

@@ -9,11 +9,14 @@ use Rattle.st_grammar.specs.Draft.{Reading, read_step, read_from}
 use Rattle.st_grammar.specs.Refusals.{place_from}
 use Rattle.st_grammar.specs.declared.place.Place.{Place}
 
+-- what is read behind a token
+abbrev pub result_after : Env → List ℕ → Option LexFault → List Token → Result Reading PolicyFault → Result Reading PolicyFault
+result_after env text broken ts (Ok r) = read_from env text broken r ts
+result_after env text broken ts (Err fault) = Err fault
+
 pub read_on : (env : Env) (text : List ℕ) (broken : Option LexFault) (r r' : Reading) (t : Token) (ts : List Token) →
     read_step env r t.at (symbol_of text t) ≡ Ok r' → read_from env text broken r (t ∷ ts) ≡ read_from env text broken r' ts
-read_on env text broken r r' t ts h =
-    let rest : Result Reading PolicyFault → Result Reading PolicyFault = λ x. elim x [ Ok q ↦ read_from env text broken q ts | Err fault ↦ Err fault ] in
-    ap rest h
+read_on env text broken r r' t ts h = ap (result_after env text broken ts) h
 
 pub read_at : (env : Env) (text : List ℕ) (broken : Option LexFault) (r r' : Reading) (tokens : List Token) (i : ℕ) (d : Token) (s : Symbol) →
     i < length tokens → s ≡ symbol_of text (get_or tokens i d) → read_step env r (get_or tokens i d).at s ≡ Ok r' →

@@ -302,34 +302,10 @@ step env known w at s place.FilterEnd = only w at (is_line s) place.Row
 abbrev pub next : Env → List (List ℕ) → GrammarState → ℕ → Symbol → StepResult
 next env known w at s = step env known w at s w.place
 
--- a header's binary is known from there on
-abbrev pub known_after : Env → Symbol → Place → List (List ℕ) → List (List ℕ)
-known_after env s place.Binary known = known ++ option_to_list (binary_of env s)
-known_after env s _ known = known
-
--- the fault that a symbol comes to, if there is one
-abbrev pub fault_of : StepResult → Option PolicyFault
-fault_of (Ok w) = None
-fault_of (Err fault) = Some fault
-
 -- what is no token fits nowhere; its fault is the token's own
 abbrev pub lexical : LexFault → PolicyFault → PolicyFault
 lexical fault (Expected at) = Lex fault
 lexical fault other = other
-
--- behind the last token stands the text's end, which ends a row, or what is no token
-abbrev pub fault_at_end : Env → List (List ℕ) → GrammarState → ℕ → Option LexFault → Option PolicyFault
-fault_at_end env known w end None = fault_of (next env known w end Line)
-fault_at_end env known w end (Some fault) = option_map (lexical fault) (fault_of (next env known w end Broken))
-
--- the first fault of tokens and what stands behind them
-abbrev pub fault_from : Env → List ℕ → Option LexFault → List (List ℕ) → GrammarState → List Token → Option PolicyFault
-fault_from env text broken known w [] = fault_at_end env known w (length text) broken
-fault_from env text broken known w (t ∷ ts) =
-    elim (next env known w t.at (symbol_of text t)) [
-      | Ok w' ↦ fault_from env text broken (known_after env (symbol_of text t) w.place known) w' ts
-      | Err fault ↦ Some fault
-    ]
 
 -- the binaries of policies, in order
 abbrev pub binaries : List BinaryPolicy → List (List ℕ)
@@ -338,7 +314,3 @@ binaries policies = map (λ p. p.binary) policies
 -- how far the grammar has come in front of a text, behind the policies read before
 abbrev pub first_walk : List BinaryPolicy → GrammarState
 first_walk old = record { place = place.Start; filters = filters_in old; name = name.Other []; label = []; label_at = 0; parens = 0; joins = 0 }
-
--- the first fault of a text that is read behind the policies read before
-abbrev pub fault_in : List ℕ → Env → List BinaryPolicy → Option PolicyFault
-fault_in text env old = fault_from env text (lexed_text text).fault (binaries old) (first_walk old) (lexed_text text).tokens

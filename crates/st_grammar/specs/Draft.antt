@@ -313,6 +313,15 @@ first_reading old = record { walk = first_walk old; draft = first_draft; set = o
 abbrev pub reading_of : List ℕ → Env → List BinaryPolicy → Result Reading PolicyFault
 reading_of text env old = read_from env text (lexed_text text).fault (first_reading old) (lexed_text text).tokens
 
+-- the fault of a reading, if it has one
+abbrev pub error_in : Result Reading PolicyFault → Option PolicyFault
+error_in (Ok r) = None
+error_in (Err fault) = Some fault
+
+-- the first fault of a text that is read behind the policies read before
+abbrev pub fault_in : List ℕ → Env → List BinaryPolicy → Option PolicyFault
+fault_in text env old = error_in (reading_of text env old)
+
 -- the policies that were read, or the fault
 abbrev pub set_of : Result Reading PolicyFault → Result (List BinaryPolicy) PolicyFault
 set_of (Ok r) = Ok r.set

@@ -1,4 +1,3 @@
-pub mod Between
 pub mod Diagram
 pub mod Draft
 pub mod Grammar

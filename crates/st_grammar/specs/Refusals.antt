@@ -6,8 +6,7 @@ use Rattle.st_grammar.specs.declared.env.Env.{Env}
 use Rattle.st_grammar.specs.declared.fault.PolicyRefusal.{PolicyRefusal}
 use Rattle.st_grammar.specs.declared.place.Place.{Place}
 use Rattle.st_filter.specs.declared.set.BinaryPolicy.{BinaryPolicy}
-use Rattle.st_grammar.specs.Diagram.{fault_in}
-use Rattle.st_grammar.specs.Draft.{Reading, read_step, first_reading}
+use Rattle.st_grammar.specs.Draft.{Reading, read_step, first_reading, fault_in}
 use Rattle.st_grammar.specs.Symbol.{symbol_of}
 
 -- the place to which tokens lead, up to the first that doesn't fit

@@ -2,4 +2,4 @@
 pub use Rattle.st_grammar.proofs.Lines.{line_leaves}
 pub use Rattle.st_grammar.proofs.OneFilters.{stands_elsewhere}
 pub use Rattle.st_grammar.proofs.Results.{refusal_found}
-pub use Rattle.st_grammar.proofs.Rooms.{has_room, old_is_kept, sound_first}
+pub use Rattle.st_grammar.proofs.Between.{has_room, old_is_kept}

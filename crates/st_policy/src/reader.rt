@@ -3,7 +3,6 @@ ghost use Rattle.st_grammar.specs.Symbol.{seen};
 ghost use Rattle.st_grammar.specs.Grammar.{Reads, if_absolute, binary_of};
 ghost use Rattle.st_filter.specs.Policies.{filters_in, add_filter};
 ghost use Rattle.st_grammar.specs.Diagram.{lexical};
-ghost use Rattle.st_grammar.specs.Between.{IsSound};
 ghost use Rattle.st_grammar.specs.Refusals.{place_from, place_in, refusal_in};
 ghost use Rattle.st_grammar.specs.Draft.{is_between_rows, is_binary_place, ends_filter, filter_of, first_draft, as_reading, read_step, read_end, read_from, first_reading, set_of, policies_in};
 ghost use Rattle.st_filter.specs.declared.set.TheConstants.{MOST_FILTERS};
@@ -175,7 +174,8 @@ fn read_all<'a>(
     broken: Option<LexFault>,
 ) -> Result<(), PolicyRefusal>
     requires small { length text.now < 2 ^ 32 }
-    requires sound { IsSound set.old (as_reading reader.old.walk reader.old.draft set.old) }
+    requires first { as_reading reader.old.walk reader.old.draft set.old ≡ first_reading set.old }
+    requires few { filters_in set.old ≤ MOST_FILTERS }
     ensures ok { OnOk result (set_of (read_from env.now text.now broken (as_reading reader.old.walk reader.old.draft set.old) tokens.now) ≡ Ok set.new) }
     ensures fault { IfErr result (λ r. r.fault ≢ PolicyFault.NoMemory → read_from env.now text.now broken (as_reading reader.old.walk reader.old.draft set.old) tokens.now ≡ Err r.fault) }
     ensures place { IfErr result (λ r. r.fault ≢ PolicyFault.NoMemory → place_from env.now text.now (as_reading reader.old.walk reader.old.draft set.old) tokens.now ≡ r.place) }
@@ -200,7 +200,6 @@ fn read_all<'a>(
 }
 
 // Reads the tokens of a text and what stands behind them; where that fails, the set has what was read of it.
-#[tactic(auto, using(crate::proofs::Cited::sound_first))]
 fn read_tokens(
     alloc: Global,
     text: &[u8],

@@ -7,7 +7,7 @@ use Rattle.st_filter.specs.declared.set.BinaryPolicy.{BinaryPolicy}
 use Rattle.st_filter.specs.declared.set.TheConstants.{MOST_FILTERS}
 use Rattle.st_filter.specs.Policies.{filters_in}
 use Rattle.st_grammar.specs.declared.env.Env.{Env}
-use Rattle.st_grammar.specs.Diagram.{fault_in}
+use Rattle.st_grammar.specs.Draft.{fault_in}
 use Rattle.st_grammar.specs.Grammar as policy
 use Rattle.st_grammar.specs.declared.fault.PolicyFault.{PolicyFault}
 use Rattle.st_grammar.specs.declared.fault.PolicyRefusal.{PolicyRefusal}

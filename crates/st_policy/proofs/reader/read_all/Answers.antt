@@ -1,13 +1,16 @@
-use Rattle.std.proofs.Common.{◌∙◌, arith, sym, get_or}
+use Rattle.std.proofs.Common.{◌∙◌, ap, arith, get_or, length, refl, subst, sym, take}
 use Rattle.st_lex.specs.declared.token.Token.{Token}
 use Rattle.st_lex.specs.declared.token.TokenKind.TheVariants.{Word}
 use Rattle.st_grammar.specs.Symbol.{seen}
 use Rattle.st_grammar.specs.Draft.{as_reading}
 use Rattle.st_grammar.proofs.Lines.{blank_line}
-use Rattle.st_grammar.proofs.Rooms.{sound_step}
+use Rattle.st_grammar.proofs.Between.{IsReached, old_is_kept, reached_first, reached_step}
 use Rattle.st_grammar.proofs.Texts.{read_at, place_at, place_there}
 use Rattle.st_policy.proofs.Refused.{place_at_end, refused_at}
 use Rattle.st_policy.proofs.reader.read_all.Goals as goal
+
+pub loop-token-init : goal.loop-token-init
+loop-token-init c = record { rest = refl; place = refl; reached = subst (IsReached c.args.env.now c.args.set.now) (sym c.requires.first) (reached_first c.args.env.now c.args.set.now c.requires.few) }
 
 pub loop-token-preserved : goal.loop-token-preserved
 loop-token-preserved c =
@@ -17,7 +20,7 @@ loop-token-preserved c =
     record {
       rest = c.loop-token.invariant.rest ∙ read_at c.args.env.now c.args.text.now c.args.broken before after c.args.tokens.now c.loop-token.token-index _ _ c.loop-token-test.true c.of-symbol.ensures c.in_default.ensures.ok;
       place = c.loop-token.invariant.place ∙ place_at c.args.env.now c.args.text.now before after c.args.tokens.now c.loop-token.token-index _ _ c.loop-token-test.true c.of-symbol.ensures c.in_default.ensures.ok;
-      sound = sound_step c.args.set.now before after c.args.env.now token.at (seen c.of-symbol.result) c.loop-token.invariant.sound c.in_default.ensures.ok;
+      reached = reached_step c.args.env.now c.args.set.now before after token.at (seen c.of-symbol.result) c.loop-token.invariant.reached c.in_default.ensures.ok;
     }
 
 pub loop-token-preserved-then-is_between_rows : goal.loop-token-preserved-then-is_between_rows
@@ -29,7 +32,7 @@ loop-token-preserved-then-is_between_rows c =
     record {
       rest = c.loop-token.invariant.rest ∙ read_at c.args.env.now c.args.text.now c.args.broken here here c.args.tokens.now c.loop-token.token-index _ _ c.loop-token-test.true c.of-symbol.ensures stays;
       place = c.loop-token.invariant.place ∙ place_at c.args.env.now c.args.text.now here here c.args.tokens.now c.loop-token.token-index _ _ c.loop-token-test.true c.of-symbol.ensures stays;
-      sound = c.loop-token.invariant.sound;
+      reached = c.loop-token.invariant.reached;
     }
 
 pub returns-in-Err-clause-fault : goal.returns-in-Err-clause-fault
@@ -43,6 +46,11 @@ returns-in-Err-clause-place c memory =
     let here = as_reading c.loop-token.reader.walk c.loop-token.reader.draft c.loop-token.set in
     let token : Token = record { kind = Word; at = 0; len = 0; line = 0 } in
     c.loop-token.invariant.place ∙ place_there c.args.env.now c.args.text.now here c.args.tokens.now c.loop-token.token-index token _ c.in-Err.fault c.loop-token-test.true c.of-symbol.ensures (c.in-Err.ensures.fault memory) ∙ sym c.place-place.ensures
+
+pub returns-in-Err-clause-kept : goal.returns-in-Err-clause-kept
+returns-in-Err-clause-kept c =
+    let here = as_reading c.loop-token.reader.walk c.loop-token.reader.draft c.loop-token.set in
+    ap (take (length c.args.set.now)) c.in-Err.ensures.same ∙ old_is_kept c.args.env.now c.args.set.now here c.loop-token.invariant.reached
 
 pub returns-in-Err-end-clause-place : goal.returns-in-Err-end-clause-place
 returns-in-Err-end-clause-place c memory =
