@@ -32,7 +32,8 @@ use Rattle.st_grammar.specs.declared.env.Env.{Env}
 use Rattle.st_reread.proofs.Headers.{IsReadableBinary}
 use Rattle.st_reread.proofs.Names.{IsReadableName}
 use Rattle.st_reread.proofs.PrintedClauses.{AreIds, IsReadableAction, IsReadableCondition, IsReadableGrant, IsReadablePredicate}
-use Rattle.st_reread.proofs.PrintedExpressions.{IsReadableFormula, sum-first}
+use Rattle.st_grammar.proofs.Keywords.{joins-first}
+use Rattle.st_reread.proofs.PrintedExpressions.{IsReadableFormula}
 use Rattle.st_reread.proofs.PrintedFilters.{IsReadableFilter}
 use Rattle.st_reread.proofs.Readings.{IsReadable, readable-reads, readable_set}
 use Rattle.st_reread.proofs.Rows.{AreReadable, IsReadablePolicy, well_set}
@@ -118,9 +119,9 @@ sum_one p ps = let e : sum_by joins_of (p ∷ ps) ≡ sum_by joins_of (p ∷ [])
 -- the joins of pieces are those of their symbols
 joins_counted : (ps : List Piece) → sum_by is_join (piece_symbols ps) ≡ sum_by joins_of ps
 joins_counted [] = refl
-joins_counted (PlainWord word ∷ ps) = omega (arith, joins_counted ps, sum-first (Word word) (piece_symbols ps), sum_one (PlainWord word) ps)
-joins_counted (QuotedText text ∷ ps) = omega (arith, joins_counted ps, sum-first (Quoted (quoted text)) (piece_symbols ps), sum_one (QuotedText text) ps)
-joins_counted (Sign kind ∷ ps) = omega (arith, joins_counted ps, sum-first (symbol_by kind (sign_bytes kind)) (piece_symbols ps), sum_one (Sign kind) ps)
+joins_counted (PlainWord word ∷ ps) = omega (arith, joins_counted ps, joins-first (Word word) (piece_symbols ps), sum_one (PlainWord word) ps)
+joins_counted (QuotedText text ∷ ps) = omega (arith, joins_counted ps, joins-first (Quoted (quoted text)) (piece_symbols ps), sum_one (QuotedText text) ps)
+joins_counted (Sign kind ∷ ps) = omega (arith, joins_counted ps, joins-first (symbol_by kind (sign_bytes kind)) (piece_symbols ps), sum_one (Sign kind) ps)
 joins_counted (Space ∷ ps) = omega (arith, joins_counted ps, sum_one Space ps)
 
 readable_expression : (n : FilterName) (f : Formula) → IsWritableExpression n f → IsReadableCondition n f

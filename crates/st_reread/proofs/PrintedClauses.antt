@@ -35,8 +35,10 @@ pub record IsReadableCondition (name : FilterName) (f : Formula) : Type 0 where
 pub readable_condition : (env : Env) (name : FilterName) {ts : List Symbol} {f : Formula} → IsCondition env name ts f → ArePrintable env ts → IsReadableCondition name f
 readable_condition env name Short p = record { formula = tt; few = omega arith }
 readable_condition env name (Then {ts = ts} {f = f} s few) p =
-    let r : IsReadableFormula name f = readable_formula env name s (ArePrintable-parts env ts (Word (codes "then") ∷ []) p).0 in
-    record { formula = r; few = omega (arith, few, few_joins env name ts f s r) }
+    record {
+      formula = readable_formula env name s (ArePrintable-parts env ts (Word (codes "then") ∷ []) p).0;
+      few = omega (arith, few, few_joins env name s);
+    }
 
 with_then : (env : Env) (name : FilterName) (f : Formula) → IsReadableCondition name f → IsCondition env name (piece_symbols (expression_pieces f ++ Space ∷ PlainWord (codes "then") ∷ Space ∷ [])) f
 with_then env name f r =

@@ -1,4 +1,4 @@
--- Canonical expressions are spelled as the grammar asks, with no more joins than the expressions that were read.
+-- Canonical expressions are spelled as the grammar asks.
 use Rattle.std.proofs.Common.{◌≡◌, ℕ, ◌+◌, ◌^◌, ◌<◌, ◌≤◌, Bool, true, false, cond, nat_eq, List, [], ◌∷◌, ◌++◌, codes, decimal, sum_by, Some, refl, sym, subst, arith, eqb-true}
 use Rattle.std.proofs.lemmas.List.Sums.{sum_by-append}
 use Rattle.st_lex.specs.declared.token.TokenKind.TheVariants as kind
@@ -28,81 +28,6 @@ IsReadableFormula name (Not f) = IsReadableFormula name f
 IsReadableFormula name (And f g) = IsReadableFormula name f × IsReadableFormula name g
 IsReadableFormula name (Or f g) = IsReadableFormula name f × IsReadableFormula name g
 
--- ---- joins
-
-abbrev pub with_parens : Bool → ℕ → ℕ
-with_parens true n = n
-with_parens false n = 1 + n
-
--- the joins of a canonical expression
-abbrev pub joins_in : Formula → ℕ
-joins_in True = 0
-joins_in (Test label index op text) = 0
-joins_in (Not f) = 1 + with_parens (needs_no_parens Operand f) (joins_in f)
-joins_in (And f g) = with_parens (needs_no_parens Conjunction f) (joins_in f) + (1 + with_parens (needs_no_parens Operand g) (joins_in g))
-joins_in (Or f g) = with_parens (needs_no_parens Disjunction f) (joins_in f) + (1 + with_parens (needs_no_parens Conjunction g) (joins_in g))
-
--- those of one that stands at a level
-abbrev pub joins_at : Level → Formula → ℕ
-joins_at level f = with_parens (needs_no_parens level f) (joins_in f)
-
-joins_at-Conjunction : (f : Formula) → joins_at Conjunction f ≤ joins_at Operand f
-joins_at-Conjunction True = omega arith
-joins_at-Conjunction (Test label index op text) = omega arith
-joins_at-Conjunction (Not f) = omega arith
-joins_at-Conjunction (And f g) = omega arith
-joins_at-Conjunction (Or f g) = omega arith
-
-joins_at-Disjunction : (f : Formula) → joins_at Disjunction f ≤ joins_at Conjunction f
-joins_at-Disjunction True = omega arith
-joins_at-Disjunction (Test label index op text) = omega arith
-joins_at-Disjunction (Not f) = omega arith
-joins_at-Disjunction (And f g) = omega arith
-joins_at-Disjunction (Or f g) = omega arith
-
--- parentheses are one join more
-joins_at-parens : (f : Formula) → joins_at Operand f ≤ 1 + joins_at Disjunction f
-joins_at-parens True = omega arith
-joins_at-parens (Test label index op text) = omega arith
-joins_at-parens (Not f) = omega arith
-joins_at-parens (And f g) = omega arith
-joins_at-parens (Or f g) = omega arith
-
-fits_all : (f : Formula) → needs_no_parens Disjunction f ≡ true
-fits_all True = refl
-fits_all (Test label index op text) = refl
-fits_all (Not f) = refl
-fits_all (And f g) = refl
-fits_all (Or f g) = refl
-
-pub joins_at-all : (f : Formula) → joins_at Disjunction f ≡ joins_in f
-joins_at-all True = refl
-joins_at-all (Test label index op text) = refl
-joins_at-all (Not f) = refl
-joins_at-all (And f g) = refl
-joins_at-all (Or f g) = refl
-
-pub sum-first : (s : Symbol) (ts : List Symbol) → sum_by is_join (s ∷ ts) ≡ is_join s + sum_by is_join ts
-sum-first s ts = let e : sum_by is_join (s ∷ ts) ≡ sum_by is_join (s ∷ []) + sum_by is_join ts = sum_by-append is_join (s ∷ []) ts in omega (arith, e)
-
-pub sum-joined : (ts us : List Symbol) (s : Symbol) → sum_by is_join (ts ++ s ∷ us) ≡ sum_by is_join ts + (is_join s + sum_by is_join us)
-sum-joined ts us s = omega (arith, sum_by-append is_join ts (s ∷ us), sum-first s us)
-
-pub sum-parens : (ts : List Symbol) → sum_by is_join (Open ∷ ts ++ Close ∷ []) ≡ 1 + sum_by is_join ts
-sum-parens ts = omega (arith, sum-first Open (ts ++ Close ∷ []), sum_by-append is_join ts (Close ∷ []))
-
--- the canonical expression has no more joins than what it was read from
-pub fewest_joins : (env : Env) (name : FilterName) {level : Level} {ts : List Symbol} {f : Formula} → Spells env name level ts f → joins_at level f ≤ sum_by is_join ts
-fewest_joins env name Always = omega arith
-fewest_joins env name (First label allowed op) = omega arith
-fewest_joins env name (Indexed label index allowed op) = omega arith
-fewest_joins env name (Negated {ts = ts} p) = omega (arith, fewest_joins env name p, sum-first (Word (codes "not")) ts)
-fewest_joins env name (Grouped {ts = ts} {f = f} p) = omega (arith, fewest_joins env name p, sum-parens ts, joins_at-parens f)
-fewest_joins env name (OneOperand {f = f} p) = omega (arith, fewest_joins env name p, joins_at-Conjunction f)
-fewest_joins env name (Both {ts = ts} {us = us} p q) = omega (arith, fewest_joins env name p, fewest_joins env name q, sum-joined ts us (Word (codes "and")))
-fewest_joins env name (OneConjunction {f = f} p) = omega (arith, fewest_joins env name p, joins_at-Disjunction f)
-fewest_joins env name (Either {ts = ts} {us = us} p q) = omega (arith, fewest_joins env name p, fewest_joins env name q, sum-joined ts us (Word (codes "or")))
-
 -- ---- what is read can be printed
 
 pub readable_formula : (env : Env) (name : FilterName) {level : Level} {ts : List Symbol} {f : Formula} → Spells env name level ts f → ArePrintable env ts → IsReadableFormula name f
@@ -122,7 +47,7 @@ readable_formula env name (Either {ts = ts} {us = us} s t) p =
 
 -- ---- what is printed is spelled so
 
-op_named-word : (o : Op) → op_named (word_of_op o) ≡ Some o
+pub op_named-word : (o : Op) → op_named (word_of_op o) ≡ Some o
 op_named-word op.Match = refl
 op_named-word op.Eq = refl
 op_named-word op.Neq = refl
@@ -210,6 +135,13 @@ spells_formula env name (Or f g) r =
     let right : List Piece = in_parens (needs_no_parens Conjunction g) (expression_pieces g) in
     subst (λ (ts : List Symbol). Spells env name Disjunction ts (Or f g)) (sym (piece_symbols-append left (Space ∷ PlainWord (codes "or") ∷ Space ∷ right)))
     (Either (spells_at env name (expression_pieces f) Disjunction f (spells_formula env name f r.0)) (spells_at env name (expression_pieces g) Conjunction g (spells_formula env name g r.1)))
+
+pub fits_all : (f : Formula) → needs_no_parens Disjunction f ≡ true
+fits_all True = refl
+fits_all (Test label index op text) = refl
+fits_all (Not f) = refl
+fits_all (And f g) = refl
+fits_all (Or f g) = refl
 
 pub spells_expression : (env : Env) (name : FilterName) (f : Formula) → IsReadableFormula name f → Spells env name Disjunction (piece_symbols (expression_pieces f)) f
 spells_expression env name f r =
