@@ -21,7 +21,7 @@ use st_script_faults::environment::process_of;
 use st_script_faults::faults::{Whole, first_fault, whole_of};
 use st_statements::lines::looked_at;
 use st_statements::{ScriptLine, ScriptProcess, Statement, lines_of_tokens};
-use st_trace::{GroupRow, NewKind, NewNode, ProcessRow, Start, TreeRow, UserRow};
+use st_trace::{GroupRow, NewKind, NewNode, ProcessRow, Start, ThreadRow, TreeRow, UserRow};
 use std::alloc::{AllocError, Global};
 
 /// A script that was read.
@@ -170,16 +170,42 @@ fn processes_in(alloc: Global, lines: &[ScriptLine]) -> Result<Sequence<ProcessR
     Ok(rows)
 }
 
+// The users and the groups of lines.
+fn users_and_groups(
+    alloc: Global,
+    lines: &[ScriptLine],
+) -> Result<(Sequence<UserRow>, Sequence<GroupRow>), AllocError>
+    ensures users { IfOk result (λ both. both.0 ≡ (start_of lines.now).users) }
+    ensures groups { IfOk result (λ both. both.1 ≡ (start_of lines.now).groups) }
+{
+    let groups = groups_in(alloc, lines)?;
+    Ok((users_in(alloc, lines)?, groups))
+}
+
+// The processes and the threads of lines.
+fn processes_and_threads(
+    alloc: Global,
+    lines: &[ScriptLine],
+) -> Result<(Sequence<ProcessRow>, Sequence<ThreadRow>), AllocError>
+    ensures processes { IfOk result (λ both. both.0 ≡ (start_of lines.now).processes) }
+    ensures threads { IfOk result (λ both. both.1 ≡ (start_of lines.now).threads) }
+{
+    let threads = threads_in(alloc, lines)?;
+    Ok((processes_in(alloc, lines)?, threads))
+}
+
 // Where the run of a script starts.
 fn start_of(alloc: Global, lines: &[ScriptLine]) -> Result<Start, AllocError>
     ensures { IfOk result (λ start. start ≡ start_of lines.now) }
 {
+    let (users, groups) = users_and_groups(alloc, lines)?;
+    let (processes, threads) = processes_and_threads(alloc, lines)?;
     Ok(Start {
-        users: users_in(alloc, lines)?,
-        groups: groups_in(alloc, lines)?,
+        users,
+        groups,
         tree: tree_in(alloc, lines)?,
-        processes: processes_in(alloc, lines)?,
-        threads: threads_in(alloc, lines)?,
+        processes,
+        threads,
     })
 }
 

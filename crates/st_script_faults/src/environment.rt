@@ -1,4 +1,4 @@
-ghost use Rattle.std.specs.Prelude.{◌≡◌, [], find, ◌==◌, map, IfOk, OnOk, option_copied};
+ghost use Rattle.std.specs.Prelude.{◌≡◌, ◌++◌, [], find, ◌==◌, map, decimal, IfOk, OnOk, option_copied};
 ghost use Rattle.st_script_faults.specs.Environment.{new_user, users_below, new_group, groups_below, process_of, is_refused, is_given, first_traced, user_of, dollars_by, dollars_of, user_id, group_id, learns, environment_of};
 
 use crate::limits::MOST_PROCESSES;
@@ -22,18 +22,29 @@ fn new_user<'a>(known: &NameIndex, says: &'a Option<Statement>) -> Option<&'a Us
     }
 }
 
+// Adds the users of lines, of each name the first.
+fn add_users<'a>(
+    users: &mut Sequence<&'a UserRow>,
+    known: &mut NameIndex<'a>,
+    lines: &'a [ScriptLine],
+) -> Result<(), AllocError>
+    ensures { OnOk result (map (λ user. user.now) users.new ≡ map (λ user. user.now) users.old ++ users_below known.old lines.now) }
+{
+    for line in lines {
+        if let Some(user) = new_user(known, &line.says) {
+            users.push(user)?;
+            known.add(user.name.bytes())?;
+        }
+    }
+    Ok(())
+}
+
 // The users of lines, of each name the first.
 fn users_of<'a>(alloc: Global, lines: &'a [ScriptLine]) -> Result<Sequence<&'a UserRow>, AllocError>
     ensures { IfOk result (λ users. map (λ user. user.now) users ≡ users_below [] lines.now) }
 {
     let mut users = Sequence::new(alloc);
-    let mut known = NameIndex::new(alloc);
-    for line in lines {
-        if let Some(user) = new_user(&known, &line.says) {
-            users.push(user)?;
-            known.add(user.name.bytes())?;
-        }
-    }
+    add_users(&mut users, &mut NameIndex::new(alloc), lines)?;
     Ok(users)
 }
 
@@ -56,18 +67,30 @@ fn group_id(alloc: Global, group: &GroupRow) -> Result<NamedId, AllocError>
     })
 }
 
+// Adds the groups of lines, of each name the first.
+fn add_groups<'a>(
+    alloc: Global,
+    groups: &mut Sequence<NamedId>,
+    known: &mut NameIndex<'a>,
+    lines: &'a [ScriptLine],
+) -> Result<(), AllocError>
+    ensures { OnOk result (groups.new ≡ groups.old ++ map group_id (groups_below known.old lines.now)) }
+{
+    for line in lines {
+        if let Some(group) = new_group(known, &line.says) {
+            groups.push(group_id(alloc, group)?)?;
+            known.add(group.name.bytes())?;
+        }
+    }
+    Ok(())
+}
+
 // The groups of lines, of each name the first.
 fn group_ids(alloc: Global, lines: &[ScriptLine]) -> Result<Sequence<NamedId>, AllocError>
     ensures { IfOk result (λ ids. ids ≡ map group_id (groups_below [] lines.now)) }
 {
     let mut groups = Sequence::new(alloc);
-    let mut known = NameIndex::new(alloc);
-    for line in lines {
-        if let Some(group) = new_group(&known, &line.says) {
-            groups.push(group_id(alloc, group)?)?;
-            known.add(group.name.bytes())?;
-        }
-    }
+    add_groups(alloc, &mut groups, &mut NameIndex::new(alloc), lines)?;
     Ok(groups)
 }
 
@@ -91,17 +114,16 @@ fn is_refused(known: &NameIndex, process: &ScriptProcess) -> bool
         || is_long(process.cwd.bytes())
 }
 
-// The first traced process of lines that can be taken.
+// The first traced process of lines that can be taken, below rows with these processes.
 fn first_traced<'a>(
-    alloc: Global,
+    known: &mut NameIndex<'a>,
     lines: &'a [ScriptLine],
 ) -> Result<Option<&'a ScriptProcess>, AllocError>
-    ensures { IfOk result (λ process. option_copied process ≡ first_traced [] lines.now) }
+    ensures { IfOk result (λ process. option_copied process ≡ first_traced known.old lines.now) }
 {
-    let mut known = NameIndex::new(alloc);
     for line in lines {
         if let Some(process) = process_of(&line.says) {
-            if process.traced && !is_refused(&known, process) {
+            if process.traced && !is_refused(known, process) {
                 return Ok(Some(process));
             }
             known.add(process.name.bytes())?;
@@ -132,6 +154,26 @@ fn user_with<'a>(users: &[&'a UserRow], uid: u32) -> Option<&'a UserRow>
     None
 }
 
+// What stands for the three names, from these bytes.
+fn dollars_with(alloc: Global, home: &[u8], user: &[u8], cwd: &[u8]) -> Result<Dollars, AllocError>
+    ensures { IfOk result (λ dollars. dollars ≡ record { home = home.now; user = user.now; cwd = cwd.now }) }
+{
+    Ok(Dollars {
+        home: Text::of(alloc, home)?,
+        user: Text::of(alloc, user)?,
+        cwd: Text::of(alloc, cwd)?,
+    })
+}
+
+// An id in digits.
+fn digits_of(alloc: Global, id: u32) -> Result<Text, AllocError>
+    ensures { IfOk result (λ digits. digits ≡ decimal id) }
+{
+    let mut digits = Text::new(alloc);
+    digits.append_number(u64::from(id))?;
+    Ok(digits)
+}
+
 fn dollars_by(
     alloc: Global,
     uid: u32,
@@ -140,18 +182,11 @@ fn dollars_by(
 ) -> Result<Dollars, AllocError>
     ensures { IfOk result (λ dollars. dollars ≡ dollars_by uid cwd.now (option_copied user.entry)) }
 {
-    let cwd = cwd.copy(alloc)?;
     match user {
-        Some(user) => Ok(Dollars {
-            home: user.home.copy(alloc)?,
-            user: user.name.copy(alloc)?,
-            cwd,
-        }),
+        Some(user) => dollars_with(alloc, user.home.bytes(), user.name.bytes(), cwd.bytes()),
         None => {
-            let home = Text::of(alloc, b"/")?;
-            let mut user = Text::new(alloc);
-            user.append_number(u64::from(uid))?;
-            Ok(Dollars { home, user, cwd })
+            let digits = digits_of(alloc, uid)?;
+            dollars_with(alloc, b"/", digits.bytes(), cwd.bytes())
         }
     }
 }
@@ -170,11 +205,7 @@ fn dollars_of(
             let uid = user_of(options, process);
             dollars_by(alloc, uid, &process.cwd, user_with(users, uid))
         }
-        None => Ok(Dollars {
-            home: Text::of(alloc, b"/root")?,
-            user: Text::of(alloc, b"root")?,
-            cwd: Text::of(alloc, b"/")?,
-        }),
+        None => dollars_with(alloc, b"/root", b"root", b"/"),
     }
 }
 
@@ -207,6 +238,21 @@ fn learns(mode: Mode) -> bool
     }
 }
 
+// The users of lines by name, and what stands for the three names.
+fn users_and_dollars(
+    alloc: Global,
+    options: &Options,
+    lines: &[ScriptLine],
+) -> Result<(Sequence<NamedId>, Dollars), AllocError>
+    ensures users { IfOk result (λ both. both.0 ≡ map user_id (users_below [] lines.now)) }
+    ensures dollars { IfOk result (λ both. both.1 ≡ dollars_of options.now (users_below [] lines.now) (first_traced [] lines.now)) }
+{
+    let users = users_of(alloc, lines)?;
+    let process = first_traced(&mut NameIndex::new(alloc), lines)?;
+    let ids = user_ids(alloc, users.as_slice())?;
+    Ok((ids, dollars_of(alloc, options, users.as_slice(), process)?))
+}
+
 /// What policies, and the filters of replies, are read with: users and groups of all lines, of each name the first, and the three texts
 /// of the first traced process. Lines that can't be taken give nothing.
 pub fn environment_of(
@@ -216,11 +262,9 @@ pub fn environment_of(
 ) -> Result<Env, AllocError>
     ensures { IfOk result (λ env. env ≡ environment_of options.now lines.now) }
 {
-    let users = users_of(alloc, lines)?;
-    let process = first_traced(alloc, lines)?;
-    let dollars = dollars_of(alloc, options, users.as_slice(), process)?;
+    let (users, dollars) = users_and_dollars(alloc, options, lines)?;
     Ok(Env {
-        users: user_ids(alloc, users.as_slice())?,
+        users,
         groups: group_ids(alloc, lines)?,
         dollars,
         elevate: options.ids.is_some(),
