@@ -1,19 +1,14 @@
 -- The tokens of a text below another one: those that it has alone, so many bytes and lines further on.
 use Rattle.std.proofs.Common.{zero, suc, ◌≡◌, ℕ, ◌+◌, ◌-◌, List, [], ◌∷◌, ◌++◌, length, take, drop, map, Some, refl, ap, sym, ◌∙◌, arith}
 use Rattle.std.proofs.lemmas.List.{drop-drop}
-use Rattle.st_lex.specs.declared.token.LexFault.{LexFault}
-use Rattle.st_lex.specs.declared.token.Token.{Token}
-use Rattle.st_lex.specs.declared.token.TokenKind.{TokenKind}
+use Rattle.st_grammar.proofs.Common.{fault_after, Lexed, lexed_text, LexFault, optional_fault_after, symbol_by, symbol_of, Token, TokenKind}
 use Rattle.st_lex.specs.declared.token.TokenKind.TheVariants.{Word, Colon, Comma, Line}
-use Rattle.st_lex.specs.declared.token.Lexed.{Lexed}
 use Rattle.st_lex.specs.declared.token.Front.{Front}
 use Rattle.st_lex.specs.declared.token.Front.TheVariants.{Gap, Piece, Broken}
-use Rattle.st_lex.specs.Quoted.{fault_after, optional_fault_after}
-use Rattle.st_lex.specs.Tokens.{front_of, line_after, with_token, tokens_from, lexed_text}
+use Rattle.st_lex.specs.Tokens.{front_of, line_after, with_token, tokens_from}
 use Rattle.st_lex.proofs.Distances.{moved-moved}
 use Rattle.st_lex.proofs.Fronts.{drop_front}
 use Rattle.st_lex.proofs.Skips.{before, by_front, tokens_from-front}
-use Rattle.st_grammar.specs.Symbol.{symbol_by, symbol_of}
 use Rattle.st_first_fault.specs.FilterFault.{header}
 
 -- a token so many bytes and lines further on

@@ -6,28 +6,18 @@ use Rattle.std.proofs.lemmas.Bool.{eq-eqb, lt-ltb, false_from_ne_true}
 use Rattle.std.proofs.lemmas.Slice.Eq.{bytes_eq-Decides}
 use Rattle.std.proofs.lemmas.List.{length-replicate}
 use Rattle.st_calls.specs.declared.call.SysCall.TheVariants as call
+use Rattle.st_grammar.proofs.Common.{AreNew, AreRows, binaries, binary_of, BinaryPolicy, Blank, Call, Close, CloseBracket, Colon, Comma, Draft, draft_after, Equal, FilterName, filters_in, FsRead, GrammarState, is_word_text, Line, may_test, may_test_label, MOST_FILTERS, new_policy, OpenBracket, Piece, PlainWord, Quoted, QuotedText, Reading, reading_step, Sign, Space, StandWell, step_binary, StepResult, Symbol, Who, Word}
+use Rattle.st_grammar.specs.declared.fault.PolicyFault.TheVariants.{DuplicatePolicy, Expected, UnknownArgument}
+use Rattle.st_grammar.specs.declared.env.Env.{Env}
+use Rattle.st_grammar.specs.declared.place.Place.{Place}
 use Rattle.st_calls.specs.declared.rule.Rule.{Rule}
-use Rattle.st_calls.specs.declared.rule.Rule.TheVariants.{Call, FsRead, FsWrite}
+use Rattle.st_calls.specs.declared.rule.Rule.TheVariants.{FsWrite}
 use Rattle.st_calls.specs.Argument.{has_label, has_argument}
 use Rattle.st_lex.specs.declared.token.TokenKind.TheVariants as kind
 use Rattle.st_lex.specs.Tokens.{is_word_byte}
-use Rattle.st_lex.specs.Pieces.{Piece, PlainWord, QuotedText, Sign, Space, StandWell, is_word_text}
-use Rattle.st_grammar.specs.declared.env.Env.{Env}
-use Rattle.st_filter.specs.declared.filter.FilterName.{FilterName}
 use Rattle.st_filter.specs.declared.filter.FilterName.TheVariants as name
-use Rattle.st_filter.specs.declared.filter.Who.{Who}
 use Rattle.st_filter.specs.declared.filter.Who.TheVariants as whose
-use Rattle.st_grammar.specs.declared.place.Place.{Place}
 use Rattle.st_grammar.specs.declared.place.Place.TheVariants as place
-use Rattle.st_grammar.specs.declared.fault.PolicyFault.TheVariants.{Expected, UnknownArgument, DuplicatePolicy}
-use Rattle.st_filter.specs.declared.set.BinaryPolicy.{BinaryPolicy}
-use Rattle.st_filter.specs.declared.set.TheConstants.{MOST_FILTERS}
-use Rattle.st_filter.specs.Policies.{filters_in}
-use Rattle.st_grammar.specs.Diagram.{GrammarState, StepResult, step_binary, binaries}
-use Rattle.st_grammar.specs.Draft.{Draft, Reading, draft_after, new_policy, reading_step}
-use Rattle.st_grammar.specs.Grammar.{AreRows, AreNew, Blank, binary_of}
-use Rattle.st_grammar.specs.Symbol.{Symbol, Word, Quoted, Colon, Comma, Close, OpenBracket, CloseBracket, Equal, Line}
-use Rattle.st_grammar.specs.Words.{may_test, may_test_label}
 use Rattle.st_grammar.proofs.Fronts.{Facts, HasFacts}
 use Rattle.st_grammar.proofs.Readings.{places_of_reading}
 use Rattle.st_grammar.proofs.Sound.{line-keeps, line-is_sound, RowEnded}

@@ -2,15 +2,12 @@
 use Rattle.std.proofs.Common.{zero, suc, ◌≡◌, ℕ, ◌+◌, ◌-◌, ◌<◌, ◌≤◌, ◌≢◌, Bool, true, false, List, [], ◌∷◌, ◌++◌, length, take, drop, Option, None, Some, refl, ap, sym, subst, ◌∙◌, arith, nat_eq}
 use Rattle.std.proofs.lemmas.Bool.Decides.{nat_tests}
 use Rattle.std.specs.List.{prefix_len}
-use Rattle.st_lex.specs.declared.token.LexFault.{LexFault}
-use Rattle.st_lex.specs.Quoted.{closing_len, count_after, inner_fault, optional_fault_after, is_byte_escape}
+use Rattle.st_grammar.proofs.Common.{Lexed, lexed_text, LexFault, optional_fault_after, piece_tokens, print, Space, spelled_tokens, StandWell, Token, TokenKind}
+use Rattle.st_lex.specs.Quoted.{closing_len, count_after, inner_fault, is_byte_escape}
 use Rattle.std.proofs.lemmas.List.{drop-append-le, drop-take, length-append, length-drop, length-take-le, map-append, take-append-le, take-take}
-use Rattle.st_lex.specs.declared.token.Token.{Token}
-use Rattle.st_lex.specs.declared.token.TokenKind.{TokenKind}
-use Rattle.st_lex.specs.declared.token.Lexed.{Lexed}
 use Rattle.st_lex.specs.declared.token.LexFault.TheVariants.{BadByte}
 use Rattle.st_first_fault.specs.Cuts.{end_of}
-use Rattle.st_lex.specs.Pieces.{IsReadAs, Piece as TextPiece, Space, SpelledToken, StandWell, piece_tokens, print, spelled_token, spelled_tokens}
+use Rattle.st_lex.specs.Pieces.{IsReadAs, Piece as TextPiece, SpelledToken, spelled_token}
 use Rattle.st_lex.specs.Text.{text_of_token}
 use Rattle.st_lex.proofs.Pieces.{spelled-tokens_at, tokens_at, tokens_from-print}
 use Rattle.st_lex.proofs.Skips.{before, tokens_from-broken, tokens_from-gap, tokens_from-piece}
@@ -18,7 +15,7 @@ use Rattle.st_lex.proofs.Within.{front_of-within}
 use Rattle.st_lex.specs.declared.token.Front.{Front}
 use Rattle.st_lex.specs.declared.token.Front.TheVariants.{Gap, Piece, Broken}
 use Rattle.st_lex.specs.declared.token.TokenKind.TheVariants.{Word, NotEqual}
-use Rattle.st_lex.specs.Tokens.{LiesWithin, front_of, lexed_text, line_after, tokens_from, with_token, is_blank, is_no_newline, is_word_byte, not_equal_front, quoted_front, sign_front, sign_of}
+use Rattle.st_lex.specs.Tokens.{LiesWithin, front_of, line_after, tokens_from, with_token, is_blank, is_no_newline, is_word_byte, not_equal_front, quoted_front, sign_front, sign_of}
 use Rattle.st_lex.proofs.Runs.{tested}
 use Rattle.st_lex.proofs.Insides.{hex_byte_is, closing_len-one}
 use Rattle.st_lex.proofs.Scans.{closing_len-plain, closing_len-quote, closing_len-newline, closing_len-pair, inner_fault-plain, inner_fault-pair, inner_fault-quote, inner_fault-zero, inner_fault-escape}

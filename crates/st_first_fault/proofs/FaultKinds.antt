@@ -3,34 +3,17 @@ use Rattle.std.proofs.Common.{◌≡◌, ◌⊎◌, inl, inr, ℕ, ◌+◌, ◌-
 use Rattle.std.specs.Str.{bytes_eq}
 use Rattle.std.specs.List.{list_any}
 use Rattle.std.proofs.lemmas.Bool.{ltb-false, and_parts}
-use Rattle.st_base.specs.declared.errno.Errno.{Errno}
-use Rattle.st_base.specs.declared.errno.Errno.TheVariants.{EPERM}
-use Rattle.st_base.specs.Errno.{error_named}
-use Rattle.st_lex.specs.declared.token.Token.{Token}
-use Rattle.st_lex.specs.Tokens.{lexed_text}
+use Rattle.st_grammar.proofs.Common.{Action, Asks, binaries, binary_of, BinaryPolicy, Close, Cmp, Colon, Comma, comparison, Denies, DeniesWith, Deny, Draft, draft_after, EPERM, Errno, error_named, filter_name, FilterName, filters_in, GrammarState, has_policy, id_in, index_in, is_action, is_close_bracket, is_colon, is_comma, is_keyword, is_label, is_line, is_quoted, IsAction, joined, lexed_text, Line, may_test, may_test_label, MOST_FILTERS, most_joins, names_for, only, Op, op_named, Open, OpenBracket, Permit, sets_ids, step, step_action, step_as, step_binary, step_comparison, step_denial, step_errno, step_error, step_grant, step_id, step_index, step_indexed, step_joint, step_known, step_label, step_name, step_op, step_operand, step_operator, step_row, step_start, step_system, step_tail, step_user, step_who, StepResult, Symbol, Token, Who, Word, word_who}
+use Rattle.st_grammar.specs.declared.fault.PolicyFault.TheVariants.{AskWithLearn, DuplicatePolicy, ElevateOnSetId, ElevateWithoutIds, Expected, NotSupported, TooMany, UnknownArgument, UnknownCall, UnknownError, UnknownUser}
 use Rattle.st_grammar.specs.declared.env.Env.{Env}
 use Rattle.st_grammar.specs.declared.env.NamedId.{NamedId}
-use Rattle.st_grammar.specs.declared.fault.PolicyFault.{PolicyFault}
-use Rattle.st_grammar.specs.declared.fault.PolicyFault.TheVariants.{Expected, UnknownCall, UnknownArgument, UnknownError, UnknownUser, DuplicatePolicy, ElevateWithoutIds, ElevateOnSetId, NotSupported, AskWithLearn, TooMany}
-use Rattle.st_grammar.specs.declared.fault.Unsupported.TheVariants as unsupported
 use Rattle.st_grammar.specs.declared.place.Place.{Place}
+use Rattle.st_grammar.specs.declared.fault.PolicyFault.{PolicyFault}
+use Rattle.st_grammar.specs.declared.fault.Unsupported.TheVariants as unsupported
 use Rattle.st_grammar.specs.declared.place.Place.TheVariants as place
-use Rattle.st_filter.specs.declared.filter.Action.{Action}
-use Rattle.st_filter.specs.declared.filter.Action.TheVariants.{Permit, Deny}
-use Rattle.st_filter.specs.declared.filter.Cmp.{Cmp}
-use Rattle.st_filter.specs.declared.filter.FilterName.{FilterName}
-use Rattle.st_filter.specs.declared.filter.Op.{Op}
-use Rattle.st_filter.specs.declared.filter.Who.{Who}
-use Rattle.st_filter.specs.declared.set.BinaryPolicy.{BinaryPolicy}
-use Rattle.st_filter.specs.declared.set.TheConstants.{MOST_FILTERS}
-use Rattle.st_filter.specs.Policies.{filters_in, has_policy}
-use Rattle.st_grammar.specs.Diagram.{GrammarState, StepResult, expected, only, joined, step_start, step_name, step_row, step_binary, step_system, step_operand, step_op, step_operator, step_label, step_indexed, step_index, step_joint, step_action, is_action, step_as, step_tail, step_denial, step_errno, step_error, step_known, step_id, step_grant, step_user, step_who, step_comparison, word_who, is_colon, is_comma, is_keyword, is_close_bracket, is_quoted, is_line, step, binaries}
-use Rattle.st_grammar.specs.Draft.{Draft, draft_after}
+use Rattle.st_grammar.specs.Diagram.{expected}
 use Rattle.st_first_fault.specs.FirstFault.{symbols_at, AreRead, TakesOperand, TakesOperator, TakesAction, TakesId, BehindPermit, Permitted, Logged, IsSpecial, NoCall, ManyFilters, Twice, NoNative, ManyOpening, ManyJoining, NoRe, Learns, NoError, NoIds, SetsIds, NoUser}
-use Rattle.st_grammar.specs.Grammar.{IsAction, Denies, DeniesWith, Asks, binary_of, comparison, most_joins}
 use Rattle.st_grammar.specs.Grammar as grammar
-use Rattle.st_grammar.specs.Symbol.{Symbol, Word, Colon, Comma, Open, Close, OpenBracket, Line}
-use Rattle.st_grammar.specs.Words.{filter_name, id_in, index_in, is_label, may_test, may_test_label, names_for, op_named, sets_ids}
 use Rattle.st_grammar.proofs.ActionsKept.{clause-operands, clause-actions}
 use Rattle.st_first_fault.proofs.Completions.{MayEnd, label-first, facts-operator}
 use Rattle.st_grammar.proofs.Fronts.{Facts, logged}

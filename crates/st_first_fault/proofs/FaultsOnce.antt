@@ -1,17 +1,10 @@
 -- A text has one first fault at most: the definition tells it from all others.
 use Rattle.std.proofs.Common.{◌≡◌, inl, inr, ℕ, ◌≤◌, List, [], ◌∷◌, ◌++◌, length, Option, None, Some, Ok, Err, refl, ap, sym, subst, ◌∙◌, append_assoc}
 use Rattle.std.proofs.lemmas.List.{map-append}
-use Rattle.st_lex.specs.declared.token.LexFault.{LexFault}
-use Rattle.st_lex.specs.declared.token.Token.{Token}
-use Rattle.st_lex.specs.Tokens.{lexed_text}
+use Rattle.st_grammar.proofs.Common.{BinaryPolicy, filters_in, lexed_text, LexFault, Line, MOST_FILTERS, read_step, Reading, Symbol, symbol_of, Token}
 use Rattle.st_grammar.specs.declared.env.Env.{Env}
 use Rattle.st_grammar.specs.declared.fault.PolicyFault.{PolicyFault}
-use Rattle.st_filter.specs.declared.set.BinaryPolicy.{BinaryPolicy}
-use Rattle.st_filter.specs.declared.set.TheConstants.{MOST_FILTERS}
-use Rattle.st_filter.specs.Policies.{filters_in}
-use Rattle.st_grammar.specs.Draft.{Reading, read_step}
 use Rattle.st_first_fault.specs.FirstFault.{symbol_at_end, symbol_here, place_here, symbols_at, GoesOn, IsSpecial, Tells, Specially, Otherwise, IsFirstFault}
-use Rattle.st_grammar.specs.Symbol.{Symbol, Line, symbol_of}
 use Rattle.st_first_fault.proofs.Completions.{Ending, MayEnd, a-line, ends-place}
 use Rattle.st_first_fault.proofs.MayStand.{goes-here}
 use Rattle.st_grammar.proofs.Readings.{Read}

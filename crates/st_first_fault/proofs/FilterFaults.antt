@@ -1,27 +1,15 @@
 -- The first fault of a filter alone is that of a policy in which the filter stands below a header, but behind a filter's row.
 use Rattle.std.proofs.Common.{◌≡◌, ℕ, ◌+◌, ◌≢◌, Bool, true, false, List, [], ◌∷◌, ◌++◌, length, map, codes, Option, None, Some, Ok, Err, if◌then◌else◌, refl, ap, sym, subst, ◌∙◌, arith, append_assoc, append-nil, length-append}
 use Rattle.std.specs.Str.{bytes_eq}
-use Rattle.st_lex.specs.declared.token.LexFault.{LexFault}
-use Rattle.st_lex.specs.declared.token.Lexed.{Lexed}
-use Rattle.st_lex.specs.declared.token.Token.{Token}
-use Rattle.st_lex.specs.Quoted.{fault_after, optional_fault_after}
-use Rattle.st_lex.specs.Tokens.{lexed_text}
+use Rattle.st_grammar.proofs.Common.{add_filter, AreRows, binaries, BinaryPolicy, Broken, Colon, Comma, Draft, draft_after, draft_step, error_in, fault_after, fault_in, filter_in, filter_name, filter_of, FilterName, FilterResult, FilterValue, first_draft, first_reading, GrammarState, Header, is_binary_place, is_line, IsFilter, Lexed, lexed_text, LexFault, lexical, Line, may_test, may_test_label, next, NoRow, optional_fault_after, read_from, read_step, Reading, reading_of, reading_step, set_after, step, step_name, step_to, StepResult, Symbol, symbol_of, Token, unless_lexical, Word}
 use Rattle.st_grammar.specs.declared.env.Env.{Env}
-use Rattle.st_grammar.specs.declared.fault.PolicyFault.{PolicyFault}
-use Rattle.st_grammar.specs.declared.fault.PolicyFault.TheVariants.{Lex, Expected, UnknownCall}
+use Rattle.st_grammar.specs.declared.fault.PolicyFault.TheVariants.{Expected, Lex, UnknownCall}
 use Rattle.st_grammar.specs.declared.place.Place.{Place}
+use Rattle.st_grammar.specs.declared.fault.PolicyFault.{PolicyFault}
 use Rattle.st_grammar.specs.declared.place.Place.TheVariants as place
-use Rattle.st_filter.specs.declared.filter.FilterName.{FilterName}
 use Rattle.st_filter.specs.declared.filter.FilterName.TheVariants as name
-use Rattle.st_filter.specs.declared.set.BinaryPolicy.{BinaryPolicy}
-use Rattle.st_filter.specs.Formula.{FilterValue}
-use Rattle.st_filter.specs.Policies.{add_filter}
-use Rattle.st_grammar.specs.Diagram.{GrammarState, StepResult, next, step, step_to, step_name, first_walk, is_line, binaries, lexical}
-use Rattle.st_grammar.specs.Draft.{Draft, Reading, first_draft, draft_step, draft_after, set_after, filter_of, is_binary_place, reading_step, read_step, read_from, unless_lexical, first_reading, reading_of, error_in, fault_in}
-use Rattle.st_grammar.specs.Grammar.{IsFilter, AreRows, NoRow, Header}
-use Rattle.st_grammar.specs.OneFilter.{FilterResult, behind_filter, if_ended, if_broken, filter_at_end, filter_from, begin_filter, no_filter, filter_of_tokens, filter_in}
-use Rattle.st_grammar.specs.Symbol.{Symbol, Word, Colon, Comma, Line, Broken, symbol_of}
-use Rattle.st_grammar.specs.Words.{filter_name, may_test, may_test_label}
+use Rattle.st_grammar.specs.Diagram.{first_walk}
+use Rattle.st_grammar.specs.OneFilter.{behind_filter, if_ended, if_broken, filter_at_end, filter_from, begin_filter, no_filter, filter_of_tokens}
 use Rattle.st_grammar.proofs.ActionsKept.{denial-tails}
 use Rattle.st_grammar.proofs.Texts.{result_after}
 use Rattle.st_grammar.proofs.FilterRows.{passes-filter}

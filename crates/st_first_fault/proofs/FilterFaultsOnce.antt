@@ -1,13 +1,9 @@
 -- A text that should be one filter has one first fault at most.
 use Rattle.std.proofs.Common.{◌≡◌, ◌≢◌, ℕ, List, [], ◌∷◌, ◌++◌, length, codes, refl, ap, sym, ◌∙◌, arith}
-use Rattle.st_lex.specs.declared.token.Token.{Token}
-use Rattle.st_lex.specs.Tokens.{lexed_text}
+use Rattle.st_grammar.proofs.Common.{FilterValue, IsFilter, lexed_text, Line, symbol_of, Token, Word}
 use Rattle.st_grammar.specs.declared.env.Env.{Env}
 use Rattle.st_grammar.specs.declared.fault.PolicyFault.{PolicyFault}
 use Rattle.st_grammar.specs.declared.fault.PolicyFault.TheVariants.{UnknownCall}
-use Rattle.st_filter.specs.Formula.{FilterValue}
-use Rattle.st_grammar.specs.Grammar.{IsFilter}
-use Rattle.st_grammar.specs.Symbol.{Word, Line, symbol_of}
 use Rattle.st_first_fault.specs.FilterFault.{header, BeginsWith, AreInLine, EndsEarly, IsFirstFilterFault, NoName, Headed, BehindRow, InRow}
 use Rattle.st_first_fault.specs.FirstFault.{plain_fault, symbols_at}
 use Rattle.st_first_fault.proofs.FaultsOnce.{first-once}

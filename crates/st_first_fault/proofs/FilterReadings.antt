@@ -1,24 +1,10 @@
 -- A text that is a filter by the grammar has no fault, and is read as that filter.
 use Rattle.std.proofs.Common.{◌≡◌, ◌≢◌, ℕ, Bool, List, [], ◌∷◌, ◌++◌, length, map, codes, Option, None, Some, Ok, Err, refl, ap, sym, subst, ◌∙◌, arith, append_assoc, append-nil}
 use Rattle.std.proofs.lemmas.List.{map-append}
-use Rattle.st_lex.specs.declared.token.LexFault.{LexFault}
-use Rattle.st_lex.specs.declared.token.Lexed.{Lexed}
-use Rattle.st_lex.specs.declared.token.Token.{Token}
-use Rattle.st_lex.specs.Quoted.{optional_fault_after}
-use Rattle.st_lex.specs.Tokens.{lexed_text}
+use Rattle.st_grammar.proofs.Common.{Action, Always, AreRows, Asks, BinaryPolicy, Blank, Both, Close, CloseBracket, Cmp, Colon, Comma, comparison, Denies, DeniesWith, Either, filter_in, FilterName, FilterResult, FilterRow, FilterValue, First, Formula, Grant, Grants, GrantsAndLogs, Grouped, If, Indexed, IsAction, IsCondition, IsFilter, IsGrant, IsPredicate, IsTail, Level, Lexed, lexed_text, LexFault, Line, Logs, LogsAndGrants, Negated, OfBoth, OfGroup, OfUser, OneConjunction, OneOperand, Open, OpenBracket, optional_fault_after, Permits, Plain, Predicate, Quoted, Reads, Short, Spells, Symbol, symbol_of, symbols_in, Then, Token, Whoever, with_filter, Word}
 use Rattle.st_grammar.specs.declared.env.Env.{Env}
 use Rattle.st_grammar.specs.declared.fault.PolicyFault.{PolicyFault}
-use Rattle.st_filter.specs.declared.filter.Action.{Action}
-use Rattle.st_filter.specs.declared.filter.Cmp.{Cmp}
-use Rattle.st_filter.specs.declared.filter.FilterName.{FilterName}
-use Rattle.st_filter.specs.declared.filter.Grant.{Grant}
-use Rattle.st_filter.specs.declared.filter.Predicate.{Predicate}
-use Rattle.st_filter.specs.declared.set.BinaryPolicy.{BinaryPolicy}
-use Rattle.st_filter.specs.Formula.{Formula, FilterValue, Level}
-use Rattle.st_filter.specs.Policies.{with_filter}
-use Rattle.st_grammar.specs.Grammar.{Spells, Always, First, Indexed, Negated, Grouped, OneOperand, Both, OneConjunction, Either, IsCondition, Short, Then, IsAction, Permits, Denies, DeniesWith, Asks, IsGrant, OfUser, OfBoth, OfGroup, IsTail, Plain, Logs, Grants, GrantsAndLogs, LogsAndGrants, IsPredicate, Whoever, If, IsFilter, comparison, AreRows, Blank, FilterRow, symbols_in, Reads}
-use Rattle.st_grammar.specs.OneFilter.{FilterResult, IsOneRow, ToTheEnd, ToALine, ReadsFilter, filter_in}
-use Rattle.st_grammar.specs.Symbol.{Symbol, Word, Quoted, Colon, Comma, Open, Close, OpenBracket, CloseBracket, Line, symbol_of}
+use Rattle.st_grammar.specs.OneFilter.{IsOneRow, ToTheEnd, ToALine, ReadsFilter}
 use Rattle.st_grammar.proofs.Complete.{reads-once}
 use Rattle.st_grammar.proofs.RowsKept.{fresh_policy}
 use Rattle.st_first_fault.specs.FilterFault.{header, BeginsWith, AreInLine, IsMore, EndsEarly, IsFirstFilterFault, NoName, Headed, BehindRow, InRow}

@@ -1,22 +1,13 @@
 -- The first fault of a text is the one that is told of the first token that doesn't fit.
 use Rattle.std.proofs.Common.{◌≡◌, inl, inr, ℕ, ◌≤◌, false, List, [], ◌∷◌, ◌++◌, length, Option, None, Some, Ok, Err, refl, ap, sym, subst, ◌∙◌, append_assoc, append-nil}
 use Rattle.std.proofs.lemmas.List.{map-append}
-use Rattle.st_lex.specs.declared.token.LexFault.{LexFault}
-use Rattle.st_lex.specs.declared.token.Token.{Token}
-use Rattle.st_lex.specs.Tokens.{lexed_text}
+use Rattle.st_grammar.proofs.Common.{binaries, BinaryPolicy, fault_in, filters_in, first_reading, lexed_text, LexFault, lexical, may_test_label, MOST_FILTERS, next, read_step, Reading, reading_step, StepResult, Symbol, symbol_of, Token, Word}
 use Rattle.st_grammar.specs.declared.env.Env.{Env}
-use Rattle.st_grammar.specs.declared.fault.PolicyFault.{PolicyFault}
 use Rattle.st_grammar.specs.declared.fault.PolicyFault.TheVariants.{Expected, UnknownArgument}
 use Rattle.st_grammar.specs.declared.place.Place.{Place}
+use Rattle.st_grammar.specs.declared.fault.PolicyFault.{PolicyFault}
 use Rattle.st_grammar.specs.declared.place.Place.TheVariants as place
-use Rattle.st_filter.specs.declared.set.BinaryPolicy.{BinaryPolicy}
-use Rattle.st_filter.specs.declared.set.TheConstants.{MOST_FILTERS}
-use Rattle.st_filter.specs.Policies.{filters_in}
-use Rattle.st_grammar.specs.Diagram.{StepResult, lexical, next, binaries}
-use Rattle.st_grammar.specs.Draft.{Reading, reading_step, read_step, first_reading, fault_in}
 use Rattle.st_first_fault.specs.FirstFault.{symbol_here, place_here, fault_by, plain_fault, symbols_at, GoesOn, IsLabelAt, IsSpecial, NoCall, ManyFilters, Twice, NoNative, ManyOpening, ManyJoining, NoLabel, NoIndex, NoRe, Learns, NoError, NoIds, SetsIds, NoUser, Tells, Specially, Otherwise, IsFirstFault}
-use Rattle.st_grammar.specs.Symbol.{Symbol, Word, symbol_of}
-use Rattle.st_grammar.specs.Words.{may_test_label}
 use Rattle.st_grammar.proofs.Complete.{placed}
 use Rattle.st_first_fault.proofs.Completions.{ends-place}
 use Rattle.st_first_fault.proofs.FaultKinds.{Outcome, IsPlain, IsTold, Unlabelled, IndexAsked, outcome-of, judged}

@@ -3,27 +3,15 @@ use Rattle.std.proofs.Common.{◌≡◌, ℕ, ◌+◌, ◌-◌, Bool, true, fals
 use Rattle.std.specs.Str.{bytes_eq}
 use Rattle.std.specs.List.{list_any}
 use Rattle.std.proofs.lemmas.List.{map-append}
-use Rattle.st_base.specs.declared.errno.Errno.{Errno}
-use Rattle.st_lex.specs.declared.token.Token.{Token}
+use Rattle.st_grammar.proofs.Common.{binaries, binary_of, BinaryPolicy, Close, Cmp, Colon, Comma, comparison, Errno, error_named, filter_name, FilterName, first_reading, GrammarState, id_in, index_in, is_action, is_close_bracket, is_colon, is_comma, is_keyword, is_label, is_line, is_quoted, joined, Line, may_test, may_test_label, MOST_FILTERS, most_joins, names_for, next, only, Op, op_named, Open, OpenBracket, read_step, Reading, reading_step, sets_ids, step, step_action, step_as, step_binary, step_comparison, step_denial, step_errno, step_error, step_grant, step_id, step_index, step_indexed, step_joint, step_known, step_label, step_name, step_op, step_operand, step_operator, step_row, step_start, step_system, step_tail, step_to, step_user, step_who, StepResult, Symbol, symbol_of, Token, Who, Word, word_who}
+use Rattle.st_grammar.specs.declared.fault.PolicyFault.TheVariants.{AskWithLearn, DuplicatePolicy, ElevateOnSetId, ElevateWithoutIds, Expected, NotSupported, TooMany, UnknownArgument, UnknownCall, UnknownError, UnknownUser}
 use Rattle.st_grammar.specs.declared.env.Env.{Env}
 use Rattle.st_grammar.specs.declared.env.NamedId.{NamedId}
-use Rattle.st_grammar.specs.declared.fault.PolicyFault.{PolicyFault}
-use Rattle.st_grammar.specs.declared.fault.PolicyFault.TheVariants.{Expected, UnknownCall, UnknownArgument, UnknownError, UnknownUser, DuplicatePolicy, ElevateWithoutIds, ElevateOnSetId, NotSupported, AskWithLearn, TooMany}
-use Rattle.st_grammar.specs.declared.fault.Unsupported.TheVariants as unsupported
 use Rattle.st_grammar.specs.declared.place.Place.{Place}
+use Rattle.st_grammar.specs.declared.fault.PolicyFault.{PolicyFault}
+use Rattle.st_grammar.specs.declared.fault.Unsupported.TheVariants as unsupported
 use Rattle.st_grammar.specs.declared.place.Place.TheVariants as place
-use Rattle.st_filter.specs.declared.filter.Cmp.{Cmp}
-use Rattle.st_filter.specs.declared.filter.FilterName.{FilterName}
-use Rattle.st_filter.specs.declared.filter.Op.{Op}
-use Rattle.st_filter.specs.declared.filter.Who.{Who}
-use Rattle.st_filter.specs.declared.set.BinaryPolicy.{BinaryPolicy}
-use Rattle.st_filter.specs.declared.set.TheConstants.{MOST_FILTERS}
-use Rattle.st_grammar.specs.Diagram.{GrammarState, StepResult, step_to, expected, only, step, joined, step_start, step_name, step_row, step_binary, step_system, step_operand, step_op, step_operator, step_label, step_indexed, step_index, step_joint, step_action, is_action, step_clause, step_as, step_tail, step_denial, step_errno, step_error, step_known, step_id, step_grant, step_user, step_who, step_comparison, word_who, is_colon, is_comma, is_keyword, is_close_bracket, is_quoted, is_line, next, binaries}
-use Rattle.st_grammar.specs.Draft.{Reading, reading_step, read_step, first_reading}
-use Rattle.st_grammar.specs.Grammar.{binary_of, comparison, most_joins}
-use Rattle.st_base.specs.Errno.{error_named}
-use Rattle.st_grammar.specs.Symbol.{Symbol, Word, Colon, Comma, Open, Close, OpenBracket, Line, symbol_of}
-use Rattle.st_grammar.specs.Words.{is_label, filter_name, sets_ids, may_test, may_test_label, op_named, index_in, id_in, names_for}
+use Rattle.st_grammar.specs.Diagram.{expected, step_clause}
 use Rattle.st_grammar.proofs.Complete.{placed, followed-ok}
 use Rattle.st_grammar.proofs.Readings.{Placed, Read, read_over}
 use Rattle.st_first_fault.proofs.WaysOn.{over-parts}

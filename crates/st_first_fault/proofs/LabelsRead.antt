@@ -4,23 +4,15 @@ use Rattle.std.specs.Str.{bytes_eq}
 use Rattle.std.specs.List.{list_any}
 use Rattle.std.proofs.lemmas.List.{map-append}
 use Rattle.std.proofs.lemmas.Bool.{or_parts, or_from}
-use Rattle.st_calls.specs.declared.argument.ArgSpec.{ArgSpec}
-use Rattle.st_calls.specs.Argument.{args_of, name_of_label}
-use Rattle.st_lex.specs.declared.token.Token.{Token}
+use Rattle.st_grammar.proofs.Common.{BinaryPolicy, Colon, Draft, FilterName, filters_in, first_reading, GrammarState, index_in, is_label, may_test, may_test_label, MOST_FILTERS, OpenBracket, read_step, Reading, reading_step, step_indexed, step_operator, StepResult, Symbol, symbol_of, Token, Word}
 use Rattle.st_grammar.specs.declared.env.Env.{Env}
 use Rattle.st_grammar.specs.declared.fault.PolicyFault.TheVariants.{Expected, UnknownArgument}
 use Rattle.st_grammar.specs.declared.place.Place.{Place}
+use Rattle.st_calls.specs.declared.argument.ArgSpec.{ArgSpec}
+use Rattle.st_calls.specs.Argument.{args_of, name_of_label}
 use Rattle.st_grammar.specs.declared.place.Place.TheVariants as place
-use Rattle.st_filter.specs.declared.filter.FilterName.{FilterName}
 use Rattle.st_filter.specs.declared.filter.FilterName.TheVariants as name
-use Rattle.st_filter.specs.declared.set.BinaryPolicy.{BinaryPolicy}
-use Rattle.st_filter.specs.declared.set.TheConstants.{MOST_FILTERS}
-use Rattle.st_filter.specs.Policies.{filters_in}
-use Rattle.st_grammar.specs.Diagram.{GrammarState, StepResult, step_operator, step_indexed}
-use Rattle.st_grammar.specs.Draft.{Draft, Reading, reading_step, read_step, first_reading}
 use Rattle.st_first_fault.specs.FirstFault.{symbols_at}
-use Rattle.st_grammar.specs.Symbol.{Symbol, Word, Colon, OpenBracket, symbol_of}
-use Rattle.st_grammar.specs.Words.{is_label, may_test, may_test_label, index_in}
 use Rattle.st_grammar.proofs.Complete.{AtRows, placed, is_below}
 use Rattle.st_grammar.proofs.FilterRows.{row_place}
 use Rattle.st_grammar.proofs.Fronts.{Facts}

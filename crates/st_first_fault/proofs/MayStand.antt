@@ -1,14 +1,9 @@
 -- What may stand at a place of the grammar.
 use Rattle.std.proofs.Common.{◌≡◌, ℕ, zero, suc, ◌-◌, true, List, [], ◌∷◌, ◌++◌, codes, refl, ap, sym, subst, ◌∙◌, arith, append_assoc, append-nil}
-use Rattle.st_lex.specs.declared.token.Token.{Token}
-use Rattle.st_lex.specs.Tokens.{lexed_text}
+use Rattle.st_grammar.proofs.Common.{BinaryPolicy, Close, Draft, draft_after, GrammarState, lexed_text, Line, OpenBracket, Quoted, Reading, Symbol, symbol_of, Token, Word}
 use Rattle.st_grammar.specs.declared.env.Env.{Env}
 use Rattle.st_grammar.specs.declared.place.Place.TheVariants as place
-use Rattle.st_filter.specs.declared.set.BinaryPolicy.{BinaryPolicy}
-use Rattle.st_grammar.specs.Diagram.{GrammarState}
-use Rattle.st_grammar.specs.Draft.{Draft, Reading, draft_after}
 use Rattle.st_first_fault.specs.FirstFault.{symbols_at, GoesOn, EndsOperand, InParens, Whole, TakesOperand, TakesOperator, TakesAction, TakesId}
-use Rattle.st_grammar.specs.Symbol.{Symbol, Word, Quoted, Close, OpenBracket, Line, symbol_of}
 use Rattle.st_first_fault.proofs.Completions.{Ending, Printed, printed-more, a-word, a-quoted, a-close, an-open_bracket, a-line, line-ends, facts-close, facts-then, facts-true, ends-tail, ends-joint, ends-error}
 use Rattle.st_grammar.proofs.Fronts.{Facts}
 use Rattle.st_grammar.proofs.Sound.{line-keeps, RowEnded}

@@ -1,28 +1,17 @@
 -- What a symbol comes to so many bytes further on: the same, and a fault so many bytes further on.
 use Rattle.std.proofs.Common.{◌≡◌, ℕ, ◌+◌, ◌-◌, Bool, true, false, ◌&&◌, ◌||◌, ◌==◌, nat_lt, List, [], codes, Option, None, Some, Ok, Err, if◌then◌else◌, refl, ap, sym, subst, ◌∙◌, arith}
 use Rattle.std.specs.Str.{bytes_eq}
-use Rattle.st_base.specs.declared.errno.Errno.{Errno}
-use Rattle.st_base.specs.Errno.{error_named}
-use Rattle.st_lex.specs.declared.token.LexFault.{LexFault}
-use Rattle.st_lex.specs.declared.token.LexFault.TheVariants.{BadByte, OpenQuote, BadEscape}
-use Rattle.st_lex.specs.Quoted.{fault_after}
+use Rattle.st_grammar.proofs.Common.{Close, Cmp, Colon, Comma, comparison, Errno, error_named, fault_after, filter_name, FilterName, GrammarState, id_in, index_in, is_action, is_binary_place, is_close_bracket, is_colon, is_comma, is_keyword, is_label, is_line, is_quoted, joined, LexFault, lexical, Line, may_test, may_test_label, MOST_FILTERS, most_joins, names_for, next, only, Op, op_named, Open, OpenBracket, sets_ids, step, step_action, step_as, step_comparison, step_denial, step_errno, step_error, step_grant, step_id, step_index, step_indexed, step_joint, step_known, step_label, step_name, step_op, step_operand, step_operator, step_row, step_start, step_system, step_tail, step_to, step_user, step_who, StepResult, Symbol, Who, Word, word_who}
+use Rattle.st_grammar.specs.declared.fault.PolicyFault.TheVariants.{AskWithLearn, DuplicatePolicy, ElevateOnSetId, ElevateWithoutIds, Expected, Lex, NotSupported, TooMany, UnknownArgument, UnknownCall, UnknownError, UnknownUser}
 use Rattle.st_grammar.specs.declared.env.Env.{Env}
 use Rattle.st_grammar.specs.declared.env.NamedId.{NamedId}
-use Rattle.st_grammar.specs.declared.fault.PolicyFault.{PolicyFault}
-use Rattle.st_grammar.specs.declared.fault.PolicyFault.TheVariants.{Lex, Expected, UnknownCall, UnknownArgument, UnknownError, UnknownUser, DuplicatePolicy, ElevateWithoutIds, ElevateOnSetId, NotSupported, AskWithLearn, TooMany, NoMemory}
-use Rattle.st_grammar.specs.declared.fault.Unsupported.TheVariants as unsupported
 use Rattle.st_grammar.specs.declared.place.Place.{Place}
+use Rattle.st_grammar.specs.declared.fault.PolicyFault.{PolicyFault}
+use Rattle.st_lex.specs.declared.token.LexFault.TheVariants.{BadByte, OpenQuote, BadEscape}
+use Rattle.st_grammar.specs.declared.fault.PolicyFault.TheVariants.{NoMemory}
+use Rattle.st_grammar.specs.declared.fault.Unsupported.TheVariants as unsupported
 use Rattle.st_grammar.specs.declared.place.Place.TheVariants as place
-use Rattle.st_filter.specs.declared.filter.Cmp.{Cmp}
-use Rattle.st_filter.specs.declared.filter.FilterName.{FilterName}
-use Rattle.st_filter.specs.declared.filter.Op.{Op}
-use Rattle.st_filter.specs.declared.filter.Who.{Who}
-use Rattle.st_filter.specs.declared.set.TheConstants.{MOST_FILTERS}
-use Rattle.st_grammar.specs.Diagram.{GrammarState, StepResult, step_to, only, is_colon, is_comma, is_line, is_close_bracket, is_quoted, is_keyword, step_start, step_name, step_row, step_system, joined, step_operand, step_op, step_operator, step_label, step_indexed, step_index, step_joint, step_action, is_action, step_clause, step_as, step_tail, step_denial, step_errno, step_error, step_known, step_id, step_grant, step_user, step_who, word_who, step_comparison, step, next, lexical}
-use Rattle.st_grammar.specs.Draft.{is_binary_place}
-use Rattle.st_grammar.specs.Grammar.{most_joins, comparison}
-use Rattle.st_grammar.specs.Symbol.{Symbol, Word, Colon, Comma, Open, Close, OpenBracket, Line}
-use Rattle.st_grammar.specs.Words.{is_label, filter_name, may_test, may_test_label, sets_ids, op_named, index_in, id_in, names_for}
+use Rattle.st_grammar.specs.Diagram.{step_clause}
 use Rattle.st_first_fault.specs.FilterFault.{moved}
 
 -- ---- a fault that is moved is known

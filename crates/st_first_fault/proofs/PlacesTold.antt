@@ -1,15 +1,10 @@
 -- Places of the grammar, by what may stand there.
 use Rattle.std.proofs.Common.{◌≡◌, ℕ, Bool, true, false, List, [], ◌∷◌, Option, None, Some, Ok, Err, if◌then◌else◌, codes, refl, sym, subst}
+use Rattle.st_grammar.proofs.Common.{BinaryPolicy, Close, Draft, draft_after, GrammarState, id_in, Line, may_test, may_test_label, names_for, OpenBracket, Quoted, read_step, Reading, reading_step, step_known, Symbol, Who, Word}
 use Rattle.st_grammar.specs.declared.env.Env.{Env}
 use Rattle.st_grammar.specs.declared.fault.PolicyFault.TheVariants.{Expected, UnknownArgument}
 use Rattle.st_grammar.specs.declared.place.Place.{Place}
 use Rattle.st_grammar.specs.declared.place.Place.TheVariants as place
-use Rattle.st_filter.specs.declared.filter.Who.{Who}
-use Rattle.st_filter.specs.declared.set.BinaryPolicy.{BinaryPolicy}
-use Rattle.st_grammar.specs.Diagram.{GrammarState, step_known}
-use Rattle.st_grammar.specs.Draft.{Draft, Reading, draft_after, reading_step, read_step}
-use Rattle.st_grammar.specs.Symbol.{Symbol, Word, Quoted, Close, OpenBracket, Line}
-use Rattle.st_grammar.specs.Words.{id_in, may_test, may_test_label, names_for}
 use Rattle.st_grammar.proofs.Expressions.{reading_after}
 use Rattle.st_grammar.proofs.Readings.{Read, read_over, reading_followed, places_of_reading}
 use Rattle.st_grammar.proofs.Sound.{IsFault, fault-test}

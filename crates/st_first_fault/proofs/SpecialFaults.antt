@@ -3,25 +3,14 @@ use Rattle.std.proofs.Common.{◌≡◌, ◌⊎◌, inl, inr, ℕ, ◌+◌, Bool
 use Rattle.std.specs.Str.{bytes_eq}
 use Rattle.std.specs.List.{list_any}
 use Rattle.std.proofs.lemmas.Bool.{or_from}
-use Rattle.st_base.specs.declared.errno.Errno.{Errno}
-use Rattle.st_base.specs.Errno.{error_named}
-use Rattle.st_lex.specs.declared.token.Token.{Token}
+use Rattle.st_grammar.proofs.Common.{binaries, binary_of, BinaryPolicy, Close, Colon, Comma, Draft, Errno, error_named, filter_name, FilterName, filters_in, first_reading, GrammarState, id_in, index_in, is_action, is_label, joined, Line, may_test, MOST_FILTERS, most_joins, names_for, Open, OpenBracket, Quoted, read_step, Reading, reading_step, sets_ids, step_binary, step_errno, step_indexed, step_known, step_name, step_to, StepResult, Symbol, symbol_of, Token, Word}
+use Rattle.st_grammar.specs.declared.fault.PolicyFault.TheVariants.{AskWithLearn, DuplicatePolicy, ElevateOnSetId, ElevateWithoutIds, Expected, NotSupported, TooMany, UnknownArgument, UnknownCall, UnknownError, UnknownUser}
 use Rattle.st_grammar.specs.declared.env.Env.{Env}
-use Rattle.st_grammar.specs.declared.fault.PolicyFault.{PolicyFault}
-use Rattle.st_grammar.specs.declared.fault.PolicyFault.TheVariants.{Expected, UnknownCall, UnknownArgument, UnknownError, UnknownUser, DuplicatePolicy, TooMany, NotSupported, AskWithLearn, ElevateWithoutIds, ElevateOnSetId}
-use Rattle.st_grammar.specs.declared.fault.Unsupported.TheVariants as unsupported
 use Rattle.st_grammar.specs.declared.place.Place.{Place}
+use Rattle.st_grammar.specs.declared.fault.PolicyFault.{PolicyFault}
+use Rattle.st_grammar.specs.declared.fault.Unsupported.TheVariants as unsupported
 use Rattle.st_grammar.specs.declared.place.Place.TheVariants as place
-use Rattle.st_filter.specs.declared.filter.FilterName.{FilterName}
-use Rattle.st_filter.specs.declared.set.BinaryPolicy.{BinaryPolicy}
-use Rattle.st_filter.specs.declared.set.TheConstants.{MOST_FILTERS}
-use Rattle.st_filter.specs.Policies.{filters_in}
-use Rattle.st_grammar.specs.Diagram.{GrammarState, StepResult, is_action, joined, step_to, step_known, step_errno, step_name, step_binary, step_indexed, binaries}
-use Rattle.st_grammar.specs.Draft.{Draft, Reading, reading_step, read_step, first_reading}
 use Rattle.st_first_fault.specs.FirstFault.{symbols_at, GoesOn, AreRead, EndsOperand, InParens, Whole, TakesOperand, TakesAction, BehindPermit, Permitted, Logged, IsLabelAt, IsSpecial, NoCall, ManyFilters, Twice, NoNative, ManyOpening, ManyJoining, NoLabel, NoIndex, NoRe, Learns, NoError, NoIds, SetsIds, NoUser}
-use Rattle.st_grammar.specs.Grammar.{binary_of, most_joins}
-use Rattle.st_grammar.specs.Symbol.{Symbol, Word, Colon, Comma, Open, Close, OpenBracket, Line, Quoted, symbol_of}
-use Rattle.st_grammar.specs.Words.{filter_name, id_in, index_in, is_label, may_test, names_for, sets_ids}
 use Rattle.st_grammar.proofs.Clauses.{clause-operand}
 use Rattle.st_grammar.proofs.Complete.{AtRows, placed, passes-rows, first-rows, below-last, is_below}
 use Rattle.st_first_fault.proofs.Completions.{MayEnd}

@@ -1,22 +1,14 @@
 -- Where a text goes on, and where a reading of it stops.
 use Rattle.std.proofs.Common.{◌≡◌, ℕ, ◌≤◌, List, [], ◌∷◌, ◌++◌, length, take, map, Option, None, Some, Ok, Err, refl, ap, sym, subst, ◌∙◌, append_assoc, append-nil}
 use Rattle.std.proofs.lemmas.List.{map-append}
-use Rattle.st_lex.specs.declared.token.LexFault.{LexFault}
-use Rattle.st_lex.specs.declared.token.Token.{Token}
-use Rattle.st_first_fault.specs.Cuts.{end_of}
-use Rattle.st_lex.specs.Pieces.{Piece, Space, IsReadAs, print, spelled_tokens, piece_tokens}
-use Rattle.st_lex.specs.Tokens.{lexed_text}
-use Rattle.st_first_fault.proofs.Cuts.{cut_is_read}
+use Rattle.st_grammar.proofs.Common.{AreRows, BinaryPolicy, Broken, error_in, fault_in, filters_in, first_reading, lexed_text, LexFault, lexical, Line, MOST_FILTERS, Piece, piece_tokens, print, read_from, read_step, Reading, reading_of, Space, spelled_tokens, Symbol, symbol_of, symbols_in, Token, unless_lexical}
 use Rattle.st_grammar.specs.declared.env.Env.{Env}
 use Rattle.st_grammar.specs.declared.fault.PolicyFault.{PolicyFault}
-use Rattle.st_filter.specs.declared.set.BinaryPolicy.{BinaryPolicy}
-use Rattle.st_filter.specs.declared.set.TheConstants.{MOST_FILTERS}
-use Rattle.st_filter.specs.Policies.{filters_in}
-use Rattle.st_grammar.specs.Diagram.{lexical}
-use Rattle.st_grammar.specs.Draft.{Reading, read_step, read_end, unless_lexical, read_from, first_reading, reading_of, error_in, fault_in}
+use Rattle.st_first_fault.specs.Cuts.{end_of}
+use Rattle.st_lex.specs.Pieces.{IsReadAs}
+use Rattle.st_first_fault.proofs.Cuts.{cut_is_read}
+use Rattle.st_grammar.specs.Draft.{read_end}
 use Rattle.st_first_fault.specs.FirstFault.{symbol_at_end, symbol_here, place_here, symbols_at, GoesOn}
-use Rattle.st_grammar.specs.Grammar.{AreRows, symbols_in}
-use Rattle.st_grammar.specs.Symbol.{Symbol, Line, Broken, symbol_of}
 use Rattle.st_grammar.proofs.Complete.{AtRows, placed, rows-read}
 use Rattle.st_first_fault.proofs.Completions.{Ending, Printed}
 use Rattle.st_grammar.proofs.Texts.{result_after}

@@ -2,23 +2,9 @@
 use Rattle.std.proofs.Common.{◌≡◌, ℕ, Bool, true, false, List, [], ◌∷◌, ◌++◌, Option, None, Some, Ok, Err, if◌then◌else◌, codes, unwrap_or, refl, ap, sym, subst, ◌∙◌, append_assoc, append-nil, arith}
 use Rattle.std.specs.Str.{bytes_eq}
 use Rattle.std.proofs.lemmas.Bool.{or_from}
-use Rattle.st_base.specs.declared.errno.Errno.{Errno}
-use Rattle.st_base.specs.declared.errno.Errno.TheVariants.{EPERM}
-use Rattle.st_base.specs.Errno.{error_named}
-use Rattle.st_grammar.specs.declared.env.Env.{Env}
-use Rattle.st_grammar.specs.declared.fault.PolicyFault.TheVariants.{Expected, AskWithLearn}
-use Rattle.st_filter.specs.declared.filter.Action.{Action}
-use Rattle.st_filter.specs.declared.filter.Action.TheVariants.{Permit, Deny, Ask}
-use Rattle.st_filter.specs.declared.filter.FilterName.{FilterName}
-use Rattle.st_filter.specs.declared.filter.Grant.{Grant}
-use Rattle.st_filter.specs.declared.filter.Predicate.{Predicate}
+use Rattle.st_grammar.proofs.Common.{Action, Ask, Asks, AskWithLearn, BinaryPolicy, CloseBracket, Denies, DeniesWith, Deny, Draft, Env, EPERM, Errno, error_named, Expected, FilterName, first_draft, Formula, GrammarState, Grant, is_action, IsAction, IsTail, Logs, OpenBracket, Permit, Permits, Predicate, read_step, Reading, reading_step, Short, step_errno, StepResult, Symbol, Word}
 use Rattle.st_grammar.specs.declared.place.Place.TheVariants as place
-use Rattle.st_filter.specs.declared.set.BinaryPolicy.{BinaryPolicy}
-use Rattle.st_grammar.specs.Diagram.{GrammarState, StepResult, is_action, step_errno}
-use Rattle.st_grammar.specs.Draft.{Draft, Reading, first_draft, reading_step, read_step}
-use Rattle.st_filter.specs.Formula.{Formula}
-use Rattle.st_grammar.specs.Grammar.{Short, IsAction, Permits, Denies, DeniesWith, Asks, IsTail, Plain as PlainTail, Logs}
-use Rattle.st_grammar.specs.Symbol.{Symbol, Word, OpenBracket, CloseBracket}
+use Rattle.st_grammar.specs.Grammar.{Plain as PlainTail}
 use Rattle.st_grammar.proofs.Readings.{Read, places_of_reading}
 use Rattle.st_grammar.proofs.Expressions.{step-unless}
 use Rattle.st_grammar.proofs.Stacks.{Front}

@@ -1,17 +1,11 @@
 -- What holds between two tokens of a policy's text.
-use Rattle.std.proofs.Common.{◌≡◌, ℕ, ◌<◌, ◌≤◌, Bool, true, List, [], ◌∷◌, ◌++◌, length, take, Ok, subst, ap, ◌∙◌, arith, append_assoc}
+use Rattle.std.proofs.Common.{◌≡◌, ℕ, ◌<◌, ◌≤◌, true, List, [], ◌∷◌, ◌++◌, length, take, Ok, subst, ap, ◌∙◌, arith, append_assoc}
 use Rattle.std.proofs.lemmas.List.{take-append-le, take_all}
-use Rattle.st_grammar.specs.declared.env.Env.{Env}
-use Rattle.st_grammar.specs.declared.place.Place.{Place}
+use Rattle.st_grammar.proofs.Common.{BinaryPolicy, Draft, Env, filters_in, first_reading, GrammarState, MOST_FILTERS, Place, read_step, Reading, Symbol}
 use Rattle.st_grammar.specs.declared.place.Place.TheVariants as place
-use Rattle.st_filter.specs.declared.set.BinaryPolicy.{BinaryPolicy}
-use Rattle.st_filter.specs.Policies.{filters_in}
-use Rattle.st_grammar.specs.Diagram.{GrammarState}
-use Rattle.st_grammar.specs.Draft.{Draft, Reading, read_step, ends_filter, first_reading}
-use Rattle.st_grammar.specs.Symbol.{Symbol}
+use Rattle.st_grammar.specs.Draft.{ends_filter}
 use Rattle.st_grammar.proofs.Fronts.{FilterFront, Facts}
 use Rattle.st_grammar.proofs.Sound.{Stands, StandsAfter, stands-step, first-stands}
-use Rattle.st_filter.specs.declared.set.TheConstants.{MOST_FILTERS}
 
 -- some symbols lead to a reading
 pub record IsReached (env : Env) (old : List BinaryPolicy) (r : Reading) : Type 0 where

@@ -1,12 +1,8 @@
 -- Places that read a symbol as another place does.
 use Rattle.std.proofs.Common.{◌≡◌, ℕ, Bool, true, false, List, Ok, Err, if◌then◌else◌, refl, ap, ◌∙◌}
-use Rattle.st_grammar.specs.declared.env.Env.{Env}
-use Rattle.st_grammar.specs.declared.place.Place.{Place}
+use Rattle.st_grammar.proofs.Common.{BinaryPolicy, Colon, Comma, Draft, Env, GrammarState, is_action, is_colon, Line, Open, OpenBracket, Place, read_step, Reading, reading_step, set_after, step_action, step_operand, step_tail, StepResult, Symbol, Word}
 use Rattle.st_grammar.specs.declared.place.Place.TheVariants as place
-use Rattle.st_filter.specs.declared.set.BinaryPolicy.{BinaryPolicy}
-use Rattle.st_grammar.specs.Diagram.{GrammarState, StepResult, is_action, is_colon, step_action, step_operand, step_tail}
-use Rattle.st_grammar.specs.Draft.{Draft, Reading, draft_action, draft_operand, set_after, reading_step, read_step}
-use Rattle.st_grammar.specs.Symbol.{Symbol, Word, Colon, Comma, Open, OpenBracket, Line}
+use Rattle.st_grammar.specs.Draft.{draft_action, draft_operand}
 use Rattle.st_grammar.proofs.Readings.{places_of_reading}
 use Rattle.st_grammar.proofs.Expressions.{reading_after, step-unless}
 

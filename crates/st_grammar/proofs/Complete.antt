@@ -1,25 +1,13 @@
 -- What the grammar says is read.
 use Rattle.std.proofs.Common.{◌≡◌, ◌↔◌, ℕ, ◌+◌, ◌≤◌, Bool, true, false, List, [], ◌∷◌, ◌++◌, length, map, Option, None, Ok, Err, refl, ap, sym, subst, ◌∙◌, arith, append_assoc, append-nil}
-use Rattle.st_lex.specs.declared.token.LexFault.{LexFault}
-use Rattle.st_lex.specs.declared.token.Token.{Token}
-use Rattle.st_lex.specs.Tokens.{lexed_text}
-use Rattle.st_grammar.specs.declared.env.Env.{Env}
-use Rattle.st_grammar.specs.declared.place.Place.{Place}
+use Rattle.st_grammar.proofs.Common.{add_filter, AreNew, AreRows, BinaryPolicy, Blank, Draft, Env, error_in, fault_in, FilterRow, filters_in, FilterValue, first_reading, GrammarState, has_policy, Header, IsFilter, IsHeader, lexed_text, LexFault, Line, MOST_FILTERS, NoRow, Place, read_from, read_step, Reading, reading_of, Reads, Symbol, symbol_of, symbols_in, Token, with_filter}
 use Rattle.st_grammar.specs.declared.place.Place.TheVariants as place
-use Rattle.st_filter.specs.declared.set.BinaryPolicy.{BinaryPolicy}
-use Rattle.st_grammar.specs.Diagram.{GrammarState}
-use Rattle.st_grammar.specs.Draft.{Draft, Reading, read_step, read_from, first_reading, reading_of, error_in, fault_in}
-use Rattle.st_filter.specs.Policies.{add_filter, with_filter, has_policy, filters_in}
-use Rattle.st_filter.specs.Formula.{FilterValue}
-use Rattle.st_grammar.specs.Grammar.{IsFilter, IsHeader, AreRows, NoRow, Blank, Header, FilterRow, AreNew, symbols_in, Reads}
-use Rattle.st_grammar.specs.Symbol.{Symbol, Line, symbol_of}
 use Rattle.st_grammar.proofs.Texts.{result_after}
 use Rattle.st_grammar.proofs.Readings.{Placed, symbols, read_over, reading_followed, Read, Leads, Passes, passes-none, passes-append, passes-one, passes-more, At, stands}
 use Rattle.st_grammar.proofs.Filters.{HasFilters}
 use Rattle.st_grammar.proofs.FilterRows.{row_place, step-blank, passes-filter, passes-header}
 use Rattle.st_grammar.proofs.RowsKept.{fresh_policy, filters-append}
 use Rattle.st_grammar.proofs.Sound.{add-last, filters-with, reading-is_sound}
-use Rattle.st_filter.specs.declared.set.TheConstants.{MOST_FILTERS}
 
 -- ---- rows
 

@@ -1,21 +1,14 @@
 -- Texts that the definitions read as they should.
 use Rattle.std.proofs.Common.{◌≡◌, ℕ, List, [], ◌∷◌, ◌++◌, None, Some, Option, Result, Ok, Err, true, false, refl, codes}
+use Rattle.st_grammar.proofs.Common.{And, BinaryPolicy, Call, Deny, DuplicatePolicy, ElevateOnSetId, ElevateWithoutIds, Env, fault_in, FilterValue, FsRead, Lex, Not, NotSupported, Or, Permit, PolicyFault, Reading, reading_of, Test, True}
 use Rattle.st_lex.specs.declared.token.LexFault.TheVariants.{OpenQuote}
-use Rattle.st_grammar.specs.declared.env.Env.{Env}
-use Rattle.st_grammar.specs.declared.fault.PolicyFault.TheVariants.{Lex, DuplicatePolicy, NotSupported, ElevateWithoutIds, ElevateOnSetId}
 use Rattle.st_grammar.specs.declared.fault.Unsupported.TheVariants.{Re}
 use Rattle.st_base.specs.declared.errno.Errno.TheVariants.{ENOENT}
 use Rattle.st_calls.specs.declared.call.SysCall.TheVariants.{Bind}
-use Rattle.st_calls.specs.declared.rule.Rule.TheVariants.{Call, FsRead}
-use Rattle.st_filter.specs.declared.filter.Action.TheVariants.{Permit, Deny}
 use Rattle.st_filter.specs.declared.filter.Cmp.TheVariants as cmp
 use Rattle.st_filter.specs.declared.filter.FilterName.TheVariants as name
 use Rattle.st_filter.specs.declared.filter.Op.TheVariants.{Eq}
 use Rattle.st_filter.specs.declared.filter.Who.TheVariants.{User}
-use Rattle.st_filter.specs.Formula.{FilterValue, True, Test, Not, And, Or}
-use Rattle.st_grammar.specs.Draft.{Reading, reading_of, fault_in}
-use Rattle.st_filter.specs.declared.set.BinaryPolicy.{BinaryPolicy}
-use Rattle.st_grammar.specs.declared.fault.PolicyFault.{PolicyFault}
 
 abbrev with_elevate : Env
 with_elevate = record {

@@ -2,22 +2,10 @@
 use Rattle.std.proofs.Common.{◌≡◌, ℕ, ◌+◌, ◌-◌, ◌<◌, ◌≤◌, Bool, true, false, nat_lt, List, [], ◌∷◌, ◌++◌, Option, None, Some, Ok, Err, if◌then◌else◌, codes, sum_by, unwrap_or, refl, ap, subst, ◌∙◌, arith}
 use Rattle.std.specs.Str.{bytes_eq}
 use Rattle.std.proofs.lemmas.Bool.{lt-ltb}
-use Rattle.st_grammar.specs.declared.env.Env.{Env}
-use Rattle.st_grammar.specs.declared.fault.PolicyFault.TheVariants.{Expected, UnknownArgument, TooMany}
-use Rattle.st_filter.specs.declared.filter.Grant.{Grant}
-use Rattle.st_filter.specs.declared.filter.Predicate.{Predicate}
-use Rattle.st_filter.specs.declared.filter.FilterName.{FilterName}
-use Rattle.st_filter.specs.declared.filter.Op.{Op}
+use Rattle.st_grammar.proofs.Common.{Always, And, BinaryPolicy, Both, Close, close_either, close_group, CloseBracket, Conjunction, Disjunction, Draft, draft_after, draft_step, Either, Env, Expected, FilterName, First, Formula, GrammarState, Grant, Grouped, index_in, Indexed, is_join, is_label, joined, Level, may_test, most_joins, Negated, OneConjunction, OneOperand, Op, op_named, Open, OpenBracket, Operand, PendingOperand, Predicate, Quoted, Reading, reading_step, Reduced, set_after, settle, Spells, step_indexed, step_op, StepResult, Symbol, Test, TooMany, True, UnknownArgument, unquoted, Word}
 use Rattle.st_grammar.specs.declared.place.Place.TheVariants as place
-use Rattle.st_filter.specs.declared.set.BinaryPolicy.{BinaryPolicy}
-use Rattle.st_lex.specs.Unquote.{unquoted}
-use Rattle.st_grammar.specs.Diagram.{GrammarState, StepResult, joined, step_op, step_indexed}
-use Rattle.st_grammar.specs.Draft.{Draft, Reading, Reduced, reduced, PendingOperand, Negation, Group, settle, close_either, close_group, joins_both, joins_either, reading_step, draft_step, draft_after, set_after}
+use Rattle.st_grammar.specs.Draft.{reduced, Negation, Group, joins_both, joins_either}
 use Rattle.st_grammar.specs.Draft as draft
-use Rattle.st_filter.specs.Formula.{Formula, True, Test, And, Level, Operand, Conjunction, Disjunction}
-use Rattle.st_grammar.specs.Grammar.{Spells, Always, First, Indexed, Negated, Grouped, OneOperand, Both, OneConjunction, Either, is_join, most_joins}
-use Rattle.st_grammar.specs.Symbol.{Symbol, Word, Quoted, Open, Close, OpenBracket, CloseBracket}
-use Rattle.st_grammar.specs.Words.{is_label, may_test, op_named, index_in}
 use Rattle.st_grammar.proofs.Keywords.{IsOther, label-other, joins-label, joins-op, joins-index, joins-append, joins-first}
 use Rattle.st_grammar.proofs.Readings.{Step1, Passes, passes-append, passes-one, passes-step, passes-more, places_of_reading, At, stands}
 

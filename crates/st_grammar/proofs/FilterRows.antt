@@ -3,19 +3,8 @@ use Rattle.std.proofs.Common.{◌≡◌, ℕ, ◌+◌, ◌<◌, ◌≤◌, Bool,
 use Rattle.std.specs.Str.{bytes_eq}
 use Rattle.std.specs.List.{list_any}
 use Rattle.std.proofs.lemmas.Bool.{eq-eqb, lt-ltb, or_from}
-use Rattle.st_grammar.specs.declared.env.Env.{Env}
-use Rattle.st_grammar.specs.declared.fault.PolicyFault.TheVariants.{Expected, DuplicatePolicy, TooMany}
-use Rattle.st_filter.specs.declared.filter.FilterName.{FilterName}
-use Rattle.st_grammar.specs.declared.place.Place.{Place}
+use Rattle.st_grammar.proofs.Common.{add_filter, Always, binaries, binary_of, BinaryPolicy, Both, Close, close_either, CloseBracket, Colon, Comma, Draft, DuplicatePolicy, Either, Env, Expected, filter_name, FilterName, FilterValue, First, first_draft, Formula, GrammarState, Grouped, has_policy, Indexed, is_action, is_join, is_label, IsCondition, IsFilter, IsHeader, Level, Line, MOST_FILTERS, most_joins, Negated, new_policy, OneConjunction, OneOperand, Open, OpenBracket, Place, Quoted, Reading, reading_step, Reduced, Short, Spells, step_binary, step_name, Symbol, Then, TooMany, True, Word}
 use Rattle.st_grammar.specs.declared.place.Place.TheVariants as place
-use Rattle.st_filter.specs.declared.set.BinaryPolicy.{BinaryPolicy}
-use Rattle.st_grammar.specs.Diagram.{GrammarState, is_action, binaries, step_name, step_binary}
-use Rattle.st_grammar.specs.Draft.{Draft, Reading, Reduced, first_draft, close_either, new_policy, reading_step}
-use Rattle.st_filter.specs.Policies.{add_filter, has_policy}
-use Rattle.st_filter.specs.Formula.{Formula, True, FilterValue, Level}
-use Rattle.st_grammar.specs.Grammar.{Spells, Always, First, Indexed, Negated, Grouped, OneOperand, Both, OneConjunction, Either, IsCondition, Short, Then, IsFilter, IsHeader, binary_of, is_join, most_joins}
-use Rattle.st_grammar.specs.Symbol.{Symbol, Word, Quoted, Colon, Comma, Open, Close, OpenBracket, CloseBracket, Line}
-use Rattle.st_grammar.specs.Words.{is_label, filter_name}
 use Rattle.st_grammar.proofs.Keywords.{IsOther, label-other, not-keyword}
 use Rattle.st_grammar.proofs.Readings.{Step1, Passes, passes-append, passes-one, passes-step, places_of_reading, At, stands}
 use Rattle.st_grammar.proofs.Expressions.{step-if, step-unless, Kept, IsFresh, AtOperand, AtEnd, ends, Outermost, passes-expression}
@@ -23,7 +12,6 @@ use Rattle.st_grammar.proofs.Clauses.{clause-operand}
 use Rattle.st_grammar.proofs.Filters.{steady, Alike, passes-alike, HasFilters, AtAdded}
 use Rattle.st_grammar.proofs.FilterTails.{AtAction, passes-action}
 use Rattle.st_grammar.proofs.RowsKept.{any-binaries, fresh_policy}
-use Rattle.st_filter.specs.declared.set.TheConstants.{MOST_FILTERS}
 
 -- ---- conditions
 

@@ -1,23 +1,8 @@
 -- What spells an action, and what follows it, is read so.
 use Rattle.std.proofs.Common.{◌≡◌, ℕ, Bool, true, false, List, [], ◌∷◌, ◌++◌, Option, None, Some, option_map, Ok, Err, if◌then◌else◌, codes, unwrap_or, refl, ap, sym, subst, ◌∙◌, append_assoc}
-use Rattle.st_base.specs.declared.errno.Errno.{Errno}
-use Rattle.st_base.specs.declared.errno.Errno.TheVariants.{EPERM}
-use Rattle.st_base.specs.Errno.{error_named}
-use Rattle.st_grammar.specs.declared.env.Env.{Env}
-use Rattle.st_grammar.specs.declared.fault.PolicyFault.TheVariants.{ElevateWithoutIds, ElevateOnSetId, AskWithLearn}
-use Rattle.st_filter.specs.declared.filter.Action.{Action}
-use Rattle.st_filter.specs.declared.filter.Action.TheVariants.{Permit, Deny, Ask}
-use Rattle.st_filter.specs.declared.filter.FilterName.{FilterName}
-use Rattle.st_filter.specs.declared.filter.Grant.{Grant}
-use Rattle.st_filter.specs.declared.filter.Predicate.{Predicate}
-use Rattle.st_grammar.specs.declared.place.Place.{Place}
+use Rattle.st_grammar.proofs.Common.{Action, Ask, Asks, AskWithLearn, CloseBracket, Colon, Comma, Denies, DeniesWith, Deny, Draft, ElevateOnSetId, ElevateWithoutIds, Env, EPERM, Errno, error_named, FilterName, Formula, GrammarState, Grant, Grants, GrantsAndLogs, id_in, If, is_colon, IsAction, IsGrant, IsPredicate, IsTail, Line, Logs, LogsAndGrants, MayGrant, OfBoth, OfGroup, OfUser, OpenBracket, Permit, Permits, Place, Plain, Predicate, Reading, reading_step, sets_ids, step_errno, step_known, StepResult, Symbol, Whoever, Word}
 use Rattle.st_grammar.specs.declared.place.Place.TheVariants as place
-use Rattle.st_grammar.specs.Diagram.{GrammarState, StepResult, is_colon, step_errno, step_known}
-use Rattle.st_grammar.specs.Draft.{Draft, Reading, with_group, reading_step}
-use Rattle.st_filter.specs.Formula.{Formula}
-use Rattle.st_grammar.specs.Grammar.{IsAction, Permits, Denies, DeniesWith, Asks, IsGrant, OfUser, OfBoth, OfGroup, MayGrant, IsTail, Plain, Logs, Grants, GrantsAndLogs, LogsAndGrants, IsPredicate, Whoever, If}
-use Rattle.st_grammar.specs.Symbol.{Symbol, Word, Colon, Comma, OpenBracket, CloseBracket, Line}
-use Rattle.st_grammar.specs.Words.{sets_ids, id_in}
+use Rattle.st_grammar.specs.Draft.{with_group}
 use Rattle.st_grammar.proofs.Readings.{Step1, Passes, passes-step, places_of_reading, At, stands}
 use Rattle.st_grammar.proofs.Expressions.{step-if, step-unless, Kept, IsFresh}
 use Rattle.st_grammar.proofs.Clauses.{user-tail, denial-tail, is_open_bracket}

@@ -1,23 +1,9 @@
 -- What spells a filter is read as that filter.
 use Rattle.std.proofs.Common.{◌≡◌, ℕ, Bool, List, [], ◌∷◌, ◌++◌, Option, None, Some, option_map, Ok, codes, refl, ap, sym, ◌∙◌}
-use Rattle.st_grammar.specs.declared.env.Env.{Env}
-use Rattle.st_filter.specs.declared.filter.Action.{Action}
-use Rattle.st_filter.specs.declared.filter.Cmp.{Cmp}
+use Rattle.st_grammar.proofs.Common.{Action, add_filter, BinaryPolicy, Cmp, Comma, comparison, Draft, Env, Equal, filter_of, FilterName, FilterValue, first_draft, Formula, GrammarState, Grant, id_in, If, IsPredicate, Line, names_for, Place, Predicate, read_step, Reading, reading_step, step_known, step_who, Symbol, Who, who_named, Whoever, Word}
 use Rattle.st_filter.specs.declared.filter.Cmp.TheVariants as cmp
-use Rattle.st_filter.specs.declared.filter.FilterName.{FilterName}
-use Rattle.st_filter.specs.declared.filter.Grant.{Grant}
-use Rattle.st_filter.specs.declared.filter.Predicate.{Predicate}
-use Rattle.st_filter.specs.declared.filter.Who.{Who}
-use Rattle.st_grammar.specs.declared.place.Place.{Place}
 use Rattle.st_grammar.specs.declared.place.Place.TheVariants as place
-use Rattle.st_filter.specs.declared.set.BinaryPolicy.{BinaryPolicy}
-use Rattle.st_grammar.specs.Diagram.{GrammarState, step_known, step_who}
-use Rattle.st_grammar.specs.Draft.{Draft, Reading, filter_of, first_draft, reading_step, read_step}
-use Rattle.st_filter.specs.Policies.{add_filter}
-use Rattle.st_filter.specs.Formula.{Formula, FilterValue}
-use Rattle.st_grammar.specs.Grammar.{IsPredicate, Whoever, If, who_named, comparison}
-use Rattle.st_grammar.specs.Symbol.{Symbol, Word, Comma, Equal, NotEqual, Less, Greater, Line}
-use Rattle.st_grammar.specs.Words.{id_in, names_for}
+use Rattle.st_grammar.specs.Symbol.{NotEqual, Less, Greater}
 use Rattle.st_grammar.proofs.Readings.{Placed, symbols, read_over, reading_followed, Steps, Step1, Leads, Passes, passes-one, passes-step, places_of_reading, At, stands}
 use Rattle.st_grammar.proofs.Expressions.{Kept}
 

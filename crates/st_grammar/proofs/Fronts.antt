@@ -1,33 +1,11 @@
 -- What has been spelled at each place of the grammar.
 use Rattle.std.proofs.Common.{◌≡◌, ℕ, ◌+◌, ◌≤◌, Bool, true, false, not, List, [], ◌∷◌, ◌++◌, Option, None, Some, Ok, Err, if◌then◌else◌, codes, sum_by, refl, ap, sym, subst}
 use Rattle.std.specs.Str.{bytes_eq}
-use Rattle.st_base.specs.declared.errno.Errno.{Errno}
-use Rattle.st_base.specs.declared.errno.Errno.TheVariants.{EPERM}
-use Rattle.st_base.specs.Errno.{error_named}
-use Rattle.st_lex.specs.Unquote.{unquoted}
-use Rattle.st_grammar.specs.declared.env.Env.{Env}
-use Rattle.st_filter.specs.declared.filter.Action.{Action}
-use Rattle.st_filter.specs.declared.filter.Action.TheVariants.{Permit, Deny}
-use Rattle.st_filter.specs.declared.filter.Cmp.{Cmp}
-use Rattle.st_filter.specs.declared.filter.FilterName.{FilterName}
-use Rattle.st_filter.specs.declared.filter.Grant.{Grant}
-use Rattle.st_filter.specs.declared.filter.Op.{Op}
-use Rattle.st_filter.specs.declared.filter.Predicate.{Predicate}
-use Rattle.st_filter.specs.declared.filter.Who.{Who}
-use Rattle.st_grammar.specs.declared.place.Place.{Place}
+use Rattle.st_grammar.proofs.Common.{Action, AreNew, AreRows, binary_of, BinaryPolicy, Cmp, Colon, Comma, comparison, Deny, Draft, Env, EPERM, Errno, error_named, filter_name, FilterName, filters_in, first_draft, Formula, GrammarState, Grant, id_in, index_in, is_join, is_label, IsAction, IsCondition, IsGrant, IsPredicate, IsTail, may_test, MayGrant, MOST_FILTERS, most_joins, Op, op_named, OpenBracket, Operand, PendingOperand, Permit, Place, Predicate, Quoted, Reading, reading_step, Reduced, Spells, StepResult, Symbol, Test, unquoted, Who, who_named, Word}
 use Rattle.st_grammar.specs.declared.place.Place.TheVariants as place
-use Rattle.st_filter.specs.declared.set.BinaryPolicy.{BinaryPolicy}
-use Rattle.st_grammar.specs.Diagram.{GrammarState, StepResult}
-use Rattle.st_grammar.specs.Draft.{Draft, Reading, Reduced, PendingOperand, first_draft, reading_step}
-use Rattle.st_filter.specs.Formula.{Formula, Test, Operand}
-use Rattle.st_grammar.specs.Grammar.{Spells, IsCondition, IsAction, IsGrant, MayGrant, IsTail, IsPredicate, AreRows, AreNew, who_named, comparison, binary_of, is_join, most_joins}
-use Rattle.st_filter.specs.Policies.{filters_in}
-use Rattle.st_grammar.specs.Symbol.{Symbol, Word, Quoted, Colon, Comma, OpenBracket}
-use Rattle.st_grammar.specs.Words.{is_label, filter_name, may_test, op_named, index_in, id_in}
 use Rattle.st_grammar.proofs.Keywords.{same-word}
 use Rattle.st_grammar.proofs.Readings.{Read}
 use Rattle.st_grammar.proofs.Stacks.{Opens, Ends, groups}
-use Rattle.st_filter.specs.declared.set.TheConstants.{MOST_FILTERS}
 
 -- ---- rows and headers
 

@@ -2,15 +2,9 @@
 use Rattle.std.proofs.Common.{◌≡◌, ℕ, ◌+◌, ◌-◌, ◌<◌, ◌≤◌, false, ◌||◌, ◌&&◌, ◌==◌, nat_lt, List, [], ◌∷◌, ◌++◌, Ok, Err, if◌then◌else◌, codes, sum_by, sym, subst, ◌∙◌, arith, append-nil}
 use Rattle.std.specs.Str.{bytes_eq}
 use Rattle.std.proofs.lemmas.Bool.{ltb-true, eqb-true, or_from, and_left}
-use Rattle.st_grammar.specs.declared.env.Env.{Env}
-use Rattle.st_grammar.specs.declared.fault.PolicyFault.TheVariants.{Expected}
+use Rattle.st_grammar.proofs.Common.{BinaryPolicy, Close, close_either, close_group, Draft, Env, Expected, GrammarState, is_join, joined, most_joins, read_step, Reading, Reduced, StepResult, Symbol, Then, Word}
 use Rattle.st_grammar.specs.declared.place.Place.TheVariants as place
-use Rattle.st_filter.specs.declared.set.BinaryPolicy.{BinaryPolicy}
-use Rattle.st_grammar.specs.Diagram.{GrammarState, StepResult, joined}
-use Rattle.st_grammar.specs.Draft.{Draft, Reading, Reduced, close_either, close_group, read_step}
 use Rattle.st_grammar.specs.Draft as draft
-use Rattle.st_grammar.specs.Grammar.{Then, is_join, most_joins}
-use Rattle.st_grammar.specs.Symbol.{Symbol, Word, Close}
 use Rattle.st_grammar.proofs.Readings.{Read, places_of_reading}
 use Rattle.st_grammar.proofs.Expressions.{step-unless}
 use Rattle.st_grammar.proofs.Stacks.{Opens, Joins, Chooses, Ends, EndsWhole, close-ends, groups, groups-close, close-closed, whole-spelled}

@@ -5,10 +5,8 @@ use Rattle.std.specs.List.{list_any}
 use Rattle.std.proofs.lemmas.Slice.Eq.{bytes_eq-Decides}
 use Rattle.std.proofs.lemmas.Bool.{false_from_ne_true, or_parts, not-true}
 use Rattle.std.proofs.lemmas.List.Sums.{sum_by-append}
-use Rattle.st_filter.specs.declared.filter.Op.{Op}
-use Rattle.st_grammar.specs.Grammar.{is_join}
-use Rattle.st_grammar.specs.Symbol.{Symbol, Word}
-use Rattle.st_grammar.specs.Words.{is_label, reserved_words, op_named, index_in}
+use Rattle.st_grammar.proofs.Common.{index_in, is_join, is_label, Op, op_named, Symbol, Word}
+use Rattle.st_grammar.specs.Words.{reserved_words}
 
 pub same-word : (a b : List ℕ) → bytes_eq a b ≡ true → a ≡ b
 same-word a b e = (bytes_eq-Decides a b).0 e

@@ -1,6 +1,7 @@
 pub mod ActionsKept
 pub mod Between
 pub mod Clauses
+pub mod Common
 pub mod Complete
 pub mod Examples
 pub mod Expressions

@@ -1,15 +1,9 @@
 -- What a Line leaves as it is.
 use Rattle.std.proofs.Common.{◌≡◌, ℕ, Bool, true, false, List, Ok, Err, if◌then◌else◌, refl, ap, sym, ◌∙◌}
-use Rattle.st_grammar.specs.declared.env.Env.{Env}
-use Rattle.st_grammar.specs.declared.fault.PolicyFault.{PolicyFault}
-use Rattle.st_grammar.specs.declared.place.Place.{Place}
+use Rattle.st_grammar.proofs.Common.{BinaryPolicy, Draft, draft_step, Env, GrammarState, is_line, Line, may_test, may_test_label, next, Place, PolicyFault, read_step, step, step_to, Symbol}
 use Rattle.st_grammar.specs.declared.place.Place.TheVariants as place
-use Rattle.st_grammar.specs.Diagram.{GrammarState, is_line, step_to, step, next}
-use Rattle.st_grammar.specs.Draft.{Draft, draft_step, is_between_rows, as_reading, read_step}
-use Rattle.st_filter.specs.declared.set.BinaryPolicy.{BinaryPolicy}
+use Rattle.st_grammar.specs.Draft.{is_between_rows, as_reading}
 use Rattle.st_grammar.proofs.Readings.{places_of_reading}
-use Rattle.st_grammar.specs.Words.{may_test, may_test_label}
-use Rattle.st_grammar.specs.Symbol.{Symbol, Line}
 
 -- behind a Line the filter's name is as before, and the Line adds nothing to the draft
 pub record LineLeaves (env : Env) (w after : GrammarState) (d : Draft) (p : Place) : Type 0 where

@@ -1,22 +1,10 @@
 -- One filter alone is read as in a file, behind a header.
 use Rattle.std.proofs.Common.{◌≡◌, ℕ, Bool, true, false, ◌&&◌, if◌then◌else◌, List, [], ◌∷◌, ◌++◌, length, map, Option, None, Some, Ok, Err, codes, refl, ap, sym, subst, ◌∙◌, arith, append_assoc, append-nil}
-use Rattle.st_filter.specs.Formula.{FilterValue}
-use Rattle.st_filter.specs.Policies.{add_filter}
-use Rattle.st_filter.specs.declared.filter.FilterName.{FilterName}
-use Rattle.st_filter.specs.declared.set.BinaryPolicy.{BinaryPolicy}
-use Rattle.st_grammar.specs.declared.env.Env.{Env}
-use Rattle.st_grammar.specs.declared.place.Place.{Place}
+use Rattle.st_grammar.proofs.Common.{add_filter, binaries, BinaryPolicy, Broken, Colon, Comma, Draft, draft_after, draft_step, Env, filter_in, filter_name, filter_of, FilterName, FilterResult, FilterValue, first_draft, GrammarState, Header, is_binary_place, is_line, IsFilter, lexed_text, LexFault, Line, may_test, may_test_label, next, NoRow, Place, PolicyFault, read_step, reading_step, set_after, step, step_name, StepResult, Symbol, symbol_of, Token, Word}
 use Rattle.st_grammar.specs.declared.place.Place.TheVariants as place
-use Rattle.st_lex.specs.Tokens.{lexed_text}
-use Rattle.st_grammar.specs.declared.fault.PolicyFault.{PolicyFault}
-use Rattle.st_grammar.specs.Diagram.{GrammarState, StepResult, next, step, step_name, first_walk, is_line, binaries}
-use Rattle.st_grammar.specs.Draft.{Draft, first_draft, draft_step, draft_after, filter_of, ends_filter, is_binary_place, reading_step, read_step, set_after}
-use Rattle.st_grammar.specs.Grammar.{IsFilter, NoRow, Header}
-use Rattle.st_lex.specs.declared.token.LexFault.{LexFault}
-use Rattle.st_lex.specs.declared.token.Token.{Token}
-use Rattle.st_grammar.specs.OneFilter.{FilterResult, IsOneRow, ReadsFilter, ToALine, ToTheEnd, behind_filter, filter_from, filter_in, begin_filter, filter_at_end, filter_of_tokens, if_broken, if_ended}
-use Rattle.st_grammar.specs.Symbol.{Symbol, Word, Colon, Comma, Line, Broken, symbol_of}
-use Rattle.st_grammar.specs.Words.{filter_name, may_test, may_test_label}
+use Rattle.st_grammar.specs.Diagram.{first_walk}
+use Rattle.st_grammar.specs.Draft.{ends_filter}
+use Rattle.st_grammar.specs.OneFilter.{IsOneRow, ReadsFilter, ToALine, ToTheEnd, behind_filter, filter_from, begin_filter, filter_at_end, filter_of_tokens, if_broken, if_ended}
 use Rattle.st_grammar.proofs.ActionsKept.{denial-tails}
 use Rattle.st_grammar.proofs.PredicatesKept.{predicate-filter, tail-filter}
 use Rattle.st_grammar.proofs.TailsKept.{user-tails}

@@ -2,20 +2,9 @@
 use Rattle.std.proofs.Common.{◌≡◌, ℕ, ◌+◌, ◌<◌, ◌≤◌, Bool, true, false, nat_lt, List, [], ◌∷◌, ◌++◌, Option, None, Some, Ok, Err, if◌then◌else◌, codes, sum_by, unwrap_or, refl, ap, sym, subst, ◌∙◌, arith, append_assoc}
 use Rattle.std.specs.Str.{bytes_eq}
 use Rattle.std.proofs.lemmas.Bool.{ltb-true}
-use Rattle.st_lex.specs.Unquote.{unquoted}
-use Rattle.st_grammar.specs.declared.env.Env.{Env}
-use Rattle.st_grammar.specs.declared.fault.PolicyFault.TheVariants.{Expected, UnknownArgument, TooMany, NotSupported}
+use Rattle.st_grammar.proofs.Common.{Always, BinaryPolicy, CloseBracket, Draft, draft_step, Env, Expected, First, Formula, GrammarState, index_in, Indexed, is_join, is_label, joined, may_test, may_test_label, most_joins, NotSupported, Op, op_named, Open, OpenBracket, Operand, PendingOperand, Place, Quoted, read_step, Reading, reading_step, settle, Spells, step_indexed, step_op, Symbol, Test, TooMany, True, UnknownArgument, unquoted, Word}
 use Rattle.st_grammar.specs.declared.fault.Unsupported.TheVariants as unsupported
-use Rattle.st_filter.specs.declared.filter.Op.{Op}
-use Rattle.st_grammar.specs.declared.place.Place.{Place}
 use Rattle.st_grammar.specs.declared.place.Place.TheVariants as place
-use Rattle.st_filter.specs.declared.set.BinaryPolicy.{BinaryPolicy}
-use Rattle.st_grammar.specs.Diagram.{GrammarState, joined, step_op, step_indexed}
-use Rattle.st_grammar.specs.Draft.{Draft, Reading, PendingOperand, settle, reading_step, read_step, draft_step}
-use Rattle.st_filter.specs.Formula.{Formula, True, Test, Operand}
-use Rattle.st_grammar.specs.Grammar.{Spells, Always, First, Indexed, is_join, most_joins}
-use Rattle.st_grammar.specs.Symbol.{Symbol, Word, Quoted, Open, OpenBracket, CloseBracket}
-use Rattle.st_grammar.specs.Words.{is_label, may_test, may_test_label, op_named, index_in}
 use Rattle.st_grammar.proofs.Keywords.{joins-label, joins-op, joins-index, joins-append, joins-first}
 use Rattle.st_grammar.proofs.Readings.{Read, places_of_reading}
 use Rattle.st_grammar.proofs.Expressions.{reading_after, step-unless}

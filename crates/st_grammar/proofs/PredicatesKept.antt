@@ -1,22 +1,10 @@
 -- A symbol of a filter's predicate that may stand where it stands spells more of the filter.
 use Rattle.std.proofs.Common.{◌≡◌, ℕ, Bool, false, List, [], ◌∷◌, ◌++◌, Option, Some, option_map, Ok, Err, if◌then◌else◌, codes, refl, ap, sym, subst, ◌∙◌, append_assoc, append-nil}
 use Rattle.std.specs.Str.{bytes_eq}
-use Rattle.st_grammar.specs.declared.env.Env.{Env}
-use Rattle.st_grammar.specs.declared.fault.PolicyFault.TheVariants.{Expected}
-use Rattle.st_filter.specs.declared.filter.Action.{Action}
-use Rattle.st_filter.specs.declared.filter.Cmp.{Cmp}
+use Rattle.st_grammar.proofs.Common.{Action, BinaryPolicy, Cmp, Colon, Comma, comparison, Draft, Env, Equal, Expected, filter_of, FilterName, GrammarState, Grant, id_in, If, is_line, IsFilter, IsPredicate, Line, names_for, Predicate, read_step, reading_step, step_known, step_who, Symbol, Who, who_named, Whoever, Word}
 use Rattle.st_filter.specs.declared.filter.Cmp.TheVariants as cmp
-use Rattle.st_filter.specs.declared.filter.FilterName.{FilterName}
-use Rattle.st_filter.specs.declared.filter.Grant.{Grant}
-use Rattle.st_filter.specs.declared.filter.Predicate.{Predicate}
-use Rattle.st_filter.specs.declared.filter.Who.{Who}
 use Rattle.st_grammar.specs.declared.place.Place.TheVariants as place
-use Rattle.st_filter.specs.declared.set.BinaryPolicy.{BinaryPolicy}
-use Rattle.st_grammar.specs.Diagram.{GrammarState, is_line, step_who, step_known}
-use Rattle.st_grammar.specs.Draft.{Draft, reading_step, read_step, filter_of}
-use Rattle.st_grammar.specs.Grammar.{IsPredicate, Whoever, If, IsFilter, who_named, comparison}
-use Rattle.st_grammar.specs.Symbol.{Symbol, Word, Colon, Comma, Equal, NotEqual, Less, Greater, Line}
-use Rattle.st_grammar.specs.Words.{id_in, names_for}
+use Rattle.st_grammar.specs.Symbol.{NotEqual, Less, Greater}
 use Rattle.st_grammar.proofs.Readings.{Read, places_of_reading}
 use Rattle.st_grammar.proofs.Fronts.{Filtered, ActedFront, Tailed, PredicateFront, TailFront, WhoFront, ComparedFront, Facts, HasFacts, by-word, filter-more}
 use Rattle.st_grammar.proofs.ActionsKept.{by-some}

@@ -1,12 +1,6 @@
 -- Readings of placed symbols, joined end to end.
 use Rattle.std.proofs.Common.{◌≡◌, ℕ, List, [], ◌∷◌, ◌++◌, map, Result, Ok, Err, refl, ap, ◌∙◌}
-use Rattle.st_grammar.specs.declared.env.Env.{Env}
-use Rattle.st_grammar.specs.declared.fault.PolicyFault.{PolicyFault}
-use Rattle.st_grammar.specs.declared.place.Place.{Place}
-use Rattle.st_filter.specs.declared.set.BinaryPolicy.{BinaryPolicy}
-use Rattle.st_grammar.specs.Diagram.{GrammarState}
-use Rattle.st_grammar.specs.Draft.{Draft, Reading, read_step}
-use Rattle.st_grammar.specs.Symbol.{Symbol}
+use Rattle.st_grammar.proofs.Common.{BinaryPolicy, Draft, Env, GrammarState, Place, PolicyFault, read_step, Reading, Symbol}
 
 -- a symbol, and where it stands
 pub record Placed : Type 0 where

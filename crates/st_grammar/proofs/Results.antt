@@ -1,16 +1,10 @@
 -- What the grammar says of a text that was read, and of its first fault.
 use Rattle.std.proofs.Common.{◌≡◌, ℕ, ◌≤◌, List, Some, option_map, Result, Ok, Err, refl, ap, subst, ◌∙◌}
-use Rattle.st_grammar.specs.declared.env.Env.{Env}
-use Rattle.st_grammar.specs.declared.fault.PolicyFault.{PolicyFault}
-use Rattle.st_filter.specs.declared.set.BinaryPolicy.{BinaryPolicy}
-use Rattle.st_grammar.specs.Draft.{Reading, reading_of, error_in, fault_in, set_of, policies_in}
-use Rattle.st_grammar.specs.Grammar.{Reads}
+use Rattle.st_grammar.proofs.Common.{BinaryPolicy, Env, error_in, fault_in, filters_in, MOST_FILTERS, Place, PolicyFault, Reading, reading_of, Reads}
+use Rattle.st_grammar.specs.Draft.{set_of, policies_in}
 use Rattle.st_grammar.specs.Refusals.{place_in, refusal_in}
 use Rattle.st_grammar.specs.declared.fault.PolicyRefusal.{PolicyRefusal}
-use Rattle.st_grammar.specs.declared.place.Place.{Place}
-use Rattle.st_filter.specs.Policies.{filters_in}
 use Rattle.st_grammar.proofs.Sound.{reading-is_sound}
-use Rattle.st_filter.specs.declared.set.TheConstants.{MOST_FILTERS}
 
 abbrev set_in : List BinaryPolicy → Result (List BinaryPolicy) PolicyFault → List BinaryPolicy
 set_in d (Ok set) = set

@@ -4,23 +4,13 @@ use Rattle.std.specs.Str.{bytes_eq}
 use Rattle.std.specs.List.{list_any}
 use Rattle.std.proofs.lemmas.Bool.{ltb-true}
 use Rattle.std.proofs.lemmas.List.Sums.{sum_by-append}
-use Rattle.st_grammar.specs.declared.env.Env.{Env}
-use Rattle.st_grammar.specs.declared.fault.PolicyFault.TheVariants.{Expected, DuplicatePolicy, NotSupported, TooMany}
+use Rattle.st_grammar.proofs.Common.{AreNew, binaries, binary_of, BinaryPolicy, Colon, Comma, Draft, DuplicatePolicy, Env, Expected, filter_name, FilterName, filters_in, first_draft, GrammarState, has_policy, is_line, Line, MOST_FILTERS, new_policy, NotSupported, read_step, Reading, reading_step, step_binary, step_name, Symbol, TooMany, Word}
 use Rattle.st_grammar.specs.declared.fault.Unsupported.TheVariants as unsupported
-use Rattle.st_filter.specs.declared.filter.FilterName.{FilterName}
 use Rattle.st_grammar.specs.declared.place.Place.TheVariants as place
-use Rattle.st_filter.specs.declared.set.BinaryPolicy.{BinaryPolicy}
-use Rattle.st_grammar.specs.Diagram.{GrammarState, is_line, binaries, step_name, step_binary}
-use Rattle.st_grammar.specs.Draft.{Draft, Reading, first_draft, new_policy, reading_step, read_step}
-use Rattle.st_grammar.specs.Grammar.{AreNew, binary_of}
-use Rattle.st_filter.specs.Policies.{has_policy, filters_in}
-use Rattle.st_grammar.specs.Symbol.{Symbol, Word, Colon, Comma, Line}
-use Rattle.st_grammar.specs.Words.{filter_name}
 use Rattle.st_grammar.proofs.Readings.{Read, places_of_reading}
 use Rattle.st_grammar.proofs.Expressions.{step-unless}
 use Rattle.st_grammar.proofs.Fronts.{RowFront, HeaderFront, BelowHeader, Facts, HasFacts, by-word, by-test}
 use Rattle.st_grammar.proofs.ActionsKept.{by-some}
-use Rattle.st_filter.specs.declared.set.TheConstants.{MOST_FILTERS}
 
 abbrev pub fresh_policy : List ℕ → BinaryPolicy
 fresh_policy binary = record { binary = binary; filters = [] }

@@ -1,21 +1,7 @@
 -- What is read is what the grammar says.
 use Rattle.std.proofs.Common.{◌≡◌, ℕ, ◌+◌, ◌≤◌, Bool, true, false, List, [], ◌∷◌, ◌++◌, length, map, Option, None, Some, Ok, Err, if◌then◌else◌, refl, ap, sym, subst, ◌∙◌, arith, append_assoc, append-nil, length-append}
-use Rattle.st_lex.specs.declared.token.LexFault.{LexFault}
-use Rattle.st_lex.specs.declared.token.Token.{Token}
-use Rattle.st_lex.specs.Tokens.{lexed_text}
-use Rattle.st_grammar.specs.declared.env.Env.{Env}
-use Rattle.st_grammar.specs.declared.fault.PolicyFault.{PolicyFault}
-use Rattle.st_grammar.specs.declared.fault.PolicyFault.TheVariants.{Expected, UnknownArgument}
-use Rattle.st_grammar.specs.declared.place.Place.{Place}
+use Rattle.st_grammar.proofs.Common.{add_filter, AreNew, AreRows, BinaryPolicy, Blank, Broken, Draft, Env, Expected, filter_of, FilterRow, filters_in, FilterValue, first_draft, first_reading, GrammarState, Header, is_line, IsFilter, IsHeader, lexed_text, LexFault, Line, may_test, may_test_label, MOST_FILTERS, NoRow, Place, PolicyFault, read_from, read_step, Reading, reading_of, reading_step, Reads, Symbol, symbol_of, symbols_in, Token, UnknownArgument, unless_lexical, with_filter}
 use Rattle.st_grammar.specs.declared.place.Place.TheVariants as place
-use Rattle.st_filter.specs.declared.set.BinaryPolicy.{BinaryPolicy}
-use Rattle.st_grammar.specs.Diagram.{GrammarState, is_line}
-use Rattle.st_grammar.specs.Draft.{Draft, Reading, filter_of, first_draft, reading_step, read_step, unless_lexical, read_from, first_reading, reading_of}
-use Rattle.st_filter.specs.Policies.{add_filter, with_filter, filters_in}
-use Rattle.st_filter.specs.Formula.{FilterValue}
-use Rattle.st_grammar.specs.Grammar.{IsFilter, IsHeader, AreRows, NoRow, Blank, Header, FilterRow, AreNew, symbols_in, Reads}
-use Rattle.st_grammar.specs.Symbol.{Symbol, Line, Broken, symbol_of}
-use Rattle.st_grammar.specs.Words.{may_test, may_test_label}
 use Rattle.st_grammar.proofs.Texts.{result_after}
 use Rattle.st_grammar.proofs.Readings.{Read, places_of_reading}
 use Rattle.st_grammar.proofs.Fronts.{RowFront, Behind, BelowHeader, Facts, HasFacts}
@@ -25,7 +11,6 @@ use Rattle.st_grammar.proofs.ActionsKept.{kept-action, kept-clause, kept-error, 
 use Rattle.st_grammar.proofs.TailsKept.{kept-tail, kept-denial, kept-grant, kept-user, kept-group, user-tails}
 use Rattle.st_grammar.proofs.PredicatesKept.{kept-if, kept-who, kept-comparison, kept-id, kept-filter_end, predicate-filter, tail-filter}
 use Rattle.st_grammar.proofs.RowsKept.{below-row, filters-append, fresh_policy, kept-start, kept-row, kept-name_colon, kept-policy_colon, kept-binary, kept-comma, kept-emulation, kept-emulation_colon, kept-system, kept-header_end}
-use Rattle.st_filter.specs.declared.set.TheConstants.{MOST_FILTERS}
 
 -- ---- symbols inside a row
 

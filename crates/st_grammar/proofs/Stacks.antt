@@ -1,12 +1,8 @@
 -- What the stack of an expression that is read has spelled.
 use Rattle.std.proofs.Common.{◌≡◌, ℕ, suc, ◌+◌, ◌<◌, List, [], ◌∷◌, ◌++◌, codes, refl, ap, sym, subst, ◌∙◌, arith, append_assoc}
-use Rattle.st_grammar.specs.declared.env.Env.{Env}
-use Rattle.st_filter.specs.declared.filter.FilterName.{FilterName}
-use Rattle.st_grammar.specs.Draft.{Reduced, reduced, PendingOperand, Negation, Group, settle, close_either, close_group}
+use Rattle.st_grammar.proofs.Common.{And, Both, Close, close_either, close_group, Conjunction, Disjunction, Either, Env, FilterName, Formula, Grouped, Negated, Not, OneConjunction, OneOperand, Open, Operand, PendingOperand, Reduced, settle, Spells, Symbol, Word}
+use Rattle.st_grammar.specs.Draft.{reduced, Negation, Group}
 use Rattle.st_grammar.specs.Draft as draft
-use Rattle.st_filter.specs.Formula.{Formula, Not, And, Operand, Conjunction, Disjunction}
-use Rattle.st_grammar.specs.Grammar.{Spells, Negated, Grouped, OneOperand, Both, OneConjunction, Either}
-use Rattle.st_grammar.specs.Symbol.{Symbol, Word, Open, Close}
 use Rattle.st_grammar.proofs.Expressions.{IsBase, Outermost, Inside}
 
 -- neither `not` nor `and` waits for the operand that is read

@@ -2,21 +2,9 @@
 use Rattle.std.proofs.Common.{◌≡◌, ℕ, Bool, true, false, not, ◌&&◌, List, [], ◌∷◌, ◌++◌, Option, None, Some, option_map, Ok, Err, if◌then◌else◌, codes, refl, ap, sym, subst, ◌∙◌, append_assoc}
 use Rattle.std.specs.Str.{bytes_eq}
 use Rattle.std.proofs.lemmas.Bool.{and_left}
-use Rattle.st_grammar.specs.declared.env.Env.{Env}
-use Rattle.st_grammar.specs.declared.fault.PolicyFault.TheVariants.{Expected, ElevateWithoutIds, ElevateOnSetId}
-use Rattle.st_filter.specs.declared.filter.Action.{Action}
-use Rattle.st_filter.specs.declared.filter.Action.TheVariants.{Permit}
-use Rattle.st_filter.specs.declared.filter.FilterName.{FilterName}
-use Rattle.st_filter.specs.declared.filter.Grant.{Grant}
-use Rattle.st_filter.specs.declared.filter.Predicate.{Predicate}
+use Rattle.st_grammar.proofs.Common.{Action, BinaryPolicy, Colon, Comma, Draft, ElevateOnSetId, ElevateWithoutIds, Env, Expected, FilterName, Formula, GrammarState, Grant, Grants, GrantsAndLogs, id_in, is_line, IsGrant, IsTail, Line, LogsAndGrants, MayGrant, OfBoth, OfGroup, OfUser, OpenBracket, Permit, Predicate, read_step, Reading, reading_step, sets_ids, step_as, step_known, StepResult, Symbol, Word}
 use Rattle.st_grammar.specs.declared.place.Place.TheVariants as place
-use Rattle.st_filter.specs.declared.set.BinaryPolicy.{BinaryPolicy}
-use Rattle.st_grammar.specs.Diagram.{GrammarState, StepResult, is_line, step_as, step_known}
-use Rattle.st_grammar.specs.Draft.{Draft, Reading, with_group, reading_step, read_step}
-use Rattle.st_filter.specs.Formula.{Formula}
-use Rattle.st_grammar.specs.Grammar.{IsGrant, OfUser, OfBoth, OfGroup, MayGrant, IsTail, Grants, GrantsAndLogs, LogsAndGrants}
-use Rattle.st_grammar.specs.Symbol.{Symbol, Word, Colon, Comma, OpenBracket, Line}
-use Rattle.st_grammar.specs.Words.{sets_ids, id_in}
+use Rattle.st_grammar.specs.Draft.{with_group}
 use Rattle.st_grammar.proofs.Readings.{Read, places_of_reading}
 use Rattle.st_grammar.proofs.Expressions.{step-unless}
 use Rattle.st_grammar.proofs.Fronts.{ActedFront, logged, MayAs, TailFront, Facts, HasFacts, by-word, by-test, filter-more}

@@ -1,13 +1,7 @@
 -- One token of a text, and its rest.
 use Rattle.std.proofs.Common.{◌≡◌, ◌+◌, ◌<◌, List, ◌∷◌, ℕ, length, drop, get_or, refl, ap, sym, ◌∙◌, Option, Result, Ok, Err, add-one, drop-cons}
-use Rattle.st_lex.specs.declared.token.LexFault.{LexFault}
-use Rattle.st_lex.specs.declared.token.Token.{Token}
-use Rattle.st_grammar.specs.declared.env.Env.{Env}
-use Rattle.st_grammar.specs.declared.fault.PolicyFault.{PolicyFault}
-use Rattle.st_grammar.specs.Symbol.{Symbol, symbol_of}
-use Rattle.st_grammar.specs.Draft.{Reading, read_step, read_from}
+use Rattle.st_grammar.proofs.Common.{Env, LexFault, Place, PolicyFault, read_from, read_step, Reading, Symbol, symbol_of, Token}
 use Rattle.st_grammar.specs.Refusals.{place_from}
-use Rattle.st_grammar.specs.declared.place.Place.{Place}
 
 -- what is read behind a token
 abbrev pub result_after : Env → List ℕ → Option LexFault → List Token → Result Reading PolicyFault → Result Reading PolicyFault

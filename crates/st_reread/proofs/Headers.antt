@@ -2,13 +2,11 @@
 use Rattle.std.proofs.Common.{◌≡◌, Bool, true, false, cond, nat_eq, List, [], ◌∷◌, codes, Some, None, ℕ, refl, ap, sym, subst, ◌∙◌}
 use Rattle.std.specs.List.{starts_with}
 use Rattle.st_lex.specs.declared.token.TokenKind.TheVariants as kind
-use Rattle.st_lex.specs.Pieces.{Piece, PlainWord, QuotedText, Sign, Space, is_word_text, StandWell}
-use Rattle.st_lex.specs.Quote.{AreBytes, quoted}
-use Rattle.st_lex.specs.Unquote.{unquoted}
-use Rattle.st_lex.proofs.Unquotes.{unquoted-quoted}
+use Rattle.st_grammar.proofs.Common.{AreBytes, binary_of, is_word_text, IsHeader, Piece, PlainWord, Quoted, QuotedText, Sign, Space, StandWell, Symbol, unquoted, Word}
 use Rattle.st_grammar.specs.declared.env.Env.{Env}
-use Rattle.st_grammar.specs.Symbol.{Symbol, Word, Quoted}
-use Rattle.st_grammar.specs.Grammar.{if_absolute, binary_of, IsHeader}
+use Rattle.st_lex.specs.Quote.{quoted}
+use Rattle.st_lex.proofs.Unquotes.{unquoted-quoted}
+use Rattle.st_grammar.specs.Grammar.{if_absolute}
 use Rattle.st_printing.specs.Canon.{header_pieces}
 use Rattle.st_reread.proofs.Symbols.{piece_symbols, IsPrintable, ArePrintable}
 

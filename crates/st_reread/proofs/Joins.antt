@@ -1,15 +1,8 @@
 -- How many joins a canonical expression has.
 use Rattle.std.proofs.Common.{◌≡◌, ℕ, ◌+◌, ◌≤◌, Bool, true, false, nat_eq, List, [], ◌∷◌, ◌++◌, codes, decimal, sum_by, Some, refl, ap, ◌∙◌, arith}
 use Rattle.st_lex.specs.declared.token.TokenKind.TheVariants as kind
-use Rattle.st_lex.specs.Pieces.{Piece, PlainWord, Sign, Space}
-use Rattle.st_lex.specs.Unquote.{unquoted}
+use Rattle.st_grammar.proofs.Common.{Always, And, Both, Close, Conjunction, Disjunction, Either, FilterName, First, Formula, Grouped, index_in, Indexed, is_join, is_label, Level, Negated, Not, OneConjunction, OneOperand, Op, Open, Operand, Or, Piece, PlainWord, Sign, Space, Spells, Symbol, Test, True, unquoted, Word}
 use Rattle.st_grammar.specs.declared.env.Env.{Env}
-use Rattle.st_filter.specs.declared.filter.FilterName.{FilterName}
-use Rattle.st_filter.specs.declared.filter.Op.{Op}
-use Rattle.st_filter.specs.Formula.{Formula, True, Test, Not, And, Or, Level, Operand, Conjunction, Disjunction}
-use Rattle.st_grammar.specs.Symbol.{Symbol, Word, Open, Close}
-use Rattle.st_grammar.specs.Words.{is_label, index_in}
-use Rattle.st_grammar.specs.Grammar.{Spells, Always, First, Indexed, Negated, Grouped, OneOperand, Both, OneConjunction, Either, is_join}
 use Rattle.st_printing.specs.Canon.{word_of_op, needs_no_parens, in_parens, expression_pieces}
 use Rattle.st_grammar.proofs.Keywords.{joins-append, joins-first, joins-index, joins-label, joins-op}
 use Rattle.st_reread.proofs.Numbers.{index_in-decimal, index_in-small}

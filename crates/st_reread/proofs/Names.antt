@@ -2,15 +2,14 @@
 use Rattle.std.proofs.Common.{◌≡◌, ℕ, Bool, true, false, cond, ◌&&◌, nat_eq, nat_lt, List, ◌++◌, length, take, drop, codes, Option, Some, None, option_map, refl, ap, sym, subst, ◌∙◌, take-append-drop}
 use Rattle.std.specs.List.{starts_with, list_all}
 use Rattle.std.proofs.lemmas.Slice.Eq.{bytes_eq-Decides}
+use Rattle.st_grammar.proofs.Common.{Call, filter_name, FilterName, FsRead, is_word_text}
 use Rattle.st_calls.specs.declared.call.SysCall.{SysCall}
 use Rattle.st_calls.specs.declared.call.SysCall.TheVariants.{Open}
 use Rattle.st_calls.specs.declared.rule.Rule.{Rule}
-use Rattle.st_calls.specs.declared.rule.Rule.TheVariants.{Call, FsRead, FsWrite}
+use Rattle.st_calls.specs.declared.rule.Rule.TheVariants.{FsWrite}
 use Rattle.st_calls.specs.Call.{rule_named}
-use Rattle.st_lex.specs.Pieces.{is_word_text}
-use Rattle.st_filter.specs.declared.filter.FilterName.{FilterName}
 use Rattle.st_filter.specs.declared.filter.FilterName.TheVariants as name
-use Rattle.st_grammar.specs.Words.{is_name_byte, if_name, native_name, name_by, filter_name}
+use Rattle.st_grammar.specs.Words.{is_name_byte, if_name, native_name, name_by}
 use Rattle.st_printing.specs.Canon.{call_word}
 
 -- the name is a Word that is read back

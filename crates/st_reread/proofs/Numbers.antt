@@ -7,10 +7,11 @@ use Rattle.std.proofs.lemmas.List.Elements.{recursion_from_All}
 use Rattle.std.proofs.lemmas.Bool.Decides.{nat_tests}
 use Rattle.std.proofs.lemmas.Fmt.{decimal_is_IsNumeral}
 use Rattle.std.proofs.lemmas.Str.Parse.{digit_from_value}
+use Rattle.st_grammar.proofs.Common.{id_in, index_in}
+use Rattle.st_grammar.specs.declared.env.NamedId.{NamedId}
 use Rattle.st_base.specs.Number.{is_numeral, numeral_up_to, is_hexadecimal, number_in}
 use Rattle.st_base.proofs.Digits.{numeral_up_to-some}
-use Rattle.st_grammar.specs.declared.env.NamedId.{NamedId}
-use Rattle.st_grammar.specs.Words.{if_small, index_in, has_name, id_by, id_in}
+use Rattle.st_grammar.specs.Words.{if_small, has_name, id_by}
 use Rattle.st_reread.specs.Readable.{AreSmallIds}
 
 pub numeral_up_to-decimal : (most n : ℕ) → n < 2 ^ 64 → n < most + 1 → numeral_up_to most 10 (decimal n) ≡ Some n

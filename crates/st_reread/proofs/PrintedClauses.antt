@@ -1,24 +1,12 @@
 -- The clauses of a filter, read and printed: its condition, its action and what follows.
 use Rattle.std.proofs.Common.{◌≡◌, ℕ, ◌^◌, ◌<◌, ◌≤◌, Bool, true, false, List, [], ◌∷◌, ◌++◌, codes, decimal, sum_by, Option, Some, None, refl, sym, subst, arith, append_assoc, append-nil}
-use Rattle.st_base.specs.declared.errno.Errno.{Errno}
-use Rattle.st_base.specs.declared.errno.Errno.TheVariants.{EPERM}
-use Rattle.st_lex.specs.Pieces.{Piece, PlainWord, Space, is_word_text, StandApart, StandWell}
+use Rattle.st_grammar.proofs.Common.{Action, Ask, Asks, Cmp, Denies, DeniesWith, Deny, EPERM, Errno, FilterName, Formula, Grant, Grants, GrantsAndLogs, If, is_join, is_word_text, IsAction, IsCondition, IsGrant, IsPredicate, IsTail, Logs, LogsAndGrants, MayGrant, most_joins, names_for, OfBoth, OfGroup, OfUser, Permit, Permits, Piece, Plain, PlainWord, Predicate, Short, Space, StandWell, Symbol, Then, True, Who, who_named, Whoever, Word}
+use Rattle.st_grammar.specs.declared.env.Env.{Env}
+use Rattle.st_lex.specs.Pieces.{StandApart}
 use Rattle.st_lex.proofs.Pieces.{StandWell-append}
 use Rattle.st_lex.proofs.Words.{is_word_text-decimal}
-use Rattle.st_grammar.specs.declared.env.Env.{Env}
-use Rattle.st_filter.specs.declared.filter.Action.{Action}
-use Rattle.st_filter.specs.declared.filter.Action.TheVariants.{Permit, Deny, Ask}
-use Rattle.st_filter.specs.declared.filter.Cmp.{Cmp}
 use Rattle.st_filter.specs.declared.filter.Cmp.TheVariants as cmp
-use Rattle.st_filter.specs.declared.filter.FilterName.{FilterName}
-use Rattle.st_filter.specs.declared.filter.Grant.{Grant}
-use Rattle.st_filter.specs.declared.filter.Predicate.{Predicate}
-use Rattle.st_filter.specs.declared.filter.Who.{Who}
 use Rattle.st_filter.specs.declared.filter.Who.TheVariants as who
-use Rattle.st_filter.specs.Formula.{Formula, True}
-use Rattle.st_grammar.specs.Symbol.{Symbol, Word}
-use Rattle.st_grammar.specs.Words.{names_for}
-use Rattle.st_grammar.specs.Grammar.{is_join, most_joins, IsCondition, Short, Then, IsAction, Permits, Denies, DeniesWith, Asks, IsGrant, OfUser, OfBoth, OfGroup, MayGrant, IsTail, Plain, Logs, Grants, GrantsAndLogs, LogsAndGrants, who_named, IsPredicate, Whoever, If}
 use Rattle.st_printing.specs.Canon.{expression_pieces, condition_pieces, deny_pieces, action_pieces, user_pieces, group_pieces, grant_pieces, log_pieces, word_of_who, cmp_piece, predicate_pieces}
 use Rattle.st_reread.specs.Readable.{AreSmallIds, HasSmallIds}
 use Rattle.st_reread.proofs.PrintedExpressions.{IsReadableFormula, readable_formula, spells_expression, well_expression}

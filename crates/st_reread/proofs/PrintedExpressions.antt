@@ -1,20 +1,13 @@
 -- Canonical expressions are spelled as the grammar asks.
-use Rattle.std.proofs.Common.{◌≡◌, ℕ, ◌+◌, ◌^◌, ◌<◌, ◌≤◌, Bool, true, false, cond, nat_eq, List, [], ◌∷◌, ◌++◌, codes, decimal, sum_by, Some, refl, sym, subst, arith, eqb-true}
-use Rattle.std.proofs.lemmas.List.Sums.{sum_by-append}
+use Rattle.std.proofs.Common.{◌≡◌, ℕ, ◌+◌, ◌^◌, ◌<◌, Bool, true, false, cond, nat_eq, List, [], ◌∷◌, ◌++◌, codes, decimal, Some, refl, sym, subst, arith, eqb-true}
 use Rattle.st_lex.specs.declared.token.TokenKind.TheVariants as kind
-use Rattle.st_lex.specs.Pieces.{Piece, PlainWord, QuotedText, Sign, Space, is_word_text, StandWell}
-use Rattle.st_lex.specs.Quote.{AreBytes, quoted}
+use Rattle.st_grammar.proofs.Common.{Always, And, AreBytes, Both, Close, CloseBracket, Conjunction, Disjunction, Either, FilterName, First, Formula, Grouped, Indexed, is_label, is_word_text, Level, may_test, Negated, Not, OneConjunction, OneOperand, Op, op_named, Open, OpenBracket, Operand, Or, Piece, PlainWord, Quoted, QuotedText, Sign, Space, Spells, StandWell, Symbol, Test, True, Word}
+use Rattle.st_grammar.specs.declared.env.Env.{Env}
+use Rattle.st_lex.specs.Quote.{quoted}
 use Rattle.st_lex.proofs.Pieces.{StandWell-append}
 use Rattle.st_lex.proofs.Unquotes.{unquoted-quoted}
 use Rattle.st_lex.proofs.Words.{is_word_text-decimal}
-use Rattle.st_grammar.specs.declared.env.Env.{Env}
-use Rattle.st_filter.specs.declared.filter.FilterName.{FilterName}
-use Rattle.st_filter.specs.declared.filter.Op.{Op}
 use Rattle.st_filter.specs.declared.filter.Op.TheVariants as op
-use Rattle.st_filter.specs.Formula.{Formula, True, Test, Not, And, Or, Level, Operand, Conjunction, Disjunction}
-use Rattle.st_grammar.specs.Symbol.{Symbol, Word, Quoted, Open, Close, OpenBracket, CloseBracket}
-use Rattle.st_grammar.specs.Words.{is_label, may_test, op_named}
-use Rattle.st_grammar.specs.Grammar.{Spells, Always, First, Indexed, Negated, Grouped, OneOperand, Both, OneConjunction, Either, is_join}
 use Rattle.st_printing.specs.Canon.{word_of_op, needs_no_parens, in_parens, expression_pieces}
 use Rattle.st_reread.proofs.Numbers.{index_in-decimal, index_in-small}
 use Rattle.st_reread.proofs.Symbols.{piece_symbols, piece_symbols-append, ArePrintable, ArePrintable-parts}

@@ -1,11 +1,8 @@
 -- Filters, read and printed.
 use Rattle.std.proofs.Common.{◌≡◌, List, ◌∷◌, ◌++◌, codes, refl, ap, subst, ◌∙◌, append_assoc}
-use Rattle.st_lex.specs.Pieces.{Piece, StandWell}
-use Rattle.st_lex.proofs.Pieces.{StandWell-append}
+use Rattle.st_grammar.proofs.Common.{Colon, FilterValue, IsFilter, Piece, StandWell, Symbol, Word}
 use Rattle.st_grammar.specs.declared.env.Env.{Env}
-use Rattle.st_filter.specs.Formula.{FilterValue}
-use Rattle.st_grammar.specs.Symbol.{Symbol, Word, Colon}
-use Rattle.st_grammar.specs.Grammar.{IsFilter}
+use Rattle.st_lex.proofs.Pieces.{StandWell-append}
 use Rattle.st_printing.specs.Canon.{condition_pieces, action_pieces, grant_pieces, log_pieces, predicate_pieces, call_word, filter_pieces}
 use Rattle.st_reread.specs.Readable.{HasSmallIds}
 use Rattle.st_reread.proofs.Names.{IsReadableName, readable_name}

@@ -2,20 +2,13 @@
 use Rattle.std.proofs.Common.{◌≡◌, ◌<◌, true, List, [], ◌∷◌, map, ℕ, refl, ap, ◌∙◌}
 use Rattle.std.specs.List.{AllByRecursion}
 use Rattle.std.proofs.lemmas.List.Elements.{recursion_from_All}
-use Rattle.st_lex.specs.declared.token.Token.{Token}
-use Rattle.st_lex.specs.declared.token.TokenKind.{TokenKind}
+use Rattle.st_grammar.proofs.Common.{AreBytes, is_word_text, lexed_text, Piece, print, spelled_tokens, StandWell, Symbol, symbol_by, symbol_of, symbols_in, Token, TokenKind, unquoted}
+use Rattle.st_grammar.specs.declared.env.Env.{Env}
 use Rattle.st_lex.specs.declared.token.TokenKind.TheVariants as kind
-use Rattle.st_lex.specs.Quote.{AreBytes}
 use Rattle.st_lex.specs.Text.{text_of_token, inside}
-use Rattle.st_lex.specs.Unquote.{unquoted}
 use Rattle.st_lex.proofs.Holdings.{holds_bytes}
 use Rattle.st_lex.proofs.Wholes.{IsWholeToken, words_whole, HasInside, quotes_inside}
-use Rattle.st_lex.specs.Tokens.{lexed_text}
-use Rattle.st_lex.specs.Pieces.{Piece, print, StandWell, is_word_text, spelled_tokens}
 use Rattle.st_lex.proofs.Pieces.{print_is_read}
-use Rattle.st_grammar.specs.declared.env.Env.{Env}
-use Rattle.st_grammar.specs.Symbol.{Symbol, symbol_by, symbol_of}
-use Rattle.st_grammar.specs.Grammar.{symbols_in}
 use Rattle.st_reread.specs.Readable.{AreTextBytes, HasPlainDollars}
 use Rattle.st_reread.proofs.Symbols.{spelled_symbol, piece_symbols, IsPrintable, ArePrintable}
 

@@ -1,19 +1,14 @@
 -- Canonical text is read again as the same set.
 use Rattle.std.proofs.Common.{◌≤◌, List, [], ◌∷◌, ◌++◌, refl, sym, subst, append_assoc, append-nil, ℕ, arith}
 use Rattle.st_base.proofs.Each.{each-append}
-use Rattle.st_lex.specs.Pieces.{StandWell}
-use Rattle.st_lex.proofs.Pieces.{print_is_read}
+use Rattle.st_grammar.proofs.Common.{AreNew, AreRows, BinaryPolicy, filters_in, Line, MOST_FILTERS, Reads, StandWell, Symbol, symbols_in}
 use Rattle.st_grammar.specs.declared.env.Env.{Env}
-use Rattle.st_filter.specs.declared.set.BinaryPolicy.{BinaryPolicy}
-use Rattle.st_grammar.specs.Symbol.{Symbol, Line}
-use Rattle.st_grammar.specs.Grammar.{AreRows, symbols_in, AreNew, Reads}
-use Rattle.st_filter.specs.Policies.{filters_in}
+use Rattle.st_lex.proofs.Pieces.{print_is_read}
 use Rattle.st_printing.specs.Canon.{set_pieces, canon}
 use Rattle.st_reread.specs.Readable.{WasRead, Nothing, Behind, HasPlainDollars, HasSmallIds}
 use Rattle.st_reread.proofs.Rows.{IsReadablePolicy, AreReadable, readable_rows, are_rows, well_set}
 use Rattle.st_reread.proofs.Symbols.{ArePrintable, ArePrintable-append}
 use Rattle.st_reread.proofs.PrintedTexts.{symbols_in-print, printable_symbols}
-use Rattle.st_filter.specs.declared.set.TheConstants.{MOST_FILTERS}
 
 pub AreNew-append : (known ps qs : List BinaryPolicy) → AreNew known ps → AreNew (known ++ ps) qs → AreNew known (ps ++ qs)
 AreNew-append known [] qs a b = subst (λ (ks : List BinaryPolicy). AreNew ks qs) (append-nil known) b

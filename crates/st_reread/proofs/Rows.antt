@@ -3,14 +3,9 @@ use Rattle.std.proofs.Common.{◌≡◌, List, [], ◌∷◌, ◌++◌, flat_map
 use Rattle.std.specs.List.{AllByRecursion}
 use Rattle.st_base.proofs.Each.{each-append, each-parts}
 use Rattle.st_lex.specs.declared.token.TokenKind.TheVariants as kind
-use Rattle.st_lex.specs.Pieces.{Piece, Sign, StandWell}
-use Rattle.st_lex.proofs.Pieces.{StandWell-append, StandWell-after}
+use Rattle.st_grammar.proofs.Common.{AreRows, BinaryPolicy, Blank, FilterRow, FilterValue, Header, Line, NoRow, Piece, Sign, StandWell, Symbol, with_filter}
 use Rattle.st_grammar.specs.declared.env.Env.{Env}
-use Rattle.st_filter.specs.declared.set.BinaryPolicy.{BinaryPolicy}
-use Rattle.st_filter.specs.Formula.{FilterValue}
-use Rattle.st_grammar.specs.Symbol.{Symbol, Line}
-use Rattle.st_grammar.specs.Grammar.{AreRows, NoRow, Blank, Header, FilterRow}
-use Rattle.st_filter.specs.Policies.{with_filter}
+use Rattle.st_lex.proofs.Pieces.{StandWell-append, StandWell-after}
 use Rattle.st_printing.specs.Canon.{filter_pieces, header_pieces, row_pieces, set_pieces}
 use Rattle.st_reread.specs.Readable.{HasSmallIds}
 use Rattle.st_reread.proofs.PrintedFilters.{IsReadableFilter, readable_filter, is_filter, well_filter}

@@ -1,12 +1,10 @@
 -- The symbols of pieces, and what the symbols of a text are.
 use Rattle.std.proofs.Common.{◌≡◌, true, List, [], ◌∷◌, ◌++◌, map, ap, ◌∙◌}
 use Rattle.std.proofs.lemmas.List.{map-append}
-use Rattle.st_lex.specs.Pieces.{Piece, SpelledToken, piece_tokens, is_word_text}
-use Rattle.st_lex.specs.Quote.{AreBytes}
-use Rattle.st_lex.specs.Unquote.{unquoted}
-use Rattle.st_lex.proofs.Pieces.{piece_tokens-append}
+use Rattle.st_grammar.proofs.Common.{AreBytes, is_word_text, Piece, piece_tokens, Quoted, Symbol, symbol_by, unquoted, Word}
 use Rattle.st_grammar.specs.declared.env.Env.{Env}
-use Rattle.st_grammar.specs.Symbol.{Symbol, Word, Quoted, symbol_by}
+use Rattle.st_lex.specs.Pieces.{SpelledToken}
+use Rattle.st_lex.proofs.Pieces.{piece_tokens-append}
 
 abbrev pub spelled_symbol : SpelledToken → Symbol
 spelled_symbol token = symbol_by token.kind token.text
