@@ -1,2 +1,1 @@
-pub mod Binaries
 pub mod Settling

@@ -1,7 +1,9 @@
 -- What waits for its right operand, as it is kept.
-use Rattle.std.specs.Prelude.{Bool, true, false, box_value, List, [], ◌∷◌, map, reverse}
+use Rattle.std.specs.Prelude.{box_value, List, [], ◌∷◌, map, reverse, Option, Some, None}
 use Rattle.st_steps.specs.declared.stack.PendingOperand.{PendingOperand}
 use Rattle.st_steps.specs.declared.stack.PendingOperand.TheVariants as kept
+use Rattle.st_steps.specs.declared.stack.Takes.{Takes}
+use Rattle.st_steps.specs.declared.stack.Takes.TheVariants.{Operand, Conjunction, Expression}
 use Rattle.st_filter.specs.Formula.{Formula, formula}
 use Rattle.st_filter.specs.Formula as formula
 use Rattle.st_grammar.specs.Draft as spec
@@ -17,31 +19,17 @@ waiting (kept.Either e) = spec.Either (formula (box_value e))
 abbrev pub stacked : List PendingOperand → List spec.PendingOperand
 stacked items = reverse (map waiting items)
 
--- whether it takes an operand as soon as that is complete
-abbrev pub is_tight : spec.PendingOperand → Bool
-is_tight spec.Negation = true
-is_tight spec.Group = false
-is_tight (spec.Both f) = true
-is_tight (spec.Either f) = false
+-- what it takes as soon as that is complete
+abbrev pub takes : spec.PendingOperand → Takes
+takes spec.Negation = Operand
+takes spec.Group = Expression
+takes (spec.Both f) = Operand
+takes (spec.Either f) = Conjunction
 
--- whether what waits is joined by `or`
-abbrev pub is_either : spec.PendingOperand → Bool
-is_either spec.Negation = false
-is_either spec.Group = false
-is_either (spec.Both f) = false
-is_either (spec.Either f) = true
-
--- whether what waits is a parenthesis that is still open
-abbrev pub is_group : spec.PendingOperand → Bool
-is_group spec.Negation = false
-is_group spec.Group = true
-is_group (spec.Both f) = false
-is_group (spec.Either f) = false
-
--- whether something waits and the newest passes a test
-abbrev pub newest_is : (spec.PendingOperand → Bool) → List spec.PendingOperand → Bool
-newest_is test [] = false
-newest_is test (p ∷ ps) = test p
+-- what the newest takes
+abbrev pub newest : List spec.PendingOperand → Option Takes
+newest [] = None
+newest (p ∷ ps) = Some (takes p)
 
 -- what it makes of its right operand
 abbrev pub with_right_operand : spec.PendingOperand → Formula → Formula

@@ -1,6 +1,6 @@
-ghost use Rattle.std.specs.Prelude.{◌≡◌, ◌∷◌, [], true, false, OnOk, IfOk, IfSome, IfNone, OnOk};
+ghost use Rattle.std.specs.Prelude.{◌≡◌, ◌∷◌, [], Some, OnOk, IfOk, IfSome, IfNone};
 ghost use Rattle.st_filter.specs.Formula.{formula};
-ghost use Rattle.st_steps.specs.Stack.{waiting, is_tight, is_either, is_group, newest_is, with_right_operand};
+ghost use Rattle.st_steps.specs.Stack.{waiting, takes, newest, with_right_operand};
 ghost use Rattle.st_grammar.specs.Draft.{reduced, settle, close_either, without_group};
 
 use st_filter::Expr;
@@ -19,38 +19,25 @@ pub(crate) enum PendingOperand {
     Either(Box<Expr>),
 }
 
+/// What something that waits takes.
+#[derive(Clone, Copy)]
+pub(crate) enum Takes {
+    Operand,
+    Conjunction,
+    /// What stands between its parentheses.
+    Expression,
+}
+
 impl PendingOperand {
-    // Whether it takes an operand as soon as that is complete.
-    fn is_tight(&self) -> bool
-        ensures { result ≡ is_tight (waiting self.now) }
+    // What it takes as soon as that is complete.
+    fn takes(&self) -> Takes
+        ensures { result ≡ takes (waiting self.now) }
     {
         match self {
-            PendingOperand::Negation => true,
-            PendingOperand::Group => false,
-            PendingOperand::Both(_) => true,
-            PendingOperand::Either(_) => false,
-        }
-    }
-
-    fn is_either(&self) -> bool
-        ensures { result ≡ is_either (waiting self.now) }
-    {
-        match self {
-            PendingOperand::Negation => false,
-            PendingOperand::Group => false,
-            PendingOperand::Both(_) => false,
-            PendingOperand::Either(_) => true,
-        }
-    }
-
-    fn is_group(&self) -> bool
-        ensures { result ≡ is_group (waiting self.now) }
-    {
-        match self {
-            PendingOperand::Negation => false,
-            PendingOperand::Group => true,
-            PendingOperand::Both(_) => false,
-            PendingOperand::Either(_) => false,
+            PendingOperand::Negation => Takes::Operand,
+            PendingOperand::Group => Takes::Expression,
+            PendingOperand::Both(_) => Takes::Operand,
+            PendingOperand::Either(_) => Takes::Conjunction,
         }
     }
 
@@ -119,55 +106,11 @@ impl Stack {
         self.items.pop()
     }
 
-    // The newest, where it takes an operand at once.
-    fn pop_binding(&mut self) -> Option<PendingOperand>
-        ensures some { IfSome result (λ p. (self.old ≡ waiting p ∷ self.new) × (is_tight (waiting p) ≡ true)) }
-        ensures none { IfNone result ((self.new ≡ self.old) × (newest_is is_tight self.old ≡ false)) }
+    // What the newest takes.
+    fn newest(&self) -> Option<Takes>
+        ensures { result ≡ newest self.now }
     {
-        match self.items.last() {
-            Some(pending) if pending.is_tight() => self.pop(),
-            _ => None,
-        }
-    }
-
-    fn pop_either(&mut self) -> Option<PendingOperand>
-        ensures some { IfSome result (λ p. (self.old ≡ waiting p ∷ self.new) × (is_either (waiting p) ≡ true)) }
-        ensures none { IfNone result ((self.new ≡ self.old) × (newest_is is_either self.old ≡ false)) }
-    {
-        match self.items.last() {
-            Some(pending) if pending.is_either() => self.pop(),
-            _ => None,
-        }
-    }
-
-    fn pop_group(&mut self) -> Option<PendingOperand>
-        ensures some { IfSome result (λ p. (self.old ≡ waiting p ∷ self.new) × (is_group (waiting p) ≡ true)) }
-        ensures none { IfNone result ((self.new ≡ self.old) × (newest_is is_group self.old ≡ false)) }
-    {
-        match self.items.last() {
-            Some(pending) if pending.is_group() => self.pop(),
-            _ => None,
-        }
-    }
-
-    // Whether the newest takes an operand at once.
-    fn is_binding(&self) -> bool
-        ensures { result ≡ newest_is is_tight self.now }
-    {
-        match self.items.last() {
-            Some(pending) => pending.is_tight(),
-            None => false,
-        }
-    }
-
-    // Whether the newest is an `or`.
-    fn is_joining(&self) -> bool
-        ensures { result ≡ newest_is is_either self.now }
-    {
-        match self.items.last() {
-            Some(pending) => pending.is_either(),
-            None => false,
-        }
+        self.items.last().map(PendingOperand::takes)
     }
 
     // What waits and binds takes the operand. Kept out of line, since mostly nothing does.
@@ -176,7 +119,10 @@ impl Stack {
     fn bind(&mut self, alloc: Global, operand: &mut Expr) -> Result<(), AllocError>
         ensures { OnOk result (reduced self.new (formula operand.new) ≡ settle self.old (formula operand.old)) }
     {
-        while let Some(pending) = self.pop_binding() {
+        while let Some(Takes::Operand) = self.newest() {
+            let Some(pending) = self.pop() else {
+                unreachable!()
+            };
             let right = replace(operand, Expr::True);
             *operand = pending.with_right_operand(alloc, right)?;
         }
@@ -189,23 +135,24 @@ impl Stack {
     pub(crate) fn settle(&mut self, alloc: Global, operand: &mut Expr) -> Result<(), AllocError>
         ensures { OnOk result (reduced self.new (formula operand.new) ≡ settle self.old (formula operand.old)) }
     {
-        if self.is_binding() {
-            self.bind(alloc, operand)
-        } else {
-            Ok(())
+        match self.newest() {
+            Some(Takes::Operand) => self.bind(alloc, operand),
+            _ => Ok(()),
         }
     }
 
     // An `or` that waits takes the conjunction. Kept out of line, as `bind` is.
     #[inline(never)]
-    #[tactic(auto, using(crate::proofs::Settling::close_either_joins, crate::proofs::Settling::close_either_stops))]
+    #[tactic(auto, using(crate::proofs::Settling::close_either_joins))]
     fn bind_either(&mut self, alloc: Global, conjunction: &mut Expr) -> Result<(), AllocError>
+        requires { newest self.old ≡ Some Takes.Conjunction }
         ensures { OnOk result (reduced self.new (formula conjunction.new) ≡ close_either self.old (formula conjunction.old)) }
     {
-        if let Some(pending) = self.pop_either() {
-            let right = replace(conjunction, Expr::True);
-            *conjunction = pending.with_right_operand(alloc, right)?;
-        }
+        let Some(pending) = self.pop() else {
+            unreachable!()
+        };
+        let right = replace(conjunction, Expr::True);
+        *conjunction = pending.with_right_operand(alloc, right)?;
         Ok(())
     }
 
@@ -219,10 +166,9 @@ impl Stack {
     ) -> Result<(), AllocError>
         ensures { OnOk result (reduced self.new (formula conjunction.new) ≡ close_either self.old (formula conjunction.old)) }
     {
-        if self.is_joining() {
-            self.bind_either(alloc, conjunction)
-        } else {
-            Ok(())
+        match self.newest() {
+            Some(Takes::Conjunction) => self.bind_either(alloc, conjunction),
+            _ => Ok(()),
         }
     }
 
@@ -231,6 +177,8 @@ impl Stack {
     pub(crate) fn leave_group(&mut self)
         ensures { self.new ≡ without_group self.old }
     {
-        let _ = self.pop_group();
+        if let Some(Takes::Expression) = self.newest() {
+            let _ = self.pop();
+        }
     }
 }

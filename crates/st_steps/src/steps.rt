@@ -1,6 +1,6 @@
-ghost use Rattle.std.specs.Prelude.{◌≡◌, ℕ, List, [], Ok, Err, false, unwrap_or, IfOk, OnOk};
+ghost use Rattle.std.specs.Prelude.{◌≡◌, ◌≢◌, ℕ, List, [], Ok, Err, false, unwrap_or, IfOk, OnOk};
 ghost use Rattle.st_grammar.specs.Symbol.{seen, Word};
-ghost use Rattle.st_grammar.specs.Diagram.{IsStepped, is_quoted, only, step_start, step_row, step_system, step_operand, step_operator, step_label, step_indexed, step_index, step_joint, step_action, step_clause, step_as, step_tail, step_denial, step_error, step_id, step_grant, step_user, step_who, word_who, step_comparison, next};
+ghost use Rattle.st_grammar.specs.Diagram.{IsStepped, is_quoted, step_to, only, step_start, step_row, step_system, step_operand, step_operator, step_label, step_indexed, step_index, step_joint, step_action, step_clause, step_as, step_tail, step_denial, step_error, step_id, step_grant, step_user, step_who, word_who, step_comparison, next};
 ghost use Rattle.st_grammar.specs.Grammar.{comparison};
 ghost use Rattle.st_grammar.specs.Words.{names_for};
 ghost use Rattle.st_grammar.specs.Draft.{first_draft, filter_of, is_binary_place, draft_row, draft_operand, draft_operator, draft_index, draft_text, draft_joint, draft_action, draft_clause, draft_error, draft_tail, draft_grant, draft_group, draft_comparison, draft_id, draft_step};
@@ -36,6 +36,17 @@ impl<'a> Reader<'a> {
         }
     }
 
+    // The symbol may stand here, and adds nothing.
+    #[inline]
+    fn go(&mut self, next: Place) -> Result<(), PolicyFault>
+        ensures ok { IsStepped result self.new.walk (step_to self.old.walk next) }
+        ensures memory { result ≢ Err PolicyFault.NoMemory }
+        ensures draft { self.new.draft ≡ self.old.draft }
+    {
+        self.walk.go(next);
+        Ok(())
+    }
+
     // One thing alone may stand here, which adds nothing.
     fn only(&mut self, at: u32, fits: bool, next: Place) -> Result<(), PolicyFault>
         ensures walk { IsStepped result self.new.walk (only self.old.walk at fits next) }
@@ -49,10 +60,7 @@ impl<'a> Reader<'a> {
         ensures draft { self.new.draft ≡ self.old.draft }
     {
         match *symbol {
-            Symbol::Line => {
-                self.walk.go(Place::Start);
-                Ok(())
-            }
+            Symbol::Line => self.go(Place::Start),
             Symbol::Word(word) => self.only(at, is_keyword(word, b"Policy"), Place::PolicyColon),
             _ => Err(PolicyFault::Expected(at)),
         }
@@ -63,10 +71,7 @@ impl<'a> Reader<'a> {
         ensures draft { OnOk result (self.new.draft ≡ draft_row self.old.draft (seen symbol.now)) }
     {
         match *symbol {
-            Symbol::Line => {
-                self.walk.go(Place::Row);
-                Ok(())
-            }
+            Symbol::Line => self.go(Place::Row),
             Symbol::Word(word) => {
                 self.draft.clear();
                 if is_keyword(word, b"Policy") {
@@ -155,10 +160,7 @@ impl<'a> Reader<'a> {
         ensures draft { OnOk result (self.new.draft ≡ draft_operator self.old.draft (seen symbol.now)) }
     {
         match *symbol {
-            Symbol::OpenBracket => {
-                self.walk.go(Place::Index);
-                Ok(())
-            }
+            Symbol::OpenBracket => self.go(Place::Index),
             _ if self.walk.may_test(0) => self.step_operator(at, symbol),
             _ => Err(self.walk.label_fault()),
         }
@@ -351,14 +353,8 @@ impl<'a> Reader<'a> {
         ensures draft { OnOk result (self.new.draft ≡ draft_tail self.old.draft (seen symbol.now)) }
     {
         match *symbol {
-            Symbol::Line => {
-                self.walk.go(Place::Row);
-                Ok(())
-            }
-            Symbol::Comma => {
-                self.walk.go(Place::If);
-                Ok(())
-            }
+            Symbol::Line => self.go(Place::Row),
+            Symbol::Comma => self.go(Place::If),
             Symbol::Word(word) => self.step_tail_word(env, grant, log, at, word),
             _ => Err(PolicyFault::Expected(at)),
         }
@@ -369,10 +365,7 @@ impl<'a> Reader<'a> {
         ensures draft { OnOk result (self.new.draft ≡ draft_tail self.old.draft (seen symbol.now)) }
     {
         match *symbol {
-            Symbol::OpenBracket => {
-                self.walk.go(Place::Error);
-                Ok(())
-            }
+            Symbol::OpenBracket => self.go(Place::Error),
             _ => self.step_tail(env, false, true, at, symbol),
         }
     }
@@ -434,10 +427,7 @@ impl<'a> Reader<'a> {
         ensures draft { OnOk result (self.new.draft ≡ draft_tail self.old.draft (seen symbol.now)) }
     {
         match *symbol {
-            Symbol::Colon => {
-                self.walk.go(Place::Group { log });
-                Ok(())
-            }
+            Symbol::Colon => self.go(Place::Group { log }),
             _ => self.step_tail(env, false, log, at, symbol),
         }
     }

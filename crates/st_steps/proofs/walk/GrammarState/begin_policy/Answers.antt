@@ -4,15 +4,15 @@ use Rattle.std.specs.Str.{bytes_eq}
 use Rattle.st_grammar.specs.Diagram.{binaries, step_to}
 use Rattle.st_grammar.specs.declared.fault.PolicyFault.TheVariants.{DuplicatePolicy}
 use Rattle.st_grammar.specs.declared.place.Place.TheVariants as place
-use Rattle.st_steps.proofs.Binaries.{has_policy_among}
+use Rattle.st_grammar.proofs.RowsKept.{any-binaries}
 use Rattle.st_steps.proofs.walk.GrammarState.begin_policy.Goals as goal
 
 pub returns-then-has-clause-ok : goal.returns-then-has-clause-ok
 returns-then-has-clause-ok c = λ memory.
-    let known : list_any (λ b. bytes_eq b c.args.binary.now) (binaries c.args.known.now) ≡ true = sym (has_policy_among c.args.known.now c.args.binary.now) ∙ sym c.has.ensures ∙ c.if-has.true in
+    let known : list_any (λ b. bytes_eq b c.args.binary.now) (binaries c.args.known.now) ≡ true = any-binaries c.args.binary.now c.args.known.now ∙ sym c.has.ensures ∙ c.if-has.true in
     ap (λ (b : Bool). cond b (Err (DuplicatePolicy c.args.at)) (step_to c.args.self.now place.Comma)) known
 
 pub returns-clause-ok : goal.returns-clause-ok
 returns-clause-ok c =
-    let other : list_any (λ b. bytes_eq b c.args.binary.now) (binaries c.args.known.now) ≡ false = sym (has_policy_among c.args.known.now c.args.binary.now) ∙ sym c.has.ensures ∙ c.if-has.false in
+    let other : list_any (λ b. bytes_eq b c.args.binary.now) (binaries c.args.known.now) ≡ false = any-binaries c.args.binary.now c.args.known.now ∙ sym c.has.ensures ∙ c.if-has.false in
     ap (λ (b : Bool). cond b (Err (DuplicatePolicy c.args.at)) (step_to c.args.self.now place.Comma)) other ∙ ap (λ w. step_to w place.Comma) (sym c.self.view_is)
