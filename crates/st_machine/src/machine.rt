@@ -83,6 +83,31 @@ fn answers_and_operator<'a>(
     Ok((answers, Operator::new(alloc, input.replies.as_slice())?))
 }
 
+// What a machine begins with beside its system.
+#[derive(Drop)]
+struct Parts<'a> {
+    workers: Workers,
+    threads: Vec<Thread<'a>>,
+    answers: FastTable,
+    operator: Operator<'a>,
+}
+
+fn parts_of<'a>(alloc: Global, input: &'a Input) -> Result<Parts<'a>, AllocError>
+    ensures workers { IfOk result (λ parts. IsKept input.now (first_state input.now) (is_live (first_state input.now)) parts.workers) }
+    ensures threads { IfOk result (λ parts. parts.threads.items ≡ map (λ row. first_row row.body) input.now.start.threads) }
+    ensures answers { IfOk result (λ parts. IsTableOf input.now.policies parts.answers) }
+    ensures operator { IfOk result (λ parts. IsAdded input.now (first_state input.now) parts.operator) }
+{
+    let (workers, threads) = workers_and_threads(alloc, input)?;
+    let (answers, operator) = answers_and_operator(alloc, input)?;
+    Ok(Parts {
+        workers,
+        threads,
+        answers,
+        operator,
+    })
+}
+
 impl<'a> Machine<'a> {
     /// The machine that a run of an input starts with.
     pub fn start(alloc: Global, input: &'a Input) -> Result<Self, AllocError>
@@ -94,15 +119,15 @@ impl<'a> Machine<'a> {
         ensures input { IfOk result (λ machine. machine.input ≡ input.now) }
         ensures first { IfOk result (λ machine. IsMachine machine (first_state input.now)) }
     {
-        let (workers, threads) = workers_and_threads(alloc, input)?;
-        let (answers, operator) = answers_and_operator(alloc, input)?;
+        let system = System::start(alloc, input)?;
+        let parts = parts_of(alloc, input)?;
         Ok(Machine {
             input,
-            system: System::start(alloc, input)?,
-            workers,
-            threads,
-            answers,
-            operator,
+            system,
+            workers: parts.workers,
+            threads: parts.threads,
+            answers: parts.answers,
+            operator: parts.operator,
         })
     }
 
