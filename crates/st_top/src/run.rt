@@ -63,6 +63,25 @@ fn policies_of(
     Ok(policies_text(alloc, kernel.input(), kernel.session())?)
 }
 
+// The text that is asked for of the run by a schedule. It has the kernel by reference, so that the kernel is let go of in one place.
+fn text_of(
+    alloc: Global,
+    print: Print,
+    kernel: &mut Kernel<'_>,
+    schedule: &ReadSchedule,
+) -> Result<Text, Status>
+    requires startable { IsStartable kernel.old.input }
+    requires none { kernel.old.choices ≡ [] }
+    ensures { RunShown print kernel.old.input schedule.now result }
+{
+    match print {
+        Print::Audit => audit_of(alloc, kernel, schedule),
+        Print::Trace => trace_of(alloc, kernel, schedule),
+        Print::Schedule => schedule_of(alloc, kernel, schedule),
+        Print::Policy => policies_of(alloc, kernel, schedule),
+    }
+}
+
 /// Plays a schedule, and gives the text that is asked for of its run.
 pub fn text_of_run(
     alloc: Global,
@@ -78,10 +97,5 @@ pub fn text_of_run(
     ensures { RunShown print input.now schedule.now result }
 {
     let mut kernel = Kernel::start(alloc, input)?;
-    match print {
-        Print::Audit => audit_of(alloc, &mut kernel, schedule),
-        Print::Trace => trace_of(alloc, &mut kernel, schedule),
-        Print::Schedule => schedule_of(alloc, &mut kernel, schedule),
-        Print::Policy => policies_of(alloc, &mut kernel, schedule),
-    }
+    text_of(alloc, print, &mut kernel, schedule)
 }
