@@ -4,6 +4,4 @@
 #[cfg(test)]
 mod answers;
 #[cfg(test)]
-mod policies;
-#[cfg(test)]
 mod statuses;
