@@ -1,13 +1,13 @@
 -- From each place of the grammar a row can be ended.
-use Rattle.std.proofs.Common.{◌≡◌, ℕ, zero, suc, ◌+◌, ◌-◌, ◌<◌, ◌≤◌, Bool, true, false, ◌&&◌, ◌||◌, ◌==◌, nat_lt, List, [], ◌∷◌, ◌++◌, length, replicate, Option, Some, Ok, Err, if◌then◌else◌, codes, refl, ap, sym, subst, ◌∙◌, arith, append_assoc}
+use Rattle.std.proofs.Common.{◌≡◌, ℕ, zero, suc, ◌+◌, ◌-◌, ◌<◌, ◌≤◌, Bool, true, false, ◌&&◌, ◌||◌, ◌==◌, nat_lt, List, [], ◌∷◌, ◌++◌, length, replicate, Some, Ok, Err, if◌then◌else◌, codes, refl, ap, sym, subst, ◌∙◌, arith, append_assoc}
 use Rattle.std.specs.List.{list_any, list_all}
 use Rattle.std.specs.Str.{bytes_eq}
 use Rattle.std.proofs.lemmas.Bool.{eq-eqb, lt-ltb, false_from_ne_true}
 use Rattle.std.proofs.lemmas.Slice.Eq.{bytes_eq-Decides}
 use Rattle.std.proofs.lemmas.List.{length-replicate}
 use Rattle.st_calls.specs.declared.call.SysCall.TheVariants as call
-use Rattle.st_grammar.proofs.Common.{AreNew, AreRows, binaries, binary_of, BinaryPolicy, Blank, Call, Close, CloseBracket, Colon, Comma, Draft, draft_after, Equal, FilterName, filters_in, FsRead, GrammarState, is_word_text, Line, may_test, may_test_label, MOST_FILTERS, new_policy, OpenBracket, Piece, PlainWord, Quoted, QuotedText, Reading, reading_step, Sign, Space, StandWell, step_binary, StepResult, Symbol, Who, Word}
-use Rattle.st_grammar.specs.declared.fault.PolicyFault.TheVariants.{DuplicatePolicy, Expected, UnknownArgument}
+use Rattle.st_grammar.proofs.Common.{completed, concluded, close_group, without_either, step, True, AreNew, AreRows, binaries, binary_of, BinaryPolicy, Blank, Call, Close, CloseBracket, Colon, Comma, Equal, FilterName, filters_in, FsRead, GrammarState, is_word_text, Line, may_test, may_test_label, MOST_FILTERS, new_policy, OpenBracket, Piece, PlainWord, Quoted, QuotedText, Reading, reading_step, Sign, Space, StandWell, StepResult, Symbol, Who, Word}
+use Rattle.st_grammar.specs.declared.fault.PolicyFault.TheVariants.{Expected, UnknownArgument}
 use Rattle.st_grammar.specs.declared.env.Env.{Env}
 use Rattle.st_grammar.specs.declared.place.Place.{Place}
 use Rattle.st_calls.specs.declared.rule.Rule.{Rule}
@@ -16,11 +16,13 @@ use Rattle.st_calls.specs.Argument.{has_label, has_argument}
 use Rattle.st_lex.specs.declared.token.TokenKind.TheVariants as kind
 use Rattle.st_lex.specs.Tokens.{is_word_byte}
 use Rattle.st_filter.specs.declared.filter.FilterName.TheVariants as name
+use Rattle.st_filter.specs.declared.filter.Op.TheVariants.{Eq}
 use Rattle.st_filter.specs.declared.filter.Who.TheVariants as whose
 use Rattle.st_grammar.specs.declared.place.Place.TheVariants as place
 use Rattle.st_grammar.proofs.Fronts.{Facts, HasFacts}
-use Rattle.st_grammar.proofs.Readings.{places_of_reading}
-use Rattle.st_grammar.proofs.Sound.{line-keeps, line-is_sound, RowEnded}
+use Rattle.st_grammar.proofs.Readings.{reading_at}
+use Rattle.st_grammar.proofs.Kept.{line-keeps}
+use Rattle.st_grammar.proofs.Sound.{line-is_sound, RowEnded}
 use Rattle.st_reread.proofs.Symbols.{piece_symbols}
 
 -- ---- labels without an index
@@ -181,6 +183,19 @@ printed-more xs ys p q = record {
   well = λ more h. subst StandWell (sym (append_assoc p.pieces q.pieces more)) (p.well (q.pieces ++ more) (q.well more h));
 }
 
+-- how far a step leads, if it does
+abbrev led-by : GrammarState → StepResult → GrammarState
+led-by w (Ok v) = v
+led-by w (Err fault) = w
+
+-- how far the grammar has come behind a symbol that may stand here
+abbrev pub led : Env → GrammarState → List BinaryPolicy → Symbol → Place → GrammarState
+led env w set s p = led-by w (step env (binaries set) (record w { place = p }) 0 s p)
+
+-- how far it has come behind a closing parenthesis
+abbrev pub closed : GrammarState → GrammarState
+closed w = record w { parens = w.parens - 1; expression = close_group (without_either w.expression) }
+
 -- a label that is read may be tested
 abbrev pub MayEnd : Place → GrammarState → Type 0
 MayEnd place.Label w = may_test w.name w.label 0 ≡ true
@@ -218,186 +233,182 @@ module _ (env : Env) (old : List BinaryPolicy) (rows : List Symbol) where
   pub facts-if : (front : List Symbol) (r : Reading) (s : Symbol) (b : Bool) (x y : StepResult) → b ≡ true → HasFacts env old rows front (reading_step env r s (if b then x else y)) → HasFacts env old rows front (reading_step env r s x)
   facts-if front r s b x y e h = subst (λ (c : Bool). HasFacts env old rows front (reading_step env r s (if c then x else y))) e h
 
-  pub ends-tail : (front : List Symbol) (w : GrammarState) (d : Draft) (set : List BinaryPolicy) (grant log : Bool) → Facts env old rows front (place.Tail grant log) w d set → Ending env old (rows ++ front)
-  ends-tail front w d set grant log h = row-ends front _ (line-is_sound env old rows front (place.Tail grant log) w d set 0 h)
+  pub ends-tail : (front : List Symbol) (w : GrammarState) (set : List BinaryPolicy) (grant log : Bool) → Facts env old rows front (place.Tail grant log) w set → Ending env old (rows ++ front)
+  ends-tail front w set grant log h = row-ends front _ (line-is_sound env old rows front w set (place.Tail grant log) 0 h)
 
-  ends-action : (front : List Symbol) (w : GrammarState) (d : Draft) (set : List BinaryPolicy) → Facts env old rows front place.Action w d set → Ending env old (rows ++ front)
-  ends-action front w d set h =
+  ends-action : (front : List Symbol) (w : GrammarState) (set : List BinaryPolicy) → Facts env old rows front place.Action w set → Ending env old (rows ++ front)
+  ends-action front w set h =
       let s : Symbol = Word (codes "permit") in
-      on front s (a-word (codes "permit") refl) (ends-tail (front ++ s ∷ []) w (draft_after env w.label d s place.Action) set true true (line-keeps env old rows front place.Action w d set 0 s refl h))
+      on front s (a-word (codes "permit") refl) (ends-tail (front ++ s ∷ []) (led env w set s place.Action) set true true (line-keeps env old rows front w set 0 place.Action s refl h))
 
   -- what stands behind the end of an operand: the parentheses are closed, and `then` follows
-  pub facts-close : (front : List Symbol) (w : GrammarState) (d : Draft) (set : List BinaryPolicy) → 0 < w.parens → Facts env old rows front place.Joint w d set →
-      Facts env old rows (front ++ Close ∷ []) place.Joint (record w { parens = w.parens - 1 }) (draft_after env w.label d Close place.Joint) set
-  facts-close front w d set e h =
-      facts-if (front ++ Close ∷ []) (places_of_reading place.Joint w d set) Close (nat_lt 0 w.parens) (Ok (record w { place = place.Joint; parens = w.parens - 1 })) (Err (Expected 0)) (lt-ltb 0 w.parens e)
-      (line-keeps env old rows front place.Joint w d set 0 Close refl h)
+  pub facts-close : (front : List Symbol) (w : GrammarState) (set : List BinaryPolicy) → 0 < w.parens → Facts env old rows front place.Joint w set →
+      Facts env old rows (front ++ Close ∷ []) place.Joint (closed w) set
+  facts-close front w set e h =
+      facts-if (front ++ Close ∷ []) (reading_at place.Joint w set) Close (nat_lt 0 w.parens) (Ok (record (closed w) { place = place.Joint })) (Err (Expected 0)) (lt-ltb 0 w.parens e)
+      (line-keeps env old rows front w set 0 place.Joint Close refl h)
 
-  pub facts-then : (front : List Symbol) (w : GrammarState) (d : Draft) (set : List BinaryPolicy) → w.parens ≡ 0 → Facts env old rows front place.Joint w d set →
-      Facts env old rows (front ++ Word (codes "then") ∷ []) place.Action w (draft_after env w.label d (Word (codes "then")) place.Joint) set
-  facts-then front w d set e h =
+  pub facts-then : (front : List Symbol) (w : GrammarState) (set : List BinaryPolicy) → w.parens ≡ 0 → Facts env old rows front place.Joint w set →
+      Facts env old rows (front ++ Word (codes "then") ∷ []) place.Action (concluded w) set
+  facts-then front w set e h =
       let s : Symbol = Word (codes "then") in
-      facts-if (front ++ s ∷ []) (places_of_reading place.Joint w d set) s (w.parens == 0) (Ok (record w { place = place.Action })) (Err (Expected 0)) (eq-eqb w.parens 0 e)
-      (line-keeps env old rows front place.Joint w d set 0 s refl h)
+      facts-if (front ++ s ∷ []) (reading_at place.Joint w set) s (w.parens == 0) (Ok (record (concluded w) { place = place.Action })) (Err (Expected 0)) (eq-eqb w.parens 0 e)
+      (line-keeps env old rows front w set 0 place.Joint s refl h)
 
-  pub ends-joint : (n : ℕ) (front : List Symbol) (w : GrammarState) (d : Draft) (set : List BinaryPolicy) → w.parens ≡ n → Facts env old rows front place.Joint w d set → Ending env old (rows ++ front)
-  ends-joint zero front w d set e h =
+  pub ends-joint : (n : ℕ) (front : List Symbol) (w : GrammarState) (set : List BinaryPolicy) → w.parens ≡ n → Facts env old rows front place.Joint w set → Ending env old (rows ++ front)
+  ends-joint zero front w set e h =
       let s : Symbol = Word (codes "then") in
-      on front s (a-word (codes "then") refl) (ends-action (front ++ s ∷ []) w (draft_after env w.label d s place.Joint) set (facts-then front w d set e h))
-  ends-joint (suc n) front w d set e h =
-      on front Close a-close (ends-joint n (front ++ Close ∷ []) (record w { parens = w.parens - 1 }) (draft_after env w.label d Close place.Joint) set (omega (arith, e)) (facts-close front w d set (omega (arith, e)) h))
+      on front s (a-word (codes "then") refl) (ends-action (front ++ s ∷ []) (concluded w) set (facts-then front w set e h))
+  ends-joint (suc n) front w set e h =
+      on front Close a-close (ends-joint n (front ++ Close ∷ []) (closed w) set (omega (arith, e)) (facts-close front w set (omega (arith, e)) h))
 
-  ends-text : (front : List Symbol) (w : GrammarState) (d : Draft) (set : List BinaryPolicy) → Facts env old rows front place.Text w d set → Ending env old (rows ++ front)
-  ends-text front w d set h =
+  ends-text : (front : List Symbol) (w : GrammarState) (set : List BinaryPolicy) → Facts env old rows front place.Text w set → Ending env old (rows ++ front)
+  ends-text front w set h =
       let s : Symbol = Quoted (codes "\"\"") in
-      on front s a-quoted (ends-joint w.parens (front ++ s ∷ []) w (draft_after env w.label d s place.Text) set refl (line-keeps env old rows front place.Text w d set 0 s refl h))
+      on front s a-quoted (ends-joint w.parens (front ++ s ∷ []) (led env w set s place.Text) set refl (line-keeps env old rows front w set 0 place.Text s refl h))
 
-  ends-operator : (front : List Symbol) (w : GrammarState) (d : Draft) (set : List BinaryPolicy) → Facts env old rows front place.Operator w d set → Ending env old (rows ++ front)
-  ends-operator front w d set h =
+  ends-operator : (front : List Symbol) (w : GrammarState) (set : List BinaryPolicy) → Facts env old rows front place.Operator w set → Ending env old (rows ++ front)
+  ends-operator front w set h =
       let s : Symbol = Word (codes "eq") in
-      on front s (a-word (codes "eq") refl) (ends-text (front ++ s ∷ []) w (draft_after env w.label d s place.Operator) set (line-keeps env old rows front place.Operator w d set 0 s refl h))
+      on front s (a-word (codes "eq") refl) (ends-text (front ++ s ∷ []) (led env w set s place.Operator) set (line-keeps env old rows front w set 0 place.Operator s refl h))
 
-  ends-index_end : (front : List Symbol) (w : GrammarState) (d : Draft) (set : List BinaryPolicy) → Facts env old rows front place.IndexEnd w d set → Ending env old (rows ++ front)
-  ends-index_end front w d set h = on front CloseBracket a-close_bracket (ends-operator (front ++ CloseBracket ∷ []) w d set (line-keeps env old rows front place.IndexEnd w d set 0 CloseBracket refl h))
+  ends-index_end : (front : List Symbol) (w : GrammarState) (set : List BinaryPolicy) → Facts env old rows front place.IndexEnd w set → Ending env old (rows ++ front)
+  ends-index_end front w set h = on front CloseBracket a-close_bracket (ends-operator (front ++ CloseBracket ∷ []) w set (line-keeps env old rows front w set 0 place.IndexEnd CloseBracket refl h))
 
-  ends-index : (front : List Symbol) (w : GrammarState) (d : Draft) (set : List BinaryPolicy) → may_test w.name w.label 0 ≡ true → Facts env old rows front place.Index w d set → Ending env old (rows ++ front)
-  ends-index front w d set e h =
+  ends-index : (front : List Symbol) (w : GrammarState) (set : List BinaryPolicy) → may_test w.name w.label 0 ≡ true → Facts env old rows front place.Index w set → Ending env old (rows ++ front)
+  ends-index front w set e h =
       let s : Symbol = Word (codes "0") in
       on front s (a-word (codes "0") refl)
-      (ends-index_end (front ++ s ∷ []) w (draft_after env w.label d s place.Index) set
-      (facts-if (front ++ s ∷ []) (places_of_reading place.Index w d set) s (may_test w.name w.label 0) (Ok (record w { place = place.IndexEnd })) (Err (UnknownArgument w.label_at)) e
-      (line-keeps env old rows front place.Index w d set 0 s refl h)))
+      (ends-index_end (front ++ s ∷ []) (record w { index = 0 }) set
+      (facts-if (front ++ s ∷ []) (reading_at place.Index w set) s (may_test w.name w.label 0) (Ok (record w { place = place.IndexEnd; index = 0 })) (Err (UnknownArgument w.label_at)) e
+      (line-keeps env old rows front w set 0 place.Index s refl h)))
 
-  pub facts-operator : (front : List Symbol) (w : GrammarState) (d : Draft) (set : List BinaryPolicy) → may_test w.name w.label 0 ≡ true → Facts env old rows front place.Label w d set →
-      Facts env old rows (front ++ Word (codes "eq") ∷ []) place.Text w (draft_after env w.label d (Word (codes "eq")) place.Label) set
-  facts-operator front w d set e h =
+  pub facts-operator : (front : List Symbol) (w : GrammarState) (set : List BinaryPolicy) → may_test w.name w.label 0 ≡ true → Facts env old rows front place.Label w set →
+      Facts env old rows (front ++ Word (codes "eq") ∷ []) place.Text (record w { op = Eq }) set
+  facts-operator front w set e h =
       let s : Symbol = Word (codes "eq") in
-      facts-if (front ++ s ∷ []) (places_of_reading place.Label w d set) s (may_test w.name w.label 0) (Ok (record w { place = place.Text })) (Err (UnknownArgument w.label_at)) e
-      (line-keeps env old rows front place.Label w d set 0 s refl h)
+      facts-if (front ++ s ∷ []) (reading_at place.Label w set) s (may_test w.name w.label 0) (Ok (record w { place = place.Text; op = Eq })) (Err (UnknownArgument w.label_at)) e
+      (line-keeps env old rows front w set 0 place.Label s refl h)
 
-  ends-label : (front : List Symbol) (w : GrammarState) (d : Draft) (set : List BinaryPolicy) → may_test w.name w.label 0 ≡ true → Facts env old rows front place.Label w d set → Ending env old (rows ++ front)
-  ends-label front w d set e h =
+  ends-label : (front : List Symbol) (w : GrammarState) (set : List BinaryPolicy) → may_test w.name w.label 0 ≡ true → Facts env old rows front place.Label w set → Ending env old (rows ++ front)
+  ends-label front w set e h =
       let s : Symbol = Word (codes "eq") in
-      on front s (a-word (codes "eq") refl) (ends-text (front ++ s ∷ []) w (draft_after env w.label d s place.Label) set (facts-operator front w d set e h))
+      on front s (a-word (codes "eq") refl) (ends-text (front ++ s ∷ []) (record w { op = Eq }) set (facts-operator front w set e h))
 
-  pub facts-true : (front : List Symbol) (w : GrammarState) (d : Draft) (set : List BinaryPolicy) → Facts env old rows front place.Operand w d set → Facts env old rows (front ++ Word (codes "true") ∷ []) place.Joint w (draft_after env w.label d (Word (codes "true")) place.Operand) set
-  facts-true front w d set h = line-keeps env old rows front place.Operand w d set 0 (Word (codes "true")) refl h
+  pub facts-true : (front : List Symbol) (w : GrammarState) (set : List BinaryPolicy) → Facts env old rows front place.Operand w set → Facts env old rows (front ++ Word (codes "true") ∷ []) place.Joint (completed True w) set
+  facts-true front w set h = line-keeps env old rows front w set 0 place.Operand (Word (codes "true")) refl h
 
-  ends-operand : (front : List Symbol) (w : GrammarState) (d : Draft) (set : List BinaryPolicy) → Facts env old rows front place.Operand w d set → Ending env old (rows ++ front)
-  ends-operand front w d set h =
+  ends-operand : (front : List Symbol) (w : GrammarState) (set : List BinaryPolicy) → Facts env old rows front place.Operand w set → Ending env old (rows ++ front)
+  ends-operand front w set h =
       let s : Symbol = Word (codes "true") in
-      on front s (a-word (codes "true") refl) (ends-joint w.parens (front ++ s ∷ []) w (draft_after env w.label d s place.Operand) set refl (facts-true front w d set h))
+      on front s (a-word (codes "true") refl) (ends-joint w.parens (front ++ s ∷ []) (completed True w) set refl (facts-true front w set h))
 
-  ends-clause : (front : List Symbol) (w : GrammarState) (d : Draft) (set : List BinaryPolicy) → Facts env old rows front place.Clause w d set → Ending env old (rows ++ front)
-  ends-clause front w d set h =
+  ends-clause : (front : List Symbol) (w : GrammarState) (set : List BinaryPolicy) → Facts env old rows front place.Clause w set → Ending env old (rows ++ front)
+  ends-clause front w set h =
       let s : Symbol = Word (codes "permit") in
-      on front s (a-word (codes "permit") refl) (ends-tail (front ++ s ∷ []) w (draft_after env w.label d s place.Clause) set true true (line-keeps env old rows front place.Clause w d set 0 s refl h))
+      on front s (a-word (codes "permit") refl) (ends-tail (front ++ s ∷ []) (led env w set s place.Clause) set true true (line-keeps env old rows front w set 0 place.Clause s refl h))
 
-  ends-error_end : (front : List Symbol) (w : GrammarState) (d : Draft) (set : List BinaryPolicy) → Facts env old rows front place.ErrorEnd w d set → Ending env old (rows ++ front)
-  ends-error_end front w d set h = on front CloseBracket a-close_bracket (ends-tail (front ++ CloseBracket ∷ []) w d set false true (line-keeps env old rows front place.ErrorEnd w d set 0 CloseBracket refl h))
+  ends-error_end : (front : List Symbol) (w : GrammarState) (set : List BinaryPolicy) → Facts env old rows front place.ErrorEnd w set → Ending env old (rows ++ front)
+  ends-error_end front w set h = on front CloseBracket a-close_bracket (ends-tail (front ++ CloseBracket ∷ []) w set false true (line-keeps env old rows front w set 0 place.ErrorEnd CloseBracket refl h))
 
-  pub ends-error : (front : List Symbol) (w : GrammarState) (d : Draft) (set : List BinaryPolicy) → Facts env old rows front place.Error w d set → Ending env old (rows ++ front)
-  ends-error front w d set h =
+  pub ends-error : (front : List Symbol) (w : GrammarState) (set : List BinaryPolicy) → Facts env old rows front place.Error w set → Ending env old (rows ++ front)
+  ends-error front w set h =
       let s : Symbol = Word (codes "eperm") in
-      on front s (a-word (codes "eperm") refl) (ends-error_end (front ++ s ∷ []) w (draft_after env w.label d s place.Error) set (line-keeps env old rows front place.Error w d set 0 s refl h))
+      on front s (a-word (codes "eperm") refl) (ends-error_end (front ++ s ∷ []) (led env w set s place.Error) set (line-keeps env old rows front w set 0 place.Error s refl h))
 
-  ends-user : (front : List Symbol) (w : GrammarState) (d : Draft) (set : List BinaryPolicy) (log : Bool) → Facts env old rows front (place.User log) w d set → Ending env old (rows ++ front)
-  ends-user front w d set log h = row-ends front _ (line-is_sound env old rows front (place.User log) w d set 0 h)
+  ends-user : (front : List Symbol) (w : GrammarState) (set : List BinaryPolicy) (log : Bool) → Facts env old rows front (place.User log) w set → Ending env old (rows ++ front)
+  ends-user front w set log h = row-ends front _ (line-is_sound env old rows front w set (place.User log) 0 h)
 
-  ends-grant : (front : List Symbol) (w : GrammarState) (d : Draft) (set : List BinaryPolicy) (log : Bool) → Facts env old rows front (place.Grant log) w d set → Ending env old (rows ++ front)
-  ends-grant front w d set log h =
+  ends-grant : (front : List Symbol) (w : GrammarState) (set : List BinaryPolicy) (log : Bool) → Facts env old rows front (place.Grant log) w set → Ending env old (rows ++ front)
+  ends-grant front w set log h =
       let s : Symbol = Word (codes "0") in
-      on front s (a-word (codes "0") refl) (ends-user (front ++ s ∷ []) w (draft_after env w.label d s (place.Grant log)) set log (line-keeps env old rows front (place.Grant log) w d set 0 s refl h))
+      on front s (a-word (codes "0") refl) (ends-user (front ++ s ∷ []) (led env w set s (place.Grant log)) set log (line-keeps env old rows front w set 0 (place.Grant log) s refl h))
 
-  ends-group : (front : List Symbol) (w : GrammarState) (d : Draft) (set : List BinaryPolicy) (log : Bool) → Facts env old rows front (place.Group log) w d set → Ending env old (rows ++ front)
-  ends-group front w d set log h =
+  ends-group : (front : List Symbol) (w : GrammarState) (set : List BinaryPolicy) (log : Bool) → Facts env old rows front (place.Group log) w set → Ending env old (rows ++ front)
+  ends-group front w set log h =
       let s : Symbol = Word (codes "0") in
-      on front s (a-word (codes "0") refl) (ends-tail (front ++ s ∷ []) w (draft_after env w.label d s (place.Group log)) set false log (line-keeps env old rows front (place.Group log) w d set 0 s refl h))
+      on front s (a-word (codes "0") refl) (ends-tail (front ++ s ∷ []) (led env w set s (place.Group log)) set false log (line-keeps env old rows front w set 0 (place.Group log) s refl h))
 
-  ends-filter : (front : List Symbol) (w : GrammarState) (d : Draft) (set : List BinaryPolicy) → Facts env old rows front place.FilterEnd w d set → Ending env old (rows ++ front)
-  ends-filter front w d set h = row-ends front _ (line-is_sound env old rows front place.FilterEnd w d set 0 h)
+  ends-filter : (front : List Symbol) (w : GrammarState) (set : List BinaryPolicy) → Facts env old rows front place.FilterEnd w set → Ending env old (rows ++ front)
+  ends-filter front w set h = row-ends front _ (line-is_sound env old rows front w set place.FilterEnd 0 h)
 
-  ends-id : (front : List Symbol) (w : GrammarState) (d : Draft) (set : List BinaryPolicy) (who : Who) → Facts env old rows front (place.Id who) w d set → Ending env old (rows ++ front)
-  ends-id front w d set who h =
+  ends-id : (front : List Symbol) (w : GrammarState) (set : List BinaryPolicy) (who : Who) → Facts env old rows front (place.Id who) w set → Ending env old (rows ++ front)
+  ends-id front w set who h =
       let s : Symbol = Word (codes "0") in
-      on front s (a-word (codes "0") refl) (ends-filter (front ++ s ∷ []) w (draft_after env w.label d s (place.Id who)) set (line-keeps env old rows front (place.Id who) w d set 0 s refl h))
+      on front s (a-word (codes "0") refl) (ends-filter (front ++ s ∷ []) (led env w set s (place.Id who)) set (line-keeps env old rows front w set 0 (place.Id who) s refl h))
 
-  ends-comparison : (front : List Symbol) (w : GrammarState) (d : Draft) (set : List BinaryPolicy) (who : Who) → Facts env old rows front (place.Comparison who) w d set → Ending env old (rows ++ front)
-  ends-comparison front w d set who h =
-      on front Equal an-equal (ends-id (front ++ Equal ∷ []) w (draft_after env w.label d Equal (place.Comparison who)) set who (line-keeps env old rows front (place.Comparison who) w d set 0 Equal refl h))
+  ends-comparison : (front : List Symbol) (w : GrammarState) (set : List BinaryPolicy) (who : Who) → Facts env old rows front (place.Comparison who) w set → Ending env old (rows ++ front)
+  ends-comparison front w set who h =
+      on front Equal an-equal (ends-id (front ++ Equal ∷ []) (led env w set Equal (place.Comparison who)) set who (line-keeps env old rows front w set 0 (place.Comparison who) Equal refl h))
 
-  ends-who : (front : List Symbol) (w : GrammarState) (d : Draft) (set : List BinaryPolicy) → Facts env old rows front place.Who w d set → Ending env old (rows ++ front)
-  ends-who front w d set h =
+  ends-who : (front : List Symbol) (w : GrammarState) (set : List BinaryPolicy) → Facts env old rows front place.Who w set → Ending env old (rows ++ front)
+  ends-who front w set h =
       let s : Symbol = Word (codes "user") in
-      on front s (a-word (codes "user") refl) (ends-comparison (front ++ s ∷ []) w d set whose.User (line-keeps env old rows front place.Who w d set 0 s refl h))
+      on front s (a-word (codes "user") refl) (ends-comparison (front ++ s ∷ []) w set whose.User (line-keeps env old rows front w set 0 place.Who s refl h))
 
-  ends-if : (front : List Symbol) (w : GrammarState) (d : Draft) (set : List BinaryPolicy) → Facts env old rows front place.If w d set → Ending env old (rows ++ front)
-  ends-if front w d set h =
+  ends-if : (front : List Symbol) (w : GrammarState) (set : List BinaryPolicy) → Facts env old rows front place.If w set → Ending env old (rows ++ front)
+  ends-if front w set h =
       let s : Symbol = Word (codes "if") in
-      on front s (a-word (codes "if") refl) (ends-who (front ++ s ∷ []) w d set (line-keeps env old rows front place.If w d set 0 s refl h))
+      on front s (a-word (codes "if") refl) (ends-who (front ++ s ∷ []) w set (line-keeps env old rows front w set 0 place.If s refl h))
 
-  ends-header : (front : List Symbol) (w : GrammarState) (d : Draft) (set : List BinaryPolicy) → Facts env old rows front place.HeaderEnd w d set → Ending env old (rows ++ front)
-  ends-header front w d set h = row-ends front _ (line-is_sound env old rows front place.HeaderEnd w d set 0 h)
+  ends-header : (front : List Symbol) (w : GrammarState) (set : List BinaryPolicy) → Facts env old rows front place.HeaderEnd w set → Ending env old (rows ++ front)
+  ends-header front w set h = row-ends front _ (line-is_sound env old rows front w set place.HeaderEnd 0 h)
 
-  ends-system : (front : List Symbol) (w : GrammarState) (d : Draft) (set : List BinaryPolicy) → Facts env old rows front place.System w d set → Ending env old (rows ++ front)
-  ends-system front w d set h =
+  ends-system : (front : List Symbol) (w : GrammarState) (set : List BinaryPolicy) → Facts env old rows front place.System w set → Ending env old (rows ++ front)
+  ends-system front w set h =
       let s : Symbol = Word (codes "native") in
-      on front s (a-word (codes "native") refl) (ends-header (front ++ s ∷ []) w d set (line-keeps env old rows front place.System w d set 0 s refl h))
+      on front s (a-word (codes "native") refl) (ends-header (front ++ s ∷ []) w set (line-keeps env old rows front w set 0 place.System s refl h))
 
-  ends-emulation_colon : (front : List Symbol) (w : GrammarState) (d : Draft) (set : List BinaryPolicy) → Facts env old rows front place.EmulationColon w d set → Ending env old (rows ++ front)
-  ends-emulation_colon front w d set h = on front Colon a-colon (ends-system (front ++ Colon ∷ []) w d set (line-keeps env old rows front place.EmulationColon w d set 0 Colon refl h))
+  ends-emulation_colon : (front : List Symbol) (w : GrammarState) (set : List BinaryPolicy) → Facts env old rows front place.EmulationColon w set → Ending env old (rows ++ front)
+  ends-emulation_colon front w set h = on front Colon a-colon (ends-system (front ++ Colon ∷ []) w set (line-keeps env old rows front w set 0 place.EmulationColon Colon refl h))
 
-  ends-emulation : (front : List Symbol) (w : GrammarState) (d : Draft) (set : List BinaryPolicy) → Facts env old rows front place.Emulation w d set → Ending env old (rows ++ front)
-  ends-emulation front w d set h =
+  ends-emulation : (front : List Symbol) (w : GrammarState) (set : List BinaryPolicy) → Facts env old rows front place.Emulation w set → Ending env old (rows ++ front)
+  ends-emulation front w set h =
       let s : Symbol = Word (codes "Emulation") in
-      on front s (a-word (codes "Emulation") refl) (ends-emulation_colon (front ++ s ∷ []) w d set (line-keeps env old rows front place.Emulation w d set 0 s refl h))
+      on front s (a-word (codes "Emulation") refl) (ends-emulation_colon (front ++ s ∷ []) w set (line-keeps env old rows front w set 0 place.Emulation s refl h))
 
-  ends-comma : (front : List Symbol) (w : GrammarState) (d : Draft) (set : List BinaryPolicy) → Facts env old rows front place.Comma w d set → Ending env old (rows ++ front)
-  ends-comma front w d set h = on front Comma a-comma (ends-emulation (front ++ Comma ∷ []) w d set (line-keeps env old rows front place.Comma w d set 0 Comma refl h))
+  ends-comma : (front : List Symbol) (w : GrammarState) (set : List BinaryPolicy) → Facts env old rows front place.Comma w set → Ending env old (rows ++ front)
+  ends-comma front w set h = on front Comma a-comma (ends-emulation (front ++ Comma ∷ []) w set (line-keeps env old rows front w set 0 place.Comma Comma refl h))
 
-  ends-binary : (front : List Symbol) (w : GrammarState) (d : Draft) (set : List BinaryPolicy) → Facts env old rows front place.Binary w d set → Ending env old (rows ++ front)
-  ends-binary front w d set h =
+  ends-binary : (front : List Symbol) (w : GrammarState) (set : List BinaryPolicy) → Facts env old rows front place.Binary w set → Ending env old (rows ++ front)
+  ends-binary front w set h =
       let path : List ℕ = new_path (binaries set) in
       let s : Symbol = Word path in
-      let r : Reading = places_of_reading place.Binary w d set in
-      let bad : StepResult = Err (DuplicatePolicy 0) in
-      let good : StepResult = Ok (record w { place = place.Comma }) in
-      let P : Option (List ℕ) → Type 0 = λ o. HasFacts env old rows (front ++ s ∷ []) (reading_step env r s (step_binary (binaries set) (record w { place = place.Binary }) 0 o)) in
+      let is : binary_of env s ≡ Some path = path-binary env (binaries set) in
+      let new : list_any (λ b. bytes_eq b path) (binaries set) ≡ false = path-new (binaries set) in
       on front s (a-word path (path-word (binaries set)))
-      (ends-comma (front ++ s ∷ []) w d (set ++ new_policy (binary_of env s))
-      (subst (λ (c : Bool). HasFacts env old rows (front ++ s ∷ []) (reading_step env r s (if c then bad else good))) (path-new (binaries set))
-      (subst P (path-binary env (binaries set)) (line-keeps env old rows front place.Binary w d set 0 s refl h))))
+      (ends-comma (front ++ s ∷ []) w (set ++ new_policy (binary_of env s)) (rw (is, new) at (line-keeps env old rows front w set 0 place.Binary s refl h)))
 
   -- from each place a row can be ended
-  pub ends-place : (front : List Symbol) (p : Place) (w : GrammarState) (d : Draft) (set : List BinaryPolicy) → MayEnd p w → Facts env old rows front p w d set → Ending env old (rows ++ front)
-  ends-place front place.Start w d set m h = row-ends front _ (line-is_sound env old rows front place.Start w d set 0 h)
-  ends-place front place.Row w d set m h = row-ends front _ (line-is_sound env old rows front place.Row w d set 0 h)
-  ends-place front place.PolicyColon w d set m h = on front Colon a-colon (ends-binary (front ++ Colon ∷ []) w d set (line-keeps env old rows front place.PolicyColon w d set 0 Colon refl h))
-  ends-place front place.Binary w d set m h = ends-binary front w d set h
-  ends-place front place.Comma w d set m h = ends-comma front w d set h
-  ends-place front place.Emulation w d set m h = ends-emulation front w d set h
-  ends-place front place.EmulationColon w d set m h = ends-emulation_colon front w d set h
-  ends-place front place.System w d set m h = ends-system front w d set h
-  ends-place front place.HeaderEnd w d set m h = ends-header front w d set h
-  ends-place front place.NameColon w d set m h = on front Colon a-colon (ends-clause (front ++ Colon ∷ []) (record w { place = place.Clause }) d set (line-keeps env old rows front place.NameColon w d set 0 Colon refl h))
-  ends-place front place.Clause w d set m h = ends-clause front w d set h
-  ends-place front place.Operand w d set m h = ends-operand front w d set h
-  ends-place front place.Label w d set m h = ends-label front w d set m h
-  ends-place front place.Index w d set m h = ends-index front w d set m h
-  ends-place front place.IndexEnd w d set m h = ends-index_end front w d set h
-  ends-place front place.Operator w d set m h = ends-operator front w d set h
-  ends-place front place.Text w d set m h = ends-text front w d set h
-  ends-place front place.Joint w d set m h = ends-joint w.parens front w d set refl h
-  ends-place front place.Action w d set m h = ends-action front w d set h
-  ends-place front place.Denial w d set m h = row-ends front _ (line-is_sound env old rows front place.Denial w d set 0 h)
-  ends-place front place.Error w d set m h = ends-error front w d set h
-  ends-place front place.ErrorEnd w d set m h = ends-error_end front w d set h
-  ends-place front (place.Tail grant log) w d set m h = ends-tail front w d set grant log h
-  ends-place front (place.Grant log) w d set m h = ends-grant front w d set log h
-  ends-place front (place.User log) w d set m h = ends-user front w d set log h
-  ends-place front (place.Group log) w d set m h = ends-group front w d set log h
-  ends-place front place.If w d set m h = ends-if front w d set h
-  ends-place front place.Who w d set m h = ends-who front w d set h
-  ends-place front (place.Comparison who) w d set m h = ends-comparison front w d set who h
-  ends-place front (place.Id who) w d set m h = ends-id front w d set who h
-  ends-place front place.FilterEnd w d set m h = ends-filter front w d set h
+  pub ends-place : (front : List Symbol) (p : Place) (w : GrammarState) (set : List BinaryPolicy) → MayEnd p w → Facts env old rows front p w set → Ending env old (rows ++ front)
+  ends-place front place.Start w set m h = row-ends front _ (line-is_sound env old rows front w set place.Start 0 h)
+  ends-place front place.Row w set m h = row-ends front _ (line-is_sound env old rows front w set place.Row 0 h)
+  ends-place front place.PolicyColon w set m h = on front Colon a-colon (ends-binary (front ++ Colon ∷ []) w set (line-keeps env old rows front w set 0 place.PolicyColon Colon refl h))
+  ends-place front place.Binary w set m h = ends-binary front w set h
+  ends-place front place.Comma w set m h = ends-comma front w set h
+  ends-place front place.Emulation w set m h = ends-emulation front w set h
+  ends-place front place.EmulationColon w set m h = ends-emulation_colon front w set h
+  ends-place front place.System w set m h = ends-system front w set h
+  ends-place front place.HeaderEnd w set m h = ends-header front w set h
+  ends-place front place.NameColon w set m h = on front Colon a-colon (ends-clause (front ++ Colon ∷ []) (record w { place = place.Clause }) set (line-keeps env old rows front w set 0 place.NameColon Colon refl h))
+  ends-place front place.Clause w set m h = ends-clause front w set h
+  ends-place front place.Operand w set m h = ends-operand front w set h
+  ends-place front place.Label w set m h = ends-label front w set m h
+  ends-place front place.Index w set m h = ends-index front w set m h
+  ends-place front place.IndexEnd w set m h = ends-index_end front w set h
+  ends-place front place.Operator w set m h = ends-operator front w set h
+  ends-place front place.Text w set m h = ends-text front w set h
+  ends-place front place.Joint w set m h = ends-joint w.parens front w set refl h
+  ends-place front place.Action w set m h = ends-action front w set h
+  ends-place front place.Denial w set m h = row-ends front _ (line-is_sound env old rows front w set place.Denial 0 h)
+  ends-place front place.Error w set m h = ends-error front w set h
+  ends-place front place.ErrorEnd w set m h = ends-error_end front w set h
+  ends-place front (place.Tail grant log) w set m h = ends-tail front w set grant log h
+  ends-place front (place.Grant log) w set m h = ends-grant front w set log h
+  ends-place front (place.User log) w set m h = ends-user front w set log h
+  ends-place front (place.Group log) w set m h = ends-group front w set log h
+  ends-place front place.If w set m h = ends-if front w set h
+  ends-place front place.Who w set m h = ends-who front w set h
+  ends-place front (place.Comparison who) w set m h = ends-comparison front w set who h
+  ends-place front (place.Id who) w set m h = ends-id front w set who h
+  ends-place front place.FilterEnd w set m h = ends-filter front w set h

@@ -50,20 +50,20 @@ module _ (text : List ℕ) (env : Env) (old : List BinaryPolicy) where
 
   end-goes : (before : List Token) → (lexed_text text).tokens ≡ before ++ [] → (broken : Option LexFault) (r q : Reading) (at : ℕ) → read_step env r at (symbol_at_end broken) ≡ Ok q → Ending env old (symbols_at text before ++ symbol_at_end broken ∷ []) → GoesOn env old (symbols_at text before ++ symbol_at_end broken ∷ [])
   end-goes before parts None r q at e ending = text-goes_on text env old before [] parts (Line ∷ []) a-line ending
-  end-goes before parts (Some broken) r q at e ending = absurd (subst IsFault e (broken-step env r.walk.place r.walk r.draft r.set at))
+  end-goes before parts (Some broken) r q at e ending = absurd (subst IsFault e (broken-step env r.walk.place r.walk r.set at))
 
   -- with a symbol behind which a row can be ended the text goes on
   fits-on : (before behind : List Token) → (lexed_text text).tokens ≡ before ++ behind → (r q : Reading) → Stands env old (symbols_at text before) r → read_step env r (place_here text behind) (symbol_here text behind) ≡ Ok q → MayEnd q.walk.place q.walk → GoesOn env old (symbols_at text before ++ symbol_here text behind ∷ [])
   fits-on before [] parts r q h e m =
       let s : Symbol = symbol_here text [] in
       let k : Stands env old (symbols_at text before ++ s ∷ []) q = subst (StandsAfter env old (symbols_at text before ++ s ∷ [])) e (stands-step env old (symbols_at text before) r (length text) s h) in
-      end-goes before parts (lexed_text text).fault r q (length text) e (subst (Ending env old) (sym k.parts) (ends-place env old k.rows k.front q.walk.place q.walk q.draft q.set m k.facts))
+      end-goes before parts (lexed_text text).fault r q (length text) e (subst (Ending env old) (sym k.parts) (ends-place env old k.rows k.front q.walk.place q.walk q.set m k.facts))
   fits-on before (t ∷ ts) parts r q h e m =
       let s : Symbol = symbol_of text t in
       let k : Stands env old (symbols_at text before ++ s ∷ []) q = subst (StandsAfter env old (symbols_at text before ++ s ∷ [])) e (stands-step env old (symbols_at text before) r t.at s h) in
       let same : symbols_at text (before ++ t ∷ []) ≡ symbols_at text before ++ s ∷ [] = map-append (symbol_of text) before (t ∷ []) in
       let cut : (lexed_text text).tokens ≡ (before ++ t ∷ []) ++ ts = parts ∙ sym (append_assoc before (t ∷ []) ts) in
-      subst (GoesOn env old) same (goes-here text env old (before ++ t ∷ []) ts cut k.rows k.front (same ∙ k.parts) (ends-place env old k.rows k.front q.walk.place q.walk q.draft q.set m k.facts))
+      subst (GoesOn env old) same (goes-here text env old (before ++ t ∷ []) ts cut k.rows k.front (same ∙ k.parts) (ends-place env old k.rows k.front q.walk.place q.walk q.set m k.facts))
 
   -- ---- what is told
 

@@ -1,81 +1,35 @@
 -- The first fault of a filter alone is that of a policy in which the filter stands below a header, but behind a filter's row.
 use Rattle.std.proofs.Common.{◌≡◌, ℕ, ◌+◌, ◌≢◌, Bool, true, false, List, [], ◌∷◌, ◌++◌, length, map, codes, Option, None, Some, Ok, Err, if◌then◌else◌, refl, ap, sym, subst, ◌∙◌, arith, append_assoc, append-nil, length-append}
 use Rattle.std.specs.Str.{bytes_eq}
-use Rattle.st_grammar.proofs.Common.{add_filter, AreRows, binaries, BinaryPolicy, Broken, Colon, Comma, Draft, draft_after, draft_step, error_in, fault_after, fault_in, filter_in, filter_name, filter_of, FilterName, FilterResult, FilterValue, first_draft, first_reading, GrammarState, Header, is_binary_place, is_line, IsFilter, Lexed, lexed_text, LexFault, lexical, Line, may_test, may_test_label, next, NoRow, optional_fault_after, read_from, read_step, Reading, reading_of, reading_step, set_after, step, step_name, step_to, StepResult, Symbol, symbol_of, Token, unless_lexical, Word}
+use Rattle.st_grammar.proofs.Common.{add_filter, AreRows, as_reading, binaries, BinaryPolicy, Broken, Colon, Comma, fault_after, fault_in, fault_of, filter_in, filter_name, filter_of, FilterName, FilterResult, FilterValue, first_reading, fresh, GrammarState, Header, is_binary_place, is_line, IsFilter, Lexed, lexed_text, LexFault, lexical, Line, next, NoRow, optional_fault_after, or_refused, read_from, read_step, Reading, reading_step, step_name, step_to, StepResult, Symbol, symbol_of, Token, unless_lexical, Word}
 use Rattle.st_grammar.specs.declared.env.Env.{Env}
 use Rattle.st_grammar.specs.declared.fault.PolicyFault.TheVariants.{Expected, Lex, UnknownCall}
-use Rattle.st_grammar.specs.declared.place.Place.{Place}
 use Rattle.st_grammar.specs.declared.fault.PolicyFault.{PolicyFault}
 use Rattle.st_grammar.specs.declared.place.Place.TheVariants as place
 use Rattle.st_filter.specs.declared.filter.FilterName.TheVariants as name
-use Rattle.st_grammar.specs.Diagram.{first_walk}
 use Rattle.st_grammar.specs.OneFilter.{behind_filter, if_ended, if_broken, filter_at_end, filter_from, begin_filter, no_filter, filter_of_tokens}
-use Rattle.st_grammar.proofs.ActionsKept.{denial-tails}
 use Rattle.st_grammar.proofs.Texts.{result_after}
+use Rattle.st_grammar.proofs.Clauses.{line-symbol}
 use Rattle.st_grammar.proofs.FilterRows.{passes-filter}
 use Rattle.st_grammar.proofs.Filters.{HasFilters}
 use Rattle.st_grammar.proofs.Fronts.{Facts, HasFacts}
 use Rattle.st_grammar.proofs.Keywords.{same-word}
-use Rattle.st_grammar.proofs.PredicatesKept.{predicate-filter, tail-filter}
 use Rattle.st_grammar.proofs.Readings.{Placed, symbols, Read, read_over, reading_followed, Leads, At, stands}
-use Rattle.st_grammar.proofs.RowsKept.{fresh_policy}
-use Rattle.st_grammar.proofs.Sound.{IsFault, line-keeps, broken-step}
-use Rattle.st_grammar.proofs.TailsKept.{user-tails}
+use Rattle.st_grammar.proofs.Kept.{line-keeps}
+use Rattle.st_grammar.proofs.OneFilters.{IsNamed, behind-same, named-more, no-binary, spelled}
+use Rattle.st_grammar.proofs.Policies.{fresh_policy}
+use Rattle.st_grammar.proofs.Sound.{IsFault, broken-step}
 use Rattle.st_first_fault.specs.FilterFault.{header, moved, BeginsWith, AreInLine, IsMore, EndsEarly, IsFirstFilterFault, NoName, Headed, BehindRow, InRow}
 use Rattle.st_first_fault.specs.FirstFault.{fault_by, plain_fault, symbols_at}
 use Rattle.st_first_fault.proofs.Below.{header_tokens, moved_token, moved_tokens, symbol-moved, below-header}
 use Rattle.st_first_fault.proofs.FirstFaults.{first-fault}
 use Rattle.st_first_fault.proofs.MovedFaults.{SameWalk, Moved, Went, Stopped, next-moved, lexical-moved}
 
--- ---- symbols behind a filter's name
-
--- the row so far begins with a filter's name
-record IsNamed (front : List Symbol) : Type 0 where
-  word : List ℕ
-  name : FilterName
-  more : List Symbol
-  front_is : front ≡ Word word ∷ more
-  name_is : filter_name word ≡ Some name
-
-named-more : (front : List Symbol) (s : Symbol) → IsNamed front → IsNamed (front ++ s ∷ [])
-named-more front s h = record { word = h.word; name = h.name; more = h.more ++ s ∷ []; front_is = ap (λ (ts : List Symbol). ts ++ s ∷ []) h.front_is; name_is = h.name_is }
-
 -- `Policy` is no filter's name
 pub no-policy : (word : List ℕ) (name : FilterName) → filter_name word ≡ Some name → word ≢ codes "Policy"
 no-policy word name e p =
     let none : filter_name (codes "Policy") ≡ Some name = ap filter_name (sym p) ∙ e in
     cc
-
-named-not : (front more : List Symbol) → IsNamed front → front ≢ Word (codes "Policy") ∷ more
-named-not front more h e =
-    let f : front ≡ Word h.word ∷ h.more = h.front_is in
-    let same : h.word ≡ codes "Policy" = cc in
-    no-policy h.word h.name h.name_is same
-
-named-some : (front : List Symbol) → IsNamed front → front ≢ []
-named-some front h e = let f : front ≡ Word h.word ∷ h.more = h.front_is in cc
-
-neither : (b : Bool) (x y : PolicyFault) (v : GrammarState) → (if b then Err x else Err y) ≡ Ok v → ⊥
-neither true x y v e = cc
-neither false x y v e = cc
-
-module _ (env : Env) (rows front : List Symbol) (w : GrammarState) (d : Draft) (set : List BinaryPolicy) (named : IsNamed front) where
-  no-binary : (p : Place) → Facts env [] rows front p w d set → is_binary_place p ≡ false
-  no-binary place.Binary h = absurd (named-not front (Colon ∷ []) named h.front_is)
-  no-binary p h = refl
-
-  -- where a Line may stand a filter has been spelled
-  spelled : (at : ℕ) (known : List (List ℕ)) (v : GrammarState) (p : Place) → Facts env [] rows front p w d set → step env known w at Line p ≡ Ok v → IsFilter env front (filter_of w.name d)
-  spelled at known v place.Start h e = absurd (named-some front named h.front_is)
-  spelled at known v place.Row h e = absurd (named-some front named h.front_is)
-  spelled at known v place.HeaderEnd h e = absurd (named-not front _ named h.front_is)
-  spelled at known v place.Denial h e = tail-filter env [] rows front w d set at false true (denial-tails env [] rows front w d set at h)
-  spelled at known v (place.Tail grant log) h e = tail-filter env [] rows front w d set at grant log h
-  spelled at known v (place.User log) h e = tail-filter env [] rows front w d set at false log (user-tails env [] rows front w d set at log h)
-  spelled at known v place.FilterEnd h e = predicate-filter env [] rows front w d set at h
-  spelled at known v place.Label h e = absurd (neither (may_test w.name w.label 0) _ _ v e)
-  spelled at known v place.Index h e = absurd (neither (may_test_label w.name w.label) _ _ v e)
-  spelled at known v p h e = absurd (cc)
 
 -- ---- what is found
 
@@ -89,7 +43,7 @@ symbols-below n text (t ∷ ts) line e = ap (λ (ss : List Symbol). symbol_of te
 
 -- below the header the reading stops with the fault that is moved, and no line that it reads has ended before
 record StopsBelow (env : Env) (text big : List ℕ) (n lines : ℕ) (r : Reading) (ts : List Token) (fault : PolicyFault) : Type 0 where
-  stops : read_from env big (optional_fault_after n (lexed_text text).fault) r (moved_tokens n lines ts) ≡ Err (moved n fault)
+  stops : fault_of (read_from env big (optional_fault_after n (lexed_text text).fault) r (moved_tokens n lines ts)) ≡ Some (moved n fault)
   none : (row : List Token) (line : Token) (behind : List Token) (q : Reading) → ts ≡ row ++ line ∷ behind → symbol_of text line ≡ Line → read_over env r (placed_below n text (row ++ line ∷ [])) ≡ Ok q → ⊥
 
 -- a filter's row has ended, and the fault is behind it
@@ -110,10 +64,6 @@ data IsFound (env : Env) (text big : List ℕ) (n lines : ℕ) (r : Reading) (fr
   Below : StopsBelow env text big n lines r ts fault → IsFound env text big n lines r front ts fault
   Early : StopsBehind env text front ts fault → IsFound env text big n lines r front ts fault
 
-line-symbol : (s : Symbol) → is_line s ≡ true → s ≡ Line
-line-symbol Line e = refl
-line-symbol s e = absurd (cc)
-
 pub not-line : (s : Symbol) → is_line s ≡ false → s ≢ Line
 not-line s e h = let line : is_line s ≡ true = ap is_line h in cc
 
@@ -132,8 +82,8 @@ abbrev refusal : PolicyFault → Read
 refusal fault = Err fault
 
 -- what a token of a filter leads to, by what it comes to in the grammar
-abbrev followed : FilterResult → (GrammarState → FilterResult) → Bool → StepResult → FilterResult
-followed ended goes_on line (Ok w) = if line then ended else goes_on w
+abbrev followed : (GrammarState → FilterResult) → (GrammarState → FilterResult) → Bool → StepResult → FilterResult
+followed ended goes_on line (Ok w) = if line then ended w else goes_on w
 followed ended goes_on line (Err fault) = Err fault
 
 module _ (env : Env) (text big : List ℕ) (n lines : ℕ) (long : length big ≡ n + length text) (seen : (t : Token) → symbol_of big (moved_token n lines t) ≡ symbol_of text t) where
@@ -142,8 +92,8 @@ module _ (env : Env) (text big : List ℕ) (n lines : ℕ) (long : length big �
 
   -- ---- one token
 
-  read-token : (r : Reading) (t : Token) (ts : List Token) → read_from env big (optional_fault_after n (lexed_text text).fault) r (moved_tokens n lines (t ∷ ts)) ≡ result_after env big (optional_fault_after n (lexed_text text).fault) (moved_tokens n lines ts) (read_step env r (n + t.at) (symbol_of text t))
-  read-token r t ts = ap (λ (s : Symbol). result_after env big (optional_fault_after n (lexed_text text).fault) (moved_tokens n lines ts) (read_step env r (n + t.at) s)) (seen t)
+  read-token : (r : Reading) (t : Token) (ts : List Token) → read_from env big (optional_fault_after n (lexed_text text).fault) r (moved_tokens n lines (t ∷ ts)) ≡ result_after env big (optional_fault_after n (lexed_text text).fault) r (moved_tokens n lines ts) (read_step env r (n + t.at) (symbol_of text t))
+  read-token r t ts = ap (λ (s : Symbol). result_after env big (optional_fault_after n (lexed_text text).fault) r (moved_tokens n lines ts) (read_step env r (n + t.at) s)) (seen t)
 
   refused : (r : Reading) (t : Token) (found : PolicyFault) → read_step env r (n + t.at) (symbol_of text t) ≡ Err found → (z : Token) (zs : List Token) (q : Reading) → t ≡ z → read_over env r (placed_below n text (z ∷ zs)) ≡ Ok q → ⊥
   refused r t found e z zs q same over =
@@ -158,7 +108,7 @@ module _ (env : Env) (text big : List ℕ) (n lines : ℕ) (long : length big �
 
   token-stops : (r : Reading) (front : List Symbol) (t : Token) (ts : List Token) (fault : PolicyFault) → read_step env r (n + t.at) (symbol_of text t) ≡ Err (moved n fault) → Finds r front (t ∷ ts) fault
   token-stops r front t ts fault e = Below (record {
-    stops = read-token r t ts ∙ ap (result_after env big (optional_fault_after n (lexed_text text).fault) (moved_tokens n lines ts)) e;
+    stops = ap fault_of (read-token r t ts ∙ ap (result_after env big (optional_fault_after n (lexed_text text).fault) r (moved_tokens n lines ts)) e);
     none = λ row line behind q parts ends over. none-here r t ts (moved n fault) e row line behind q parts over;
   })
 
@@ -176,7 +126,7 @@ module _ (env : Env) (text big : List ℕ) (n lines : ℕ) (long : length big �
 
   token-goes : (r next : Reading) (front : List Symbol) (t : Token) (ts : List Token) (fault : PolicyFault) → read_step env r (n + t.at) (symbol_of text t) ≡ Ok next → is_line (symbol_of text t) ≡ false → Finds next (front ++ symbol_of text t ∷ []) ts fault → Finds r front (t ∷ ts) fault
   token-goes r next front t ts fault e in_line (Below b) = Below (record {
-    stops = read-token r t ts ∙ ap (result_after env big (optional_fault_after n (lexed_text text).fault) (moved_tokens n lines ts)) e ∙ b.stops;
+    stops = ap fault_of (read-token r t ts ∙ ap (result_after env big (optional_fault_after n (lexed_text text).fault) r (moved_tokens n lines ts)) e) ∙ b.stops;
     none = none-later r next t ts fault e in_line b;
   })
   token-goes r next front t ts fault e in_line (Early a) = Early (record {
@@ -194,49 +144,48 @@ module _ (env : Env) (text big : List ℕ) (n lines : ℕ) (long : length big �
 
   -- ---- the end of the tokens
 
-  line-end : (r : Reading) (f : FilterValue) (fault : PolicyFault) (x y : StepResult) → Moved n x y → next env (binaries r.set) r.walk (n + length text) Line ≡ y → if_ended f x ≡ Err fault → read_step env r (n + length text) Line ≡ Err (moved n fault)
-  line-end r f fault _ _ (Went w v h) e is = absurd (cc)
-  line-end r f fault _ _ (Stopped found) e is =
+  line-end : (r : Reading) (fault : PolicyFault) (x y : StepResult) → Moved n x y → next env (binaries r.set) r.walk (n + length text) Line ≡ y → if_ended x ≡ Err fault → read_step env r (n + length text) Line ≡ Err (moved n fault)
+  line-end r fault _ _ (Went w v h) e is = absurd (cc)
+  line-end r fault _ _ (Stopped found) e is =
       let same : found ≡ fault = cc in
       ap (reading_step env r Line) e ∙ ap (λ (g : PolicyFault). refusal (moved n g)) same
 
   broken-end : (r : Reading) (broken : LexFault) (fault : PolicyFault) (x y : StepResult) → Moved n x y → next env (binaries r.set) r.walk (n + length text) Broken ≡ y → if_broken broken x ≡ Err fault →
       unless_lexical (fault_after n broken) (read_step env r (n + length text) Broken) ≡ Err (moved n fault)
-  broken-end r broken fault _ _ (Went w v h) e is = absurd (subst IsFault (ap (reading_step env r Broken) e) (broken-step env r.walk.place r.walk r.draft r.set (n + length text)))
+  broken-end r broken fault _ _ (Went w v h) e is = absurd (subst IsFault (ap (reading_step env r Broken) e) (broken-step env r.walk.place r.walk r.set (n + length text)))
   broken-end r broken fault _ _ (Stopped found) e is =
       let same : lexical broken found ≡ fault = cc in
       ap (λ (y : StepResult). unless_lexical (fault_after n broken) (reading_step env r Broken y)) e
       ∙ ap refusal (lexical-moved n broken found)
       ∙ ap (λ (g : PolicyFault). refusal (moved n g)) same
 
-  end-stops : (w : GrammarState) (d : Draft) (r : Reading) (fault : PolicyFault) → is_binary_place w.place ≡ false → SameWalk n w r.walk → (broken : Option LexFault) → filter_at_end env (length text) w d broken ≡ Err fault →
-      read_from env big (optional_fault_after n broken) r [] ≡ Err (moved n fault)
-  end-stops w d r fault elsewhere same None e =
-      ap (λ (m : ℕ). read_step env r m Line) long
-      ∙ line-end r (filter_of w.name d) fault (next env [] w (length text) Line) (next env (binaries r.set) r.walk (n + length text) Line) (next-moved n (length text) env (binaries r.set) w r.walk Line elsewhere same) refl e
-  end-stops w d r fault elsewhere same (Some broken) e =
-      ap (λ (m : ℕ). unless_lexical (fault_after n broken) (read_step env r m Broken)) long
-      ∙ broken-end r broken fault (next env [] w (length text) Broken) (next env (binaries r.set) r.walk (n + length text) Broken) (next-moved n (length text) env (binaries r.set) w r.walk Broken elsewhere same) refl e
+  end-stops : (w : GrammarState) (r : Reading) (fault : PolicyFault) → is_binary_place w.place ≡ false → SameWalk n w r.walk → (broken : Option LexFault) → filter_at_end env (length text) w broken ≡ Err fault →
+      fault_of (read_from env big (optional_fault_after n broken) r []) ≡ Some (moved n fault)
+  end-stops w r fault elsewhere same None e =
+      ap (λ (m : ℕ). fault_of (or_refused r (read_step env r m Line))) long
+      ∙ ap (λ (x : Read). fault_of (or_refused r x)) (line-end r fault (next env [] w (length text) Line) (next env (binaries r.set) r.walk (n + length text) Line) (next-moved n (length text) env (binaries r.set) w r.walk Line elsewhere same) refl e)
+  end-stops w r fault elsewhere same (Some broken) e =
+      ap (λ (m : ℕ). fault_of (or_refused r (unless_lexical (fault_after n broken) (read_step env r m Broken)))) long
+      ∙ ap (λ (x : Read). fault_of (or_refused r x)) (broken-end r broken fault (next env [] w (length text) Broken) (next env (binaries r.set) r.walk (n + length text) Broken) (next-moved n (length text) env (binaries r.set) w r.walk Broken elsewhere same) refl e)
 
   -- ---- all tokens behind a filter's name
 
   module _ (rows : List Symbol) where
     -- what is found behind a token, by what is found behind the next one
     abbrev Later : List Token → Type 0
-    Later ts = (front : List Symbol) (w : GrammarState) (d : Draft) (r : Reading) (fault : PolicyFault) → IsNamed front → SameWalk n w r.walk → Facts env [] rows front r.walk.place r.walk r.draft r.set → filter_from env text (lexed_text text).fault w d ts ≡ Err fault → Finds r front ts fault
+    Later ts = (front : List Symbol) (w : GrammarState) (r : Reading) (fault : PolicyFault) → IsNamed front → SameWalk n w r.walk → Facts env [] rows front r.walk.place r.walk r.set → filter_from env text (lexed_text text).fault w ts ≡ Err fault → Finds r front ts fault
 
-    elsewhere : (front : List Symbol) (w : GrammarState) (r : Reading) → IsNamed front → SameWalk n w r.walk → Facts env [] rows front r.walk.place r.walk r.draft r.set → is_binary_place w.place ≡ false
+    elsewhere : (front : List Symbol) (w : GrammarState) (r : Reading) → IsNamed front → SameWalk n w r.walk → Facts env [] rows front r.walk.place r.walk r.set → is_binary_place w.place ≡ false
     elsewhere front w r named same facts =
         let here : r.walk.place ≡ w.place = ap (λ (v : GrammarState). v.place) same.same in
-        ap is_binary_place (sym here) ∙ no-binary env rows front r.walk r.draft r.set named r.walk.place facts
+        ap is_binary_place (sym here) ∙ no-binary env rows front r.walk r.set named r.walk.place facts
 
-    at-line : (front : List Symbol) (w : GrammarState) (d : Draft) (r : Reading) (fault : PolicyFault) (t : Token) (ts : List Token) → IsNamed front → Facts env [] rows front r.walk.place r.walk r.draft r.set → is_line (symbol_of text t) ≡ true → (v : GrammarState) → next env (binaries r.set) r.walk (n + t.at) (symbol_of text t) ≡ Ok v →
-        behind_filter (lexed_text text).fault (filter_of w.name d) ts ≡ Err fault → Finds r front (t ∷ ts) fault
-    at-line front w d r fault t ts named facts line v e is =
+    at-line : (front : List Symbol) (f : FilterValue) (r : Reading) (fault : PolicyFault) (t : Token) (ts : List Token) → IsNamed front → Facts env [] rows front r.walk.place r.walk r.set → is_line (symbol_of text t) ≡ true → (v : GrammarState) → next env (binaries r.set) r.walk (n + t.at) (symbol_of text t) ≡ Ok v →
+        behind_filter (lexed_text text).fault f ts ≡ Err fault → Finds r front (t ∷ ts) fault
+    at-line front f r fault t ts named facts line v e is =
         let here : symbol_of text t ≡ Line = line-symbol (symbol_of text t) line in
-        let f : FilterValue = filter_of r.walk.name r.draft in
-        let told = behind-told text (filter_of w.name d) fault (lexed_text text).fault ts refl is in
-        let whole : IsFilter env front f = spelled env rows front r.walk r.draft r.set named (n + t.at) (binaries r.set) v r.walk.place facts (ap (next env (binaries r.set) r.walk (n + t.at)) (sym here) ∙ e) in
+        let told = behind-told text f fault (lexed_text text).fault ts refl is in
+        let whole : IsFilter env front (filter_of v) = spelled env rows front r.walk r.set named (n + t.at) (binaries r.set) v r.walk.place facts (ap (next env (binaries r.set) r.walk (n + t.at)) (sym here) ∙ e) in
         Early (record {
           row = [];
           line = t;
@@ -244,36 +193,35 @@ module _ (env : Env) (text big : List ℕ) (n lines : ℕ) (long : length big �
           parts = refl;
           in_line = tt;
           ends = here;
-          filter = f;
-          is_filter = subst (λ (us : List Symbol). IsFilter env us f) (sym (append-nil front)) whole;
+          filter = filter_of v;
+          is_filter = subst (λ (us : List Symbol). IsFilter env us (filter_of v)) (sym (append-nil front)) whole;
           more = told.0;
           told = told.1;
         })
 
-    by-line : (front : List Symbol) (w w' v : GrammarState) (d : Draft) (r : Reading) (fault : PolicyFault) (t : Token) (ts : List Token) → Later ts → IsNamed front → Facts env [] rows front r.walk.place r.walk r.draft r.set → SameWalk n w' v → next env (binaries r.set) r.walk (n + t.at) (symbol_of text t) ≡ Ok v →
-        (b : Bool) → is_line (symbol_of text t) ≡ b → (if b then behind_filter (lexed_text text).fault (filter_of w.name d) ts else filter_from env text (lexed_text text).fault w' (draft_step env w.label d (symbol_of text t) w.place) ts) ≡ Err fault → Finds r front (t ∷ ts) fault
-    by-line front w w' v d r fault t ts later named facts same e true line is = at-line front w d r fault t ts named facts line v e is
-    by-line front w w' v d r fault t ts later named facts same e false line is =
+    by-line : (front : List Symbol) (w' v : GrammarState) (r : Reading) (fault : PolicyFault) (t : Token) (ts : List Token) → Later ts → IsNamed front → Facts env [] rows front r.walk.place r.walk r.set → SameWalk n w' v → next env (binaries r.set) r.walk (n + t.at) (symbol_of text t) ≡ Ok v →
+        (b : Bool) → is_line (symbol_of text t) ≡ b → (if b then behind_filter (lexed_text text).fault (filter_of w') ts else filter_from env text (lexed_text text).fault w' ts) ≡ Err fault → Finds r front (t ∷ ts) fault
+    by-line front w' v r fault t ts later named facts same e true line is = at-line front (filter_of w') r fault t ts named facts line v e is
+    by-line front w' v r fault t ts later named facts same e false line is =
         let s : Symbol = symbol_of text t in
-        let after : Reading = record { walk = v; draft = draft_after env r.walk.label r.draft s r.walk.place; set = set_after env r.walk.name r.draft s r.walk.place r.set } in
-        let goes : read_step env r (n + t.at) s ≡ Ok after = ap (reading_step env r s) e in
-        let more : Facts env [] rows (front ++ s ∷ []) v.place v after.draft after.set = subst (HasFacts env [] rows (front ++ s ∷ [])) goes (line-keeps env [] rows front r.walk.place r.walk r.draft r.set (n + t.at) s line facts) in
-        token-goes r after front t ts fault goes line (later (front ++ s ∷ []) w' (draft_step env w.label d s w.place) after fault (named-more front s named) same more is)
+        let goes : read_step env r (n + t.at) s ≡ Ok (as_reading v r.set) = ap (reading_step env r s) e ∙ ap Ok (behind-same env r.walk.place s r.set v (no-binary env rows front r.walk r.set named r.walk.place facts) line) in
+        let more : Facts env [] rows (front ++ s ∷ []) v.place v r.set = subst (HasFacts env [] rows (front ++ s ∷ [])) goes (line-keeps env [] rows front r.walk r.set (n + t.at) r.walk.place s line facts) in
+        token-goes r (as_reading v r.set) front t ts fault goes line (later (front ++ s ∷ []) w' (as_reading v r.set) fault (named-more front s named) same more is)
 
-    token-found : (front : List Symbol) (w : GrammarState) (d : Draft) (r : Reading) (fault : PolicyFault) (t : Token) (ts : List Token) → Later ts → IsNamed front → Facts env [] rows front r.walk.place r.walk r.draft r.set → (x y : StepResult) → Moved n x y → next env (binaries r.set) r.walk (n + t.at) (symbol_of text t) ≡ y →
-        followed (behind_filter (lexed_text text).fault (filter_of w.name d) ts) (λ w'. filter_from env text (lexed_text text).fault w' (draft_step env w.label d (symbol_of text t) w.place) ts) (is_line (symbol_of text t)) x ≡ Err fault → Finds r front (t ∷ ts) fault
-    token-found front w d r fault t ts later named facts _ _ (Stopped found) e is =
+    token-found : (front : List Symbol) (w : GrammarState) (r : Reading) (fault : PolicyFault) (t : Token) (ts : List Token) → Later ts → IsNamed front → Facts env [] rows front r.walk.place r.walk r.set → (x y : StepResult) → Moved n x y → next env (binaries r.set) r.walk (n + t.at) (symbol_of text t) ≡ y →
+        followed (λ w'. behind_filter (lexed_text text).fault (filter_of w') ts) (λ w'. filter_from env text (lexed_text text).fault w' ts) (is_line (symbol_of text t)) x ≡ Err fault → Finds r front (t ∷ ts) fault
+    token-found front w r fault t ts later named facts _ _ (Stopped found) e is =
         let same : found ≡ fault = cc in
         token-stops r front t ts fault (ap (reading_step env r (symbol_of text t)) e ∙ ap (λ (g : PolicyFault). refusal (moved n g)) same)
-    token-found front w d r fault t ts later named facts _ _ (Went w' v same) e is = by-line front w w' v d r fault t ts later named facts same e (is_line (symbol_of text t)) refl is
+    token-found front w r fault t ts later named facts _ _ (Went w' v same) e is = by-line front w' v r fault t ts later named facts same e (is_line (symbol_of text t)) refl is
 
     walked : (ts : List Token) → Later ts
-    walked [] front w d r fault named same facts e = Below (record {
-      stops = end-stops w d r fault (elsewhere front w r named same facts) same (lexed_text text).fault e;
+    walked [] front w r fault named same facts e = Below (record {
+      stops = end-stops w r fault (elsewhere front w r named same facts) same (lexed_text text).fault e;
       none = λ row line behind q parts ends over. no-parts row line behind parts;
     })
-    walked (t ∷ ts) front w d r fault named same facts e =
-        token-found front w d r fault t ts (walked ts) named facts (next env [] w t.at (symbol_of text t)) (next env (binaries r.set) r.walk (n + t.at) (symbol_of text t))
+    walked (t ∷ ts) front w r fault named same facts e =
+        token-found front w r fault t ts (walked ts) named facts (next env [] w t.at (symbol_of text t)) (next env (binaries r.set) r.walk (n + t.at) (symbol_of text t))
         (next-moved n t.at env (binaries r.set) w r.walk (symbol_of text t) (elsewhere front w r named same facts) same) refl e
 
 -- ---- the header
@@ -291,13 +239,13 @@ policy_above = fresh_policy (codes "/a") ∷ []
 
 -- how far a text is read behind the header
 abbrev below_reading : Reading
-below_reading = record { walk = record (first_walk []) { place = place.Row }; draft = first_draft; set = policy_above }
+below_reading = as_reading (fresh place.Row 0 (name.Other [])) policy_above
 
 pub header-rows : (env : Env) → AreRows env header_rows policy_above
 header-rows env = Header [] header_row [] (codes "/a") NoRow (record { spelled = Word (codes "/a"); parts = refl; binary_is = refl })
 
 -- behind the header a row may begin
-header-facts : (env : Env) → Facts env [] header_rows [] place.Row below_reading.walk first_draft policy_above
+header-facts : (env : Env) → Facts env [] header_rows [] place.Row below_reading.walk policy_above
 header-facts env = record {
   front_is = refl;
   behind = record {
@@ -318,31 +266,31 @@ header-read env text broken ts = refl
 
 -- what the tokens behind a filter's name lead to, by what that came to
 abbrev begun_with : Env → List ℕ → Option LexFault → List Token → StepResult → FilterResult
-begun_with env text broken ts (Ok w) = filter_from env text broken w first_draft ts
+begun_with env text broken ts (Ok w) = filter_from env text broken w ts
 begun_with env text broken ts (Err fault) = Err fault
 
 module _ (env : Env) (text big : List ℕ) (n lines : ℕ) (long : length big ≡ n + length text) (seen : (t : Token) → symbol_of big (moved_token n lines t) ≡ symbol_of text t)
     (t : Token) (ts : List Token) (fault : PolicyFault) (word : List ℕ) (here : symbol_of text t ≡ Word word) (other : bytes_eq word (codes "Policy") ≡ false) where
-  name-read : (o : Option FilterName) → filter_name word ≡ o → read_step env below_reading (n + t.at) (symbol_of text t) ≡ reading_step env below_reading (symbol_of text t) (step_name below_reading.walk (n + t.at) o)
-  name-read o e =
+  name-read : read_step env below_reading (n + t.at) (symbol_of text t) ≡ reading_step env below_reading (symbol_of text t) (step_name below_reading.walk (n + t.at) word)
+  name-read =
       ap (λ (s : Symbol). reading_step env below_reading (symbol_of text t) (next env (binaries policy_above) below_reading.walk (n + t.at) s)) here
-      ∙ ap (λ (b : Bool). reading_step env below_reading (symbol_of text t) (if b then step_to below_reading.walk place.PolicyColon else step_name below_reading.walk (n + t.at) (filter_name word))) other
-      ∙ ap (λ (o : Option FilterName). reading_step env below_reading (symbol_of text t) (step_name below_reading.walk (n + t.at) o)) e
+      ∙ ap (λ (b : Bool). reading_step env below_reading (symbol_of text t) (if b then step_to below_reading.walk place.PolicyColon else step_name below_reading.walk (n + t.at) word)) other
 
-  name-found : (o : Option FilterName) → filter_name word ≡ o → begun_with env text (lexed_text text).fault ts (step_name (first_walk []) t.at o) ≡ Err fault → IsFound env text big n lines below_reading [] (t ∷ ts) fault
+  name-found : (o : Option FilterName) → filter_name word ≡ o → begun_with env text (lexed_text text).fault ts (step_name (fresh place.Start 0 (name.Other [])) t.at word) ≡ Err fault → IsFound env text big n lines below_reading [] (t ∷ ts) fault
   name-found None e is =
-      let same : UnknownCall t.at ≡ fault = cc in
-      token-stops env text big n lines long seen below_reading [] t ts fault (name-read None e ∙ ap (λ (g : PolicyFault). refusal (moved n g)) same)
+      let same : UnknownCall t.at ≡ fault = let told = rw e at is in cc in
+      let stops : reading_step env below_reading (symbol_of text t) (step_name below_reading.walk (n + t.at) word) ≡ Err (UnknownCall (n + t.at)) = rw e refl in
+      token-stops env text big n lines long seen below_reading [] t ts fault (name-read ∙ stops ∙ ap (λ (g : PolicyFault). refusal (moved n g)) same)
   name-found (Some called) e is =
       let s : Symbol = symbol_of text t in
-      let w : GrammarState = record { place = place.NameColon; filters = 1; name = called; label = []; label_at = 0; parens = 0; joins = 0 } in
-      let after : Reading = record { walk = w; draft = draft_after env [] first_draft s place.Row; set = set_after env (name.Other []) first_draft s place.Row policy_above } in
-      let goes : read_step env below_reading (n + t.at) s ≡ Ok after = name-read (Some called) e in
+      let w : GrammarState = fresh place.NameColon 1 called in
+      let begun : reading_step env below_reading s (step_name below_reading.walk (n + t.at) word) ≡ Ok (as_reading w policy_above) = rw e refl in
+      let goes : read_step env below_reading (n + t.at) s ≡ Ok (as_reading w policy_above) = name-read ∙ begun in
       let line : is_line s ≡ false = ap is_line here in
-      let facts : Facts env [] header_rows (s ∷ []) place.NameColon w after.draft after.set = subst (HasFacts env [] header_rows (s ∷ [])) goes (line-keeps env [] header_rows [] place.Row below_reading.walk first_draft policy_above (n + t.at) s line (header-facts env)) in
+      let facts : Facts env [] header_rows (s ∷ []) place.NameColon w policy_above = subst (HasFacts env [] header_rows (s ∷ [])) goes (line-keeps env [] header_rows [] below_reading.walk policy_above (n + t.at) place.Row s line (header-facts env)) in
       let named : IsNamed (s ∷ []) = record { word = word; name = called; more = []; front_is = ap (λ (s : Symbol). s ∷ []) here; name_is = e } in
-      token-goes env text big n lines long seen below_reading after [] t ts fault goes line
-      (walked env text big n lines long seen header_rows ts (s ∷ []) w first_draft after fault named (record { same = refl; label = tt }) facts is)
+      token-goes env text big n lines long seen below_reading (as_reading w policy_above) [] t ts fault goes line
+      (walked env text big n lines long seen header_rows ts (s ∷ []) w (as_reading w policy_above) fault named (record { same = refl; label = tt }) facts (rw e at is))
 
 -- ---- all texts
 
@@ -350,7 +298,7 @@ module _ (env : Env) (text big : List ℕ) (n lines : ℕ) (long : length big �
 row-read : (env : Env) (text : List ℕ) (e : EndsEarly text env) → Leads env below_reading (placed_below 30 text (e.row ++ e.line ∷ [])) (At place.Row (add_filter policy_above e.filter) (HasFilters 1))
 row-read env text e =
     (passes-filter env policy_above 0 (symbols_at text e.row) e.filter e.is_filter (omega arith)).pass (placed_below 30 text (e.row ++ e.line ∷ [])) (symbols-below 30 text e.row e.line e.ends) below_reading
-    (stands below_reading.walk first_draft (record { filters_are = refl }))
+    (stands below_reading.walk (record { filters_are = refl }))
 
 by-found : (text : List ℕ) (env : Env) (fault : PolicyFault) (word : List ℕ) → BeginsWith text word → word ≢ codes "Policy" → IsFound env text (header ++ text) 30 1 below_reading [] (lexed_text text).tokens fault → IsFirstFilterFault text env fault
 by-found text env fault word b other (Early a) =
@@ -358,8 +306,8 @@ by-found text env fault word b other (Early a) =
     subst (IsFirstFilterFault text env) (sym a.told) (BehindRow e)
 by-found text env fault word b other (Below s) =
     let big : List ℕ = header ++ text in
-    let read : reading_of big env [] ≡ Err (moved 30 fault) = ap (λ (l : Lexed). read_from env big l.fault (first_reading []) l.tokens) (below-header text) ∙ header-read env text (optional_fault_after 30 (lexed_text text).fault) (moved_tokens 30 1 (lexed_text text).tokens) ∙ s.stops in
-    let faulty : fault_in big env [] ≡ Some (moved 30 fault) = ap error_in read in
+    let faulty : fault_in big env [] ≡ Some (moved 30 fault) =
+    ap (λ (l : Lexed). fault_of (read_from env big l.fault (first_reading []) l.tokens)) (below-header text) ∙ ap fault_of (header-read env text (optional_fault_after 30 (lexed_text text).fault) (moved_tokens 30 1 (lexed_text text).tokens)) ∙ s.stops in
     InRow word fault b other
     (λ e. let l = row-read env text e in s.none e.row e.line e.behind l.reading e.parts e.ends l.over)
     (first-fault big env [] (omega arith) (moved 30 fault) faulty)
@@ -377,10 +325,10 @@ module _ (text : List ℕ) (env : Env) (fault : PolicyFault) (t : Token) (ts : L
       other word (sym here ∙ ap (symbol_of text) first ∙ b.is_word) in
       subst (IsFirstFilterFault text env) (ap (plain_fault text) parts ∙ told) (NoName begins)
 
-  by-word : (word : List ℕ) (b : Bool) → symbol_of text t ≡ Word word → bytes_eq word (codes "Policy") ≡ b → begun_with env text (lexed_text text).fault ts (step_name (first_walk []) t.at (filter_name word)) ≡ Err fault → IsFirstFilterFault text env fault
+  by-word : (word : List ℕ) (b : Bool) → symbol_of text t ≡ Word word → bytes_eq word (codes "Policy") ≡ b → begun_with env text (lexed_text text).fault ts (step_name (fresh place.Start 0 (name.Other [])) t.at word) ≡ Err fault → IsFirstFilterFault text env fault
   by-word word true here e is =
       let same : word ≡ codes "Policy" = same-word word (codes "Policy") e in
-      let refused : Err (UnknownCall t.at) ≡ Err fault = ap (λ (w : List ℕ). begun_with env text (lexed_text text).fault ts (step_name (first_walk []) t.at (filter_name w))) (sym same) ∙ is in
+      let refused : Err (UnknownCall t.at) ≡ Err fault = ap (λ (w : List ℕ). begun_with env text (lexed_text text).fault ts (step_name (fresh place.Start 0 (name.Other [])) t.at w)) (sym same) ∙ is in
       let told : UnknownCall t.at ≡ fault = cc in
       subst (IsFirstFilterFault text env) told (Headed (record { first = t; others = ts; parts = parts; is_word = here ∙ ap (λ (w : List ℕ). Word w) same }))
   by-word word false here e is =

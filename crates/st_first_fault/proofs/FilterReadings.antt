@@ -6,7 +6,7 @@ use Rattle.st_grammar.specs.declared.env.Env.{Env}
 use Rattle.st_grammar.specs.declared.fault.PolicyFault.{PolicyFault}
 use Rattle.st_grammar.specs.OneFilter.{IsOneRow, ToTheEnd, ToALine, ReadsFilter}
 use Rattle.st_grammar.proofs.Complete.{reads-once}
-use Rattle.st_grammar.proofs.RowsKept.{fresh_policy}
+use Rattle.st_grammar.proofs.Policies.{fresh_policy}
 use Rattle.st_first_fault.specs.FilterFault.{header, BeginsWith, AreInLine, IsMore, EndsEarly, IsFirstFilterFault, NoName, Headed, BehindRow, InRow}
 use Rattle.st_first_fault.specs.FirstFault.{symbol_at_end, symbol_here, symbols_at, IsFirstFault}
 use Rattle.st_first_fault.proofs.Below.{header_tokens, moved_tokens, symbol-moved, below-header}

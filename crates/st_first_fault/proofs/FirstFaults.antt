@@ -13,7 +13,7 @@ use Rattle.st_first_fault.proofs.Completions.{ends-place}
 use Rattle.st_first_fault.proofs.FaultKinds.{Outcome, IsPlain, IsTold, Unlabelled, IndexAsked, outcome-of, judged}
 use Rattle.st_first_fault.proofs.LabelsRead.{LabelAt, BracketAt, label-at, bracket-at, label-ends}
 use Rattle.st_first_fault.proofs.MayStand.{goes-here, operand-taken}
-use Rattle.st_grammar.proofs.Readings.{read_over, reading_followed, places_of_reading}
+use Rattle.st_grammar.proofs.Readings.{read_over, reading_followed, reading_at}
 use Rattle.st_grammar.proofs.Sound.{Stands}
 use Rattle.st_first_fault.proofs.SpecialFaults.{Only, special-only}
 use Rattle.st_first_fault.proofs.WaysOn.{Accepted, accepted, accepted-at, anywhere, end_fault, told_fault, StopsIn, fault-stops, stands-behind}
@@ -82,13 +82,13 @@ module _ (text : List ℕ) (env : Env) (old : List BinaryPolicy) (few : filters_
       let a : Accepted env old r [] [] = accepted text env old before r read [] (subst (GoesOn env old) cut g) in
       let same : r ≡ a.reading = cc (a.over) in
       let over : read_over env r (anywhere a.more) ≡ Ok a.last = ap (λ (q : Reading). read_over env q (anywhere a.more)) same ∙ a.over_more in
-      label-ends env r.walk r.draft r.set none a.policies old a.more a.last a.at_rows (subst (λ (p : Place). read_over env (places_of_reading p r.walk r.draft r.set) (anywhere a.more) ≡ Ok a.last) e over)
+      label-ends env r.walk r.set none a.policies old a.more a.last a.at_rows (subst (λ (p : Place). read_over env (reading_at p r.walk r.set) (anywhere a.more) ≡ Ok a.last) e over)
 
   -- an operand may stand where the label stands
   label-takes : (before behind : List Token) (r : Reading) → (lexed_text text).tokens ≡ before ++ behind → (l : LabelAt text env old before r) → IsLabelAt text env old l.front l.label
   label-takes before behind r parts l =
       let cut : (lexed_text text).tokens ≡ l.front ++ (l.label ∷ behind) = parts ∙ ap (λ (ts : List Token). ts ++ behind) l.parts ∙ append_assoc l.front (l.label ∷ []) behind in
-      record { word = r.walk.label; symbol_is = l.symbol_is; labels = l.labels; takes = operand-taken text env old l.front (l.label ∷ behind) cut l.rows l.us l.front_is r.walk r.draft r.set l.facts }
+      record { word = r.walk.label; symbol_is = l.symbol_is; labels = l.labels; takes = operand-taken text env old l.front (l.label ∷ behind) cut l.rows l.us l.front_is r.walk r.set l.facts }
 
   -- a label which no argument has is the first token that doesn't fit
   first-label : (before behind : List Token) (r : Reading) → (lexed_text text).tokens ≡ before ++ behind → read_over env (first_reading old) (placed text before) ≡ Ok r → r.walk.place ≡ place.Label → may_test_label r.walk.name r.walk.label ≡ false → (l : LabelAt text env old before r) → IsFirstFault text env old (UnknownArgument l.label.at)
@@ -99,7 +99,7 @@ module _ (text : List ℕ) (env : Env) (old : List BinaryPolicy) (few : filters_
         before = l.front;
         behind = l.label ∷ behind;
         parts = cut;
-        goes_on = goes-here text env old l.front (l.label ∷ behind) cut l.rows l.us l.front_is (ends-place env old l.rows l.us place.Operand r.walk r.draft r.set tt l.facts);
+        goes_on = goes-here text env old l.front (l.label ∷ behind) cut l.rows l.us l.front_is (ends-place env old l.rows l.us place.Operand r.walk r.set tt l.facts);
         stops = stops-label before r read e none l;
         told = Specially (UnknownArgument l.label.at) (subst (λ (s : Symbol). IsSpecial text env old l.front l.label.at s (UnknownArgument l.label.at)) (sym t.symbol_is) (NoLabel t.word t.labels t.takes));
       }
@@ -130,7 +130,7 @@ module _ (text : List ℕ) (env : Env) (old : List BinaryPolicy) (few : filters_
     before = before;
     behind = behind;
     parts = parts;
-    goes_on = goes-here text env old before behind parts h.rows h.front h.parts (ends-place env old h.rows h.front r.walk.place r.walk r.draft r.set m h.facts);
+    goes_on = goes-here text env old before behind parts h.rows h.front h.parts (ends-place env old h.rows h.front r.walk.place r.walk r.set m h.facts);
     stops = stops-here before r read (place_here text behind) (symbol_here text behind) (Expected (place_here text behind)) stops;
     told = subst (Tells text env old before behind) (sym (told ∙ told-plain text behind)) (Otherwise (λ f s. not-plain before behind r read stops f s));
   }
@@ -138,7 +138,7 @@ module _ (text : List ℕ) (env : Env) (old : List BinaryPolicy) (few : filters_
     before = before;
     behind = behind;
     parts = parts;
-    goes_on = goes-here text env old before behind parts h.rows h.front h.parts (ends-place env old h.rows h.front r.walk.place r.walk r.draft r.set m h.facts);
+    goes_on = goes-here text env old before behind parts h.rows h.front h.parts (ends-place env old h.rows h.front r.walk.place r.walk r.set m h.facts);
     stops = stops-here before r read (place_here text behind) (symbol_here text behind) special stops;
     told = subst (Tells text env old before behind) (sym (told ∙ told-other text behind special (is-other s))) (Specially special s);
   }
@@ -160,6 +160,6 @@ module _ (text : List ℕ) (env : Env) (old : List BinaryPolicy) (few : filters_
       let h : Stands env old (symbols_at text st.before) r = stands-behind text env old st.before r few st.read in
       let o : Outcome text env old st.before r.walk.place r.walk at s st.found =
       outcome-of st.found
-      (judged text env old st.before st.behind st.parts h.rows h.front h.parts r.walk r.draft r.set at r.walk.place (asked st.before st.behind at r st.parts st.read r.walk.place refl) h.facts s)
+      (judged text env old st.before st.behind st.parts h.rows h.front h.parts r.walk r.set at r.walk.place (asked st.before st.behind at r st.parts st.read r.walk.place refl) h.facts s)
       (failed env r s (next env (binaries r.set) r.walk at s) st.found st.stops) in
       first-by st.before st.behind r st.found fault st.parts st.read h st.stops st.told o

@@ -1,12 +1,11 @@
 -- What stands before a label that was read, and that a label which no argument has leads nowhere.
-use Rattle.std.proofs.Common.{◌≡◌, ℕ, ◌≤◌, Bool, true, false, ◌&&◌, nat_eq, List, [], ◌∷◌, ◌++◌, Option, None, Some, Ok, Err, if◌then◌else◌, refl, ap, sym, subst, ◌∙◌, append_assoc}
+use Rattle.std.proofs.Common.{◌≡◌, ℕ, ◌≤◌, Bool, true, false, ◌&&◌, nat_eq, List, [], ◌∷◌, ◌++◌, Ok, refl, ap, sym, subst, ◌∙◌, append_assoc}
 use Rattle.std.specs.Str.{bytes_eq}
 use Rattle.std.specs.List.{list_any}
 use Rattle.std.proofs.lemmas.List.{map-append}
 use Rattle.std.proofs.lemmas.Bool.{or_parts, or_from}
-use Rattle.st_grammar.proofs.Common.{BinaryPolicy, Colon, Draft, FilterName, filters_in, first_reading, GrammarState, index_in, is_label, may_test, may_test_label, MOST_FILTERS, OpenBracket, read_step, Reading, reading_step, step_indexed, step_operator, StepResult, Symbol, symbol_of, Token, Word}
+use Rattle.st_grammar.proofs.Common.{BinaryPolicy, Colon, FilterName, filters_in, first_reading, GrammarState, is_label, may_test, may_test_label, MOST_FILTERS, OpenBracket, read_step, Reading, Symbol, symbol_of, Token, Word, word_index}
 use Rattle.st_grammar.specs.declared.env.Env.{Env}
-use Rattle.st_grammar.specs.declared.fault.PolicyFault.TheVariants.{Expected, UnknownArgument}
 use Rattle.st_grammar.specs.declared.place.Place.{Place}
 use Rattle.st_calls.specs.declared.argument.ArgSpec.{ArgSpec}
 use Rattle.st_calls.specs.Argument.{args_of, name_of_label}
@@ -15,10 +14,10 @@ use Rattle.st_filter.specs.declared.filter.FilterName.TheVariants as name
 use Rattle.st_first_fault.specs.FirstFault.{symbols_at}
 use Rattle.st_grammar.proofs.Complete.{AtRows, placed, is_below}
 use Rattle.st_grammar.proofs.FilterRows.{row_place}
-use Rattle.st_grammar.proofs.Fronts.{Facts}
+use Rattle.st_grammar.proofs.Fronts.{Facts, by-some}
 use Rattle.st_first_fault.proofs.LabelPlaces.{Labelled, LastRead, last-read}
 use Rattle.st_first_fault.proofs.PlacesTold.{unless, fault-follows}
-use Rattle.st_grammar.proofs.Readings.{read_over, places_of_reading, At, stands}
+use Rattle.st_grammar.proofs.Readings.{read_over, reading_at, At, stands}
 use Rattle.st_grammar.proofs.Sound.{IsFault, Stands}
 use Rattle.st_first_fault.proofs.WaysOn.{anywhere, stands-behind}
 
@@ -49,7 +48,7 @@ pub record LabelAt (text : List ℕ) (env : Env) (old : List BinaryPolicy) (befo
   pub rows : List Symbol
   pub us : List Symbol
   pub front_is : symbols_at text front ≡ rows ++ us
-  pub facts : Facts env old rows us place.Operand r.walk r.draft r.set
+  pub facts : Facts env old rows us place.Operand r.walk r.set
 
 -- the same with a bracket behind it
 pub record BracketAt (text : List ℕ) (env : Env) (old : List BinaryPolicy) (before : List Token) (r : Reading) : Type 0 where
@@ -70,11 +69,11 @@ module _ (text : List ℕ) (env : Env) (old : List BinaryPolicy) (few : filters_
   label-at before r read e =
       let l : LastRead text env old before r = last-read text env old before r (λ (s : r.walk.place ≡ place.Start). let two : place.Label ≡ place.Start = sym e ∙ s in absurd (cc)) read in
       let h : Stands env old (symbols_at text before) r = stands-behind text env old before r few read in
-      let f : Facts env old h.rows h.front place.Label r.walk r.draft r.set = subst (λ (p : Place). Facts env old h.rows h.front p r.walk r.draft r.set) e h.facts in
+      let f : Facts env old h.rows h.front place.Label r.walk r.set = subst (λ (p : Place). Facts env old h.rows h.front p r.walk r.set) e h.facts in
       let t = f.1.rest in
       let us : List Symbol = Word f.1.spelled ∷ Colon ∷ t.front in
       let spelled : h.rows ++ h.front ≡ (h.rows ++ us) ++ Word r.walk.label ∷ [] =
-      ap (λ (ts : List Symbol). h.rows ++ ts) (f.1.front_is ∙ ap (λ (ts : List Symbol). Word f.1.spelled ∷ Colon ∷ ts) (t.parts ∙ ap (λ (ts : List Symbol). t.front ++ ts) t.rest.begun_is)) ∙ sym (append_assoc h.rows us (Word r.walk.label ∷ [])) in
+      ap (λ (ts : List Symbol). h.rows ++ ts) (f.1.front_is ∙ ap (λ (ts : List Symbol). Word f.1.spelled ∷ Colon ∷ ts) (t.parts ∙ ap (λ (ts : List Symbol). t.front ++ ts) t.rest.rest.begun_is)) ∙ sym (append_assoc h.rows us (Word r.walk.label ∷ [])) in
       let cut : symbols_at text before ≡ symbols_at text l.front ++ symbol_of text l.last ∷ [] = ap (symbols_at text) l.parts ∙ map-append (symbol_of text) l.front (l.last ∷ []) in
       let same = same-last (symbols_at text l.front) (h.rows ++ us) (symbol_of text l.last) (Word r.walk.label) (sym cut ∙ h.parts ∙ spelled) in
       record {
@@ -82,23 +81,23 @@ module _ (text : List ℕ) (env : Env) (old : List BinaryPolicy) (few : filters_
         label = l.last;
         parts = l.parts;
         symbol_is = same.1;
-        labels = t.rest.labels;
+        labels = t.rest.rest.labels;
         at_is = subst (Labelled l.reading.walk l.last.at r.walk) e l.labelled;
         rows = h.rows;
         us = us;
         front_is = same.0;
-        facts = (f.0, record { behind = f.1.behind; filters_are = f.1.filters_are; few = f.1.few; spelled = f.1.spelled; us = t.front; front_is = refl; name_is = f.1.name_is; rest = t.operand });
+        facts = (f.0, record { behind = f.1.behind; filters_are = f.1.filters_are; few = f.1.few; spelled = f.1.spelled; us = t.front; front_is = refl; name_is = f.1.name_is; rest = t.first });
       }
 
   pub bracket-at : (before : List Token) (r : Reading) → read_over env (first_reading old) (placed text before) ≡ Ok r → r.walk.place ≡ place.Index → BracketAt text env old before r
   bracket-at before r read e =
       let l : LastRead text env old before r = last-read text env old before r (λ (s : r.walk.place ≡ place.Start). let two : place.Index ≡ place.Start = sym e ∙ s in absurd (cc)) read in
       let h : Stands env old (symbols_at text before) r = stands-behind text env old before r few read in
-      let f : Facts env old h.rows h.front place.Index r.walk r.draft r.set = subst (λ (p : Place). Facts env old h.rows h.front p r.walk r.draft r.set) e h.facts in
+      let f : Facts env old h.rows h.front place.Index r.walk r.set = subst (λ (p : Place). Facts env old h.rows h.front p r.walk r.set) e h.facts in
       let t = f.1.rest in
       let us : List Symbol = Word f.1.spelled ∷ Colon ∷ (t.front ++ Word r.walk.label ∷ []) in
       let spelled : h.rows ++ h.front ≡ (h.rows ++ us) ++ OpenBracket ∷ [] =
-      ap (λ (ts : List Symbol). h.rows ++ ts) (f.1.front_is ∙ ap (λ (ts : List Symbol). Word f.1.spelled ∷ Colon ∷ ts) (t.parts ∙ ap (λ (ts : List Symbol). t.front ++ ts) t.rest.begun_is ∙ sym (append_assoc t.front (Word r.walk.label ∷ []) (OpenBracket ∷ [])))) ∙ sym (append_assoc h.rows us (OpenBracket ∷ [])) in
+      ap (λ (ts : List Symbol). h.rows ++ ts) (f.1.front_is ∙ ap (λ (ts : List Symbol). Word f.1.spelled ∷ Colon ∷ ts) (t.parts ∙ ap (λ (ts : List Symbol). t.front ++ ts) t.rest.rest.begun_is ∙ sym (append_assoc t.front (Word r.walk.label ∷ []) (OpenBracket ∷ [])))) ∙ sym (append_assoc h.rows us (OpenBracket ∷ [])) in
       let cut : symbols_at text before ≡ symbols_at text l.front ++ symbol_of text l.last ∷ [] = ap (symbols_at text) l.parts ∙ map-append (symbol_of text) l.front (l.last ∷ []) in
       let same = same-last (symbols_at text l.front) (h.rows ++ us) (symbol_of text l.last) OpenBracket (sym cut ∙ h.parts ∙ spelled) in
       let from : Labelled l.reading.walk l.last.at r.walk place.Index = subst (Labelled l.reading.walk l.last.at r.walk) e l.labelled in
@@ -129,8 +128,8 @@ pub label-none : (n : FilterName) (label : List ℕ) (index : ℕ) → may_test_
 label-none (name.Rule rule) label index e = none-both label index (args_of rule) e
 label-none (name.Other word) label index e = absurd (cc)
 
-row-place : (p : Place) (set : List BinaryPolicy) (H : GrammarState → Draft → Type 0) (r : Reading) → At p set H r → r.walk.place ≡ p
-row-place p set H r (stands w d h) = refl
+row-place : (p : Place) (set : List BinaryPolicy) (H : GrammarState → Type 0) (r : Reading) → At p set H r → r.walk.place ≡ p
+row-place p set H r (stands w h) = refl
 
 not-rows : (old ps : List BinaryPolicy) (r : Reading) → AtRows old ps r → (r.walk.place ≡ place.Label → ⊥) × (r.walk.place ≡ place.Index → ⊥)
 not-rows old ps r h = by (is_below ps) (row-place (row_place (is_below ps)) _ _ r h) where
@@ -138,27 +137,17 @@ not-rows old ps r h = by (is_below ps) (row-place (row_place (is_below ps)) _ _ 
   by true e = ((λ f. let two : place.Row ≡ place.Label = sym e ∙ f in absurd (cc)), (λ f. let two : place.Row ≡ place.Index = sym e ∙ f in absurd (cc)))
   by false e = ((λ f. let two : place.Start ≡ place.Label = sym e ∙ f in absurd (cc)), (λ f. let two : place.Start ≡ place.Index = sym e ∙ f in absurd (cc)))
 
-fault-if : (env : Env) (r : Reading) (s : Symbol) (b : Bool) (x y : StepResult) → b ≡ false → IsFault (reading_step env r s y) → IsFault (reading_step env r s (if b then x else y))
-fault-if env r s b x y e h = subst (λ (c : Bool). IsFault (reading_step env r s (if c then x else y))) (sym e) h
+module _ (env : Env) (w : GrammarState) (set : List BinaryPolicy) (none : may_test_label w.name w.label ≡ false) where
+  index-fails : (s : Symbol) (at : ℕ) → IsFault (read_step env (reading_at place.Index w set) at s)
+  index-fails s at = by-some (word_index s) (λ index e. let not = label-none w.name w.label index none in rw (e, not) tt) (λ e. rw e tt)
 
-module _ (env : Env) (w : GrammarState) (d : Draft) (set : List BinaryPolicy) (none : may_test_label w.name w.label ≡ false) where
-  indexed-fails : (s : Symbol) (at : ℕ) (o : Option ℕ) → IsFault (reading_step env (places_of_reading place.Index w d set) s (step_indexed (record w { place = place.Index }) at o))
-  indexed-fails s at (Some index) = fault-if env (places_of_reading place.Index w d set) s (may_test w.name w.label index) (Ok (record w { place = place.IndexEnd })) (Err (UnknownArgument w.label_at)) (label-none w.name w.label index none) tt
-  indexed-fails s at None = fault-if env (places_of_reading place.Index w d set) s (may_test_label w.name w.label) (Err (Expected at)) (Err (UnknownArgument w.label_at)) none tt
-
-  index-fails : (s : Symbol) (at : ℕ) → IsFault (read_step env (places_of_reading place.Index w d set) at s)
-  index-fails (Word word) at = indexed-fails (Word word) at (index_in word)
-  index-fails s at = indexed-fails s at None
-
-  index-ends : (more : List Symbol) (q : Reading) → (q.walk.place ≡ place.Index → ⊥) → read_over env (places_of_reading place.Index w d set) (anywhere more) ≡ Ok q → ⊥
-  index-ends [] q other e = let same : places_of_reading place.Index w d set ≡ q = cc in other (sym (ap (λ (q : Reading). q.walk.place) same))
+  index-ends : (more : List Symbol) (q : Reading) → (q.walk.place ≡ place.Index → ⊥) → read_over env (reading_at place.Index w set) (anywhere more) ≡ Ok q → ⊥
+  index-ends [] q other e = let same : reading_at place.Index w set ≡ q = cc in other (sym (ap (λ (q : Reading). q.walk.place) same))
   index-ends (s ∷ more) q other e = unless ⊥ _ q e (fault-follows (λ r. read_over env r (anywhere more)) _ (index-fails s 0))
 
-  label-fails : (s : Symbol) (at : ℕ) → IsFault (reading_step env (places_of_reading place.Label w d set) s (if may_test w.name w.label 0 then step_operator (record w { place = place.Label }) at s else Err (UnknownArgument w.label_at)))
-  label-fails s at = fault-if env (places_of_reading place.Label w d set) s (may_test w.name w.label 0) (step_operator (record w { place = place.Label }) at s) (Err (UnknownArgument w.label_at)) (label-none w.name w.label 0 none) tt
-
   -- no symbols behind such a label lead to the end of a row
-  pub label-ends : (ps old : List BinaryPolicy) (more : List Symbol) (q : Reading) → AtRows old ps q → read_over env (places_of_reading place.Label w d set) (anywhere more) ≡ Ok q → ⊥
-  label-ends ps old [] q rows e = let same : places_of_reading place.Label w d set ≡ q = cc in (not-rows old ps q rows).0 (sym (ap (λ (q : Reading). q.walk.place) same))
+  pub label-ends : (ps old : List BinaryPolicy) (more : List Symbol) (q : Reading) → AtRows old ps q → read_over env (reading_at place.Label w set) (anywhere more) ≡ Ok q → ⊥
+  label-ends ps old [] q rows e = let same : reading_at place.Label w set ≡ q = cc in (not-rows old ps q rows).0 (sym (ap (λ (q : Reading). q.walk.place) same))
   label-ends ps old (OpenBracket ∷ more) q rows e = index-ends more q (not-rows old ps q rows).1 e
-  label-ends ps old (s ∷ more) q rows e = unless ⊥ _ q e (fault-follows (λ r. read_over env r (anywhere more)) _ (label-fails s 0))
+  label-ends ps old (Word word ∷ more) q rows e = let not = label-none w.name w.label 0 none in unless ⊥ _ q e (rw not tt)
+  label-ends ps old (s ∷ more) q rows e = unless ⊥ _ q e tt

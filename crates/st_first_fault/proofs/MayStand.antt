@@ -1,12 +1,13 @@
 -- What may stand at a place of the grammar.
-use Rattle.std.proofs.Common.{◌≡◌, ℕ, zero, suc, ◌-◌, true, List, [], ◌∷◌, ◌++◌, codes, refl, ap, sym, subst, ◌∙◌, arith, append_assoc, append-nil}
-use Rattle.st_grammar.proofs.Common.{BinaryPolicy, Close, Draft, draft_after, GrammarState, lexed_text, Line, OpenBracket, Quoted, Reading, Symbol, symbol_of, Token, Word}
+use Rattle.std.proofs.Common.{◌≡◌, ℕ, zero, suc, true, List, [], ◌∷◌, ◌++◌, codes, refl, ap, sym, subst, ◌∙◌, arith, append_assoc, append-nil}
+use Rattle.st_grammar.proofs.Common.{BinaryPolicy, Close, completed, concluded, True, GrammarState, lexed_text, Line, OpenBracket, Quoted, Reading, Symbol, symbol_of, Token, Word}
 use Rattle.st_grammar.specs.declared.env.Env.{Env}
 use Rattle.st_grammar.specs.declared.place.Place.TheVariants as place
 use Rattle.st_first_fault.specs.FirstFault.{symbols_at, GoesOn, EndsOperand, InParens, Whole, TakesOperand, TakesOperator, TakesAction, TakesId}
-use Rattle.st_first_fault.proofs.Completions.{Ending, Printed, printed-more, a-word, a-quoted, a-close, an-open_bracket, a-line, line-ends, facts-close, facts-then, facts-true, ends-tail, ends-joint, ends-error}
+use Rattle.st_first_fault.proofs.Completions.{Ending, Printed, closed, led, printed-more, a-word, a-quoted, a-close, an-open_bracket, a-line, line-ends, facts-close, facts-then, facts-true, ends-tail, ends-joint, ends-error}
 use Rattle.st_grammar.proofs.Fronts.{Facts}
-use Rattle.st_grammar.proofs.Sound.{line-keeps, RowEnded}
+use Rattle.st_grammar.proofs.Kept.{line-keeps}
+use Rattle.st_grammar.proofs.Sound.{RowEnded}
 use Rattle.st_first_fault.proofs.WaysOn.{text-goes_on}
 
 nothing : Printed []
@@ -50,45 +51,45 @@ module _ (text : List ℕ) (env : Env) (old : List BinaryPolicy) (before behind 
       goes-two s Line (a-word (codes "0") refl) a-line (subst (Ending env old) (append_assoc rows (front ++ s ∷ []) (Line ∷ [])) (line-ends env old ((rows ++ (front ++ s ∷ [])) ++ Line ∷ []) r h))
 
   -- the text of a test, behind its operator
-  pub operator-text : (w : GrammarState) (d : Draft) (set : List BinaryPolicy) → Facts env old rows (front ++ Word (codes "eq") ∷ []) place.Text w d set → TakesOperator env old (symbols_at text before)
-  operator-text w d set h =
+  pub operator-text : (w : GrammarState) (set : List BinaryPolicy) → Facts env old rows (front ++ Word (codes "eq") ∷ []) place.Text w set → TakesOperator env old (symbols_at text before)
+  operator-text w set h =
       let s : Symbol = Word (codes "eq") in
       let t : Symbol = Quoted (codes "\"\"") in
-      goes-two s t (a-word (codes "eq") refl) a-quoted (ends-joint env old rows w.parens ((front ++ s ∷ []) ++ t ∷ []) w (draft_after env w.label d t place.Text) set refl (line-keeps env old rows (front ++ s ∷ []) place.Text w d set 0 t refl h))
+      goes-two s t (a-word (codes "eq") refl) a-quoted (ends-joint env old rows w.parens ((front ++ s ∷ []) ++ t ∷ []) (led env w set t place.Text) set refl (line-keeps env old rows (front ++ s ∷ []) w set 0 place.Text t refl h))
 
   -- the bracket behind `deny`
-  pub denial-bracket : (w : GrammarState) (d : Draft) (set : List BinaryPolicy) → Facts env old rows (front ++ Word (codes "deny") ∷ []) place.Denial w d set → TakesAction env old (symbols_at text before)
-  denial-bracket w d set h =
+  pub denial-bracket : (w : GrammarState) (set : List BinaryPolicy) → Facts env old rows (front ++ Word (codes "deny") ∷ []) place.Denial w set → TakesAction env old (symbols_at text before)
+  denial-bracket w set h =
       let s : Symbol = Word (codes "deny") in
-      goes-two s OpenBracket (a-word (codes "deny") refl) an-open_bracket (ends-error env old rows ((front ++ s ∷ []) ++ OpenBracket ∷ []) w (draft_after env w.label d OpenBracket place.Denial) set (line-keeps env old rows (front ++ s ∷ []) place.Denial w d set 0 OpenBracket refl h))
+      goes-two s OpenBracket (a-word (codes "deny") refl) an-open_bracket (ends-error env old rows ((front ++ s ∷ []) ++ OpenBracket ∷ []) (led env w set OpenBracket place.Denial) set (line-keeps env old rows (front ++ s ∷ []) w set 0 place.Denial OpenBracket refl h))
 
   -- behind symbols that end an operand
-  joint-whole : (ys : List Symbol) → Printed ys → (w : GrammarState) (d : Draft) (set : List BinaryPolicy) → w.parens ≡ 0 → Facts env old rows (front ++ ys) place.Joint w d set → EndsOperand env old (symbols_at text before ++ ys)
-  joint-whole ys p w d set e h =
+  joint-whole : (ys : List Symbol) → Printed ys → (w : GrammarState) (set : List BinaryPolicy) → w.parens ≡ 0 → Facts env old rows (front ++ ys) place.Joint w set → EndsOperand env old (symbols_at text before ++ ys)
+  joint-whole ys p w set e h =
       let s : Symbol = Word (codes "then") in
       let t : Symbol = Word (codes "permit") in
-      let d' : Draft = draft_after env w.label d s place.Joint in
-      let acted : Facts env old rows ((front ++ ys) ++ s ∷ []) place.Action w d' set = facts-then env old rows (front ++ ys) w d set e h in
-      let ending : Ending env old (rows ++ (((front ++ ys) ++ s ∷ []) ++ t ∷ [])) = ends-tail env old rows (((front ++ ys) ++ s ∷ []) ++ t ∷ []) w (draft_after env w.label d' t place.Action) set true true (line-keeps env old rows ((front ++ ys) ++ s ∷ []) place.Action w d' set 0 t refl acted) in
+      let v : GrammarState = concluded w in
+      let acted : Facts env old rows ((front ++ ys) ++ s ∷ []) place.Action v set = facts-then env old rows (front ++ ys) w set e h in
+      let ending : Ending env old (rows ++ (((front ++ ys) ++ s ∷ []) ++ t ∷ [])) = ends-tail env old rows (((front ++ ys) ++ s ∷ []) ++ t ∷ []) (led env v set t place.Action) set true true (line-keeps env old rows ((front ++ ys) ++ s ∷ []) v set 0 place.Action t refl acted) in
       let same : ((front ++ ys) ++ s ∷ []) ++ t ∷ [] ≡ front ++ (ys ++ s ∷ t ∷ []) = append_assoc (front ++ ys) (s ∷ []) (t ∷ []) ∙ append_assoc front ys (s ∷ t ∷ []) in
       let two : Printed (s ∷ t ∷ []) = printed-more (s ∷ []) (t ∷ []) (a-word (codes "then") refl) (a-word (codes "permit") refl) in
       Whole (subst (GoesOn env old) (sym (append_assoc (symbols_at text before) ys (s ∷ t ∷ []))) (goes (ys ++ s ∷ t ∷ []) (printed-more ys (s ∷ t ∷ []) p two) (subst (Ending env old) (ap (λ (ts : List Symbol). rows ++ ts) same) ending)))
 
-  joint-in_parens : (n : ℕ) (ys : List Symbol) → Printed ys → (w : GrammarState) (d : Draft) (set : List BinaryPolicy) → w.parens ≡ suc n → Facts env old rows (front ++ ys) place.Joint w d set → EndsOperand env old (symbols_at text before ++ ys)
-  joint-in_parens n ys p w d set e h =
-      let ending : Ending env old (rows ++ ((front ++ ys) ++ Close ∷ [])) = ends-joint env old rows n ((front ++ ys) ++ Close ∷ []) (record w { parens = w.parens - 1 }) (draft_after env w.label d Close place.Joint) set (omega (arith, e)) (facts-close env old rows (front ++ ys) w d set (omega (arith, e)) h) in
+  joint-in_parens : (n : ℕ) (ys : List Symbol) → Printed ys → (w : GrammarState) (set : List BinaryPolicy) → w.parens ≡ suc n → Facts env old rows (front ++ ys) place.Joint w set → EndsOperand env old (symbols_at text before ++ ys)
+  joint-in_parens n ys p w set e h =
+      let ending : Ending env old (rows ++ ((front ++ ys) ++ Close ∷ [])) = ends-joint env old rows n ((front ++ ys) ++ Close ∷ []) (closed w) set (omega (arith, e)) (facts-close env old rows (front ++ ys) w set (omega (arith, e)) h) in
       InParens (subst (GoesOn env old) (sym (append_assoc (symbols_at text before) ys (Close ∷ []))) (goes (ys ++ Close ∷ []) (printed-more ys (Close ∷ []) p a-close) (subst (Ending env old) (ap (λ (ts : List Symbol). rows ++ ts) (append_assoc front ys (Close ∷ []))) ending)))
 
-  joint-by : (n : ℕ) (ys : List Symbol) → Printed ys → (w : GrammarState) (d : Draft) (set : List BinaryPolicy) → w.parens ≡ n → Facts env old rows (front ++ ys) place.Joint w d set → EndsOperand env old (symbols_at text before ++ ys)
-  joint-by zero ys p w d set e h = joint-whole ys p w d set e h
-  joint-by (suc n) ys p w d set e h = joint-in_parens n ys p w d set e h
+  joint-by : (n : ℕ) (ys : List Symbol) → Printed ys → (w : GrammarState) (set : List BinaryPolicy) → w.parens ≡ n → Facts env old rows (front ++ ys) place.Joint w set → EndsOperand env old (symbols_at text before ++ ys)
+  joint-by zero ys p w set e h = joint-whole ys p w set e h
+  joint-by (suc n) ys p w set e h = joint-in_parens n ys p w set e h
 
-  pub joint-ends : (w : GrammarState) (d : Draft) (set : List BinaryPolicy) → Facts env old rows front place.Joint w d set → EndsOperand env old (symbols_at text before)
-  joint-ends w d set h =
+  pub joint-ends : (w : GrammarState) (set : List BinaryPolicy) → Facts env old rows front place.Joint w set → EndsOperand env old (symbols_at text before)
+  joint-ends w set h =
       subst (EndsOperand env old) (append-nil (symbols_at text before))
-      (joint-by w.parens [] nothing w d set refl (subst (λ (ts : List Symbol). Facts env old rows ts place.Joint w d set) (sym (append-nil front)) h))
+      (joint-by w.parens [] nothing w set refl (subst (λ (ts : List Symbol). Facts env old rows ts place.Joint w set) (sym (append-nil front)) h))
 
-  pub operand-taken : (w : GrammarState) (d : Draft) (set : List BinaryPolicy) → Facts env old rows front place.Operand w d set → TakesOperand env old (symbols_at text before)
-  operand-taken w d set h =
+  pub operand-taken : (w : GrammarState) (set : List BinaryPolicy) → Facts env old rows front place.Operand w set → TakesOperand env old (symbols_at text before)
+  operand-taken w set h =
       let s : Symbol = Word (codes "true") in
-      joint-by w.parens (s ∷ []) (a-word (codes "true") refl) w (draft_after env w.label d s place.Operand) set refl (facts-true env old rows front w d set h)
+      joint-by w.parens (s ∷ []) (a-word (codes "true") refl) (completed True w) set refl (facts-true env old rows front w set h)

@@ -1,7 +1,7 @@
 -- What a symbol comes to so many bytes further on: the same, and a fault so many bytes further on.
-use Rattle.std.proofs.Common.{◌≡◌, ℕ, ◌+◌, ◌-◌, Bool, true, false, ◌&&◌, ◌||◌, ◌==◌, nat_lt, List, [], codes, Option, None, Some, Ok, Err, if◌then◌else◌, refl, ap, sym, subst, ◌∙◌, arith}
+use Rattle.std.proofs.Common.{◌≡◌, ℕ, ◌+◌, ◌-◌, Bool, true, false, ◌&&◌, ◌==◌, nat_lt, List, [], codes, Option, None, Some, option_map, Ok, Err, if◌then◌else◌, refl, ap, sym, subst, ◌∙◌, arith}
 use Rattle.std.specs.Str.{bytes_eq}
-use Rattle.st_grammar.proofs.Common.{Close, Cmp, Colon, Comma, comparison, Errno, error_named, fault_after, filter_name, FilterName, GrammarState, id_in, index_in, is_action, is_binary_place, is_close_bracket, is_colon, is_comma, is_keyword, is_label, is_line, is_quoted, joined, LexFault, lexical, Line, may_test, may_test_label, MOST_FILTERS, most_joins, names_for, next, only, Op, op_named, Open, OpenBracket, sets_ids, step, step_action, step_as, step_comparison, step_denial, step_errno, step_error, step_grant, step_id, step_index, step_indexed, step_joint, step_known, step_label, step_name, step_op, step_operand, step_operator, step_row, step_start, step_system, step_tail, step_to, step_user, step_who, StepResult, Symbol, Who, Word, word_who}
+use Rattle.st_grammar.proofs.Common.{acts, Ask, Close, Colon, Comma, comparison, completed, concluded, Deny, EPERM, error_named, fault_after, filter_name, found, fresh, GrammarState, grants, id_in, is_action, is_binary_place, is_close_bracket, is_colon, is_comma, is_keyword, is_label, is_line, joined, joins_both, joins_either, LexFault, lexical, Line, may_test, may_test_label, MOST_FILTERS, most_joins, names_for, next, only, op_named, Open, OpenBracket, Permit, Quoted, sets_ids, step, step_action, step_as, step_denial, step_error, step_grant, step_id, step_indexed, step_joint, step_label, step_name, step_operand, step_operator, step_row, step_start, step_system, step_tail, step_text, step_to, step_user, StepResult, Symbol, Test, True, unquoted, waits, with_group, without_either, Word, word_index, word_who}
 use Rattle.st_grammar.specs.declared.fault.PolicyFault.TheVariants.{AskWithLearn, DuplicatePolicy, ElevateOnSetId, ElevateWithoutIds, Expected, Lex, NotSupported, TooMany, UnknownArgument, UnknownCall, UnknownError, UnknownUser}
 use Rattle.st_grammar.specs.declared.env.Env.{Env}
 use Rattle.st_grammar.specs.declared.env.NamedId.{NamedId}
@@ -11,7 +11,10 @@ use Rattle.st_lex.specs.declared.token.LexFault.TheVariants.{BadByte, OpenQuote,
 use Rattle.st_grammar.specs.declared.fault.PolicyFault.TheVariants.{NoMemory}
 use Rattle.st_grammar.specs.declared.fault.Unsupported.TheVariants as unsupported
 use Rattle.st_grammar.specs.declared.place.Place.TheVariants as place
-use Rattle.st_grammar.specs.Diagram.{step_clause}
+use Rattle.st_grammar.specs.Diagram.{no_operator, step_clause}
+use Rattle.st_grammar.specs.Expression.{Group, Negation}
+use Rattle.st_grammar.proofs.Fronts.{by-test}
+use Rattle.st_first_fault.proofs.Completions.{closed}
 use Rattle.st_first_fault.specs.FilterFault.{moved}
 
 -- ---- a fault that is moved is known
@@ -96,6 +99,10 @@ moved-if : {n : ℕ} {x y x' y' : StepResult} (b : Bool) → Moved n x x' → Mo
 moved-if true p q = p
 moved-if false p q = q
 
+moved-found : {n : ℕ} {A : Type 0} {fault fault' : PolicyFault} {leads leads' : A → StepResult} (o : Option A) → ((x : A) → Moved n (leads x) (leads' x)) → Moved n (Err fault) (Err fault') → Moved n (found fault leads o) (found fault' leads' o)
+moved-found (Some x) p q = p x
+moved-found None p q = q
+
 module _ (n at x : ℕ) where
   on : (w : GrammarState) → LabelMoved n w.place w.label_at x → Moved n (Ok w) (Ok (labelled x w))
   on w h = Went w (labelled x w) (record { same = refl; label = h })
@@ -114,13 +121,14 @@ module _ (n at x : ℕ) where
   start-moved w (Word word) = only-moved w (bytes_eq word (codes "Policy")) place.PolicyColon tt
   start-moved w s = not-expected
 
-  pub name-moved : (w : GrammarState) (o : Option FilterName) → Moved n (step_name w at o) (step_name (labelled x w) (n + at) o)
-  name-moved w None = Stopped (UnknownCall at)
-  name-moved w (Some filter) = moved-if (nat_lt w.filters MOST_FILTERS) (on (record w { place = place.NameColon; filters = w.filters + 1; name = filter; parens = 0; joins = 0 }) tt) (Stopped (TooMany at))
+  pub name-moved : (w : GrammarState) (word : List ℕ) → Moved n (step_name w at word) (step_name (labelled x w) (n + at) word)
+  name-moved w word = moved-found (filter_name word) (λ name. moved-if (nat_lt w.filters MOST_FILTERS) (begun (fresh place.NameColon (w.filters + 1) name)) (Stopped (TooMany at))) (Stopped (UnknownCall at)) where
+    begun : (w : GrammarState) → Moved n (Ok (fresh place.NameColon w.filters w.name)) (Ok (fresh place.NameColon w.filters w.name))
+    begun w = Went (fresh place.NameColon w.filters w.name) (fresh place.NameColon w.filters w.name) (record { same = refl; label = tt })
 
   row-moved : (w : GrammarState) (s : Symbol) → Moved n (step_row w at s) (step_row (labelled x w) (n + at) s)
   row-moved w Line = to w place.Row tt
-  row-moved w (Word word) = moved-if (bytes_eq word (codes "Policy")) (to w place.PolicyColon tt) (name-moved w (filter_name word))
+  row-moved w (Word word) = moved-if (bytes_eq word (codes "Policy")) (to w place.PolicyColon tt) (name-moved w word)
   row-moved w s = not-expected
 
   system-moved : (w : GrammarState) (s : Symbol) → Moved n (step_system w at s) (step_system (labelled x w) (n + at) s)
@@ -131,19 +139,18 @@ module _ (n at x : ℕ) where
   joined-moved w = moved-if (nat_lt w.joins most_joins) (on (record w { place = place.Operand; joins = w.joins + 1 }) tt) (Stopped (TooMany at))
 
   operand-moved : (w : GrammarState) (s : Symbol) → Moved n (step_operand w at s) (step_operand (labelled x w) (n + at) s)
-  operand-moved w Open = joined-moved (record w { parens = w.parens + 1 })
+  operand-moved w Open = joined-moved (record (waits Group w) { parens = w.parens + 1 })
   operand-moved w (Word word) =
-      let label : Moved n (Ok (record w { place = place.Label; label = word; label_at = at })) (Ok (record w { place = place.Label; label = word; label_at = n + at })) =
-      Went (record w { place = place.Label; label = word; label_at = at }) (record w { place = place.Label; label = word; label_at = n + at }) (record { same = refl; label = refl }) in
-      moved-if (bytes_eq word (codes "not")) (joined-moved w) (moved-if (bytes_eq word (codes "true")) (to w place.Joint tt) (moved-if (is_label word) label not-expected))
+      let label : ℕ → GrammarState = λ at. record w { place = place.Label; label = word; label_at = at; index = 0 } in
+      moved-if (bytes_eq word (codes "not")) (joined-moved (waits Negation w))
+      (moved-if (bytes_eq word (codes "true")) (on (completed True w) tt) (moved-if (is_label word) (Went (label at) (label (n + at)) (record { same = refl; label = refl })) not-expected))
   operand-moved w s = not-expected
 
-  op-moved : (w : GrammarState) (word : List ℕ) (o : Option Op) → Moved n (step_op w at word o) (step_op (labelled x w) (n + at) word o)
-  op-moved w word (Some op) = to w place.Text tt
-  op-moved w word None = moved-if (bytes_eq word (codes "re")) (Stopped (NotSupported at unsupported.Re)) not-expected
+  no-operator-moved : (word : List ℕ) → Moved n (Err (no_operator at word)) (Err (no_operator (n + at) word))
+  no-operator-moved word = by-test (bytes_eq word (codes "re")) (λ e. rw e (Stopped (NotSupported at unsupported.Re))) (λ e. rw e not-expected)
 
   operator-moved : (w : GrammarState) (s : Symbol) → Moved n (step_operator w at s) (step_operator (labelled x w) (n + at) s)
-  operator-moved w (Word word) = op-moved w word (op_named word)
+  operator-moved w (Word word) = moved-found (op_named word) (λ op. on (record w { place = place.Text; op = op }) tt) (no-operator-moved word)
   operator-moved w s = not-expected
 
   unlabelled : (w : GrammarState) → x ≡ n + w.label_at → Moved n (Err (UnknownArgument w.label_at)) (Err (UnknownArgument x))
@@ -151,27 +158,30 @@ module _ (n at x : ℕ) where
 
   label-moved : (w : GrammarState) → x ≡ n + w.label_at → (s : Symbol) → Moved n (step_label w at s) (step_label (labelled x w) (n + at) s)
   label-moved w h OpenBracket = to w place.Index h
-  label-moved w h s = moved-if (may_test w.name w.label 0) (operator-moved w s) (unlabelled w h)
+  label-moved w h (Word word) = moved-if (may_test w.name w.label 0) (operator-moved w (Word word)) (unlabelled w h)
+  label-moved w h s = by-test (may_test w.name w.label 0) (λ e. rw e not-expected) (λ e. rw e (unlabelled w h))
 
   indexed-moved : (w : GrammarState) → x ≡ n + w.label_at → (o : Option ℕ) → Moved n (step_indexed w at o) (step_indexed (labelled x w) (n + at) o)
-  indexed-moved w h (Some index) = moved-if (may_test w.name w.label index) (to w place.IndexEnd tt) (unlabelled w h)
-  indexed-moved w h None = moved-if (may_test_label w.name w.label) not-expected (unlabelled w h)
+  indexed-moved w h o = moved-found o (λ index. moved-if (may_test w.name w.label index) (on (record w { place = place.IndexEnd; index = index }) tt) (unlabelled w h))
+      (by-test (may_test_label w.name w.label) (λ e. rw e not-expected) (λ e. rw e (unlabelled w h)))
 
-  index-moved : (w : GrammarState) → x ≡ n + w.label_at → (s : Symbol) → Moved n (step_index w at s) (step_index (labelled x w) (n + at) s)
-  index-moved w h (Word word) = indexed-moved w h (index_in word)
-  index-moved w h s = indexed-moved w h None
+  text-moved : (env : Env) (w : GrammarState) (s : Symbol) → Moved n (step_text env w at s) (step_text env (labelled x w) (n + at) s)
+  text-moved env w (Quoted source) = on (completed (Test w.label w.index w.op (unquoted env.dollars source)) w) tt
+  text-moved env w s = not-expected
 
   joint-moved : (w : GrammarState) (s : Symbol) → Moved n (step_joint w at s) (step_joint (labelled x w) (n + at) s)
-  joint-moved w Close = moved-if (nat_lt 0 w.parens) (on (record w { place = place.Joint; parens = w.parens - 1 }) tt) not-expected
+  joint-moved w Close = moved-if (nat_lt 0 w.parens) (on (record (closed w) { place = place.Joint }) tt) not-expected
   joint-moved w (Word word) =
-      moved-if (bytes_eq word (codes "and") || bytes_eq word (codes "or")) (joined-moved w) (only-moved w (bytes_eq word (codes "then") && w.parens == 0) place.Action tt)
+      moved-if (bytes_eq word (codes "and")) (joined-moved (record w { expression = joins_both w.expression }))
+      (moved-if (bytes_eq word (codes "or")) (joined-moved (record w { expression = joins_either (without_either w.expression) }))
+      (only-moved (concluded w) (bytes_eq word (codes "then") && w.parens == 0) place.Action tt))
   joint-moved w s = not-expected
 
   action-moved : (env : Env) (w : GrammarState) (s : Symbol) → Moved n (step_action env w at s) (step_action env (labelled x w) (n + at) s)
   action-moved env w (Word word) =
-      let asks : Moved n (if env.learn then Err (AskWithLearn at) else step_to w (place.Tail false true)) (if env.learn then Err (AskWithLearn (n + at)) else step_to (labelled x w) (place.Tail false true)) =
-      moved-if env.learn (Stopped (AskWithLearn at)) (to w (place.Tail false true) tt) in
-      moved-if (bytes_eq word (codes "permit")) (to w (place.Tail true true) tt) (moved-if (bytes_eq word (codes "deny")) (to w place.Denial tt) (moved-if (bytes_eq word (codes "ask")) asks not-expected))
+      moved-if (bytes_eq word (codes "permit")) (on (acts Permit (place.Tail true true) w) tt)
+      (moved-if (bytes_eq word (codes "deny")) (on (acts (Deny EPERM) place.Denial w) tt)
+      (moved-if (bytes_eq word (codes "ask")) (moved-if env.learn (Stopped (AskWithLearn at)) (on (acts Ask (place.Tail false true) w) tt)) not-expected))
   action-moved env w s = not-expected
 
   clause-moved : (env : Env) (w : GrammarState) (s : Symbol) → Moved n (step_clause env w at s) (step_clause env (labelled x w) (n + at) s)
@@ -183,44 +193,28 @@ module _ (n at x : ℕ) where
   tail-moved : (env : Env) (grant log : Bool) (w : GrammarState) (s : Symbol) → Moved n (step_tail env grant log w at s) (step_tail env grant log (labelled x w) (n + at) s)
   tail-moved env grant log w Line = to w place.Row tt
   tail-moved env grant log w Comma = to w place.If tt
-  tail-moved env grant log w (Word word) = moved-if (bytes_eq word (codes "as") && grant) (as-moved env w log) (only-moved w (bytes_eq word (codes "log") && log) (place.Tail grant false) tt)
+  tail-moved env grant log w (Word word) = moved-if (bytes_eq word (codes "as") && grant) (as-moved env w log) (only-moved (record w { log = true }) (bytes_eq word (codes "log") && log) (place.Tail grant false) tt)
   tail-moved env grant log w s = not-expected
 
   denial-moved : (env : Env) (w : GrammarState) (s : Symbol) → Moved n (step_denial env w at s) (step_denial env (labelled x w) (n + at) s)
   denial-moved env w OpenBracket = to w place.Error tt
   denial-moved env w s = tail-moved env false true w s
 
-  errno-moved : (w : GrammarState) (o : Option Errno) → Moved n (step_errno w at o) (step_errno (labelled x w) (n + at) o)
-  errno-moved w (Some errno) = to w place.ErrorEnd tt
-  errno-moved w None = Stopped (UnknownError at)
-
   error-moved : (w : GrammarState) (s : Symbol) → Moved n (step_error w at s) (step_error (labelled x w) (n + at) s)
-  error-moved w (Word word) = errno-moved w (error_named word)
+  error-moved w (Word word) = moved-found (error_named word) (λ errno. on (acts (Deny errno) place.ErrorEnd w) tt) (Stopped (UnknownError at))
   error-moved w s = not-expected
 
-  known-moved : (w : GrammarState) (p : Place) → LabelMoved n p w.label_at x → (o : Option ℕ) → Moved n (step_known w at p o) (step_known (labelled x w) (n + at) p o)
-  known-moved w p h (Some id) = to w p h
-  known-moved w p h None = Stopped (UnknownUser at)
-
-  id-moved : (names : List NamedId) (w : GrammarState) (p : Place) → LabelMoved n p w.label_at x → (s : Symbol) → Moved n (step_id names w at p s) (step_id names (labelled x w) (n + at) p s)
-  id-moved names w p h (Word word) = known-moved w p h (id_in names word)
-  id-moved names w p h s = not-expected
+  id-moved : (names : List NamedId) (leads leads' : ℕ → GrammarState) → ((id : ℕ) → Moved n (Ok (leads id)) (Ok (leads' id))) → (s : Symbol) → Moved n (step_id names at leads s) (step_id names (n + at) leads' s)
+  id-moved names leads leads' h (Word word) = moved-found (id_in names word) h (Stopped (UnknownUser at))
+  id-moved names leads leads' h s = not-expected
 
   grant-moved : (env : Env) (log : Bool) (w : GrammarState) (s : Symbol) → Moved n (step_grant env log w at s) (step_grant env log (labelled x w) (n + at) s)
-  grant-moved env log w Colon = to w (place.Group log) tt
-  grant-moved env log w s = id-moved env.users w (place.User log) tt s
+  grant-moved env log w Colon = on (grants None (place.Group log) w) tt
+  grant-moved env log w s = id-moved env.users _ _ (λ id. on (grants (Some id) (place.User log) w) tt) s
 
   user-moved : (env : Env) (log : Bool) (w : GrammarState) (s : Symbol) → Moved n (step_user env log w at s) (step_user env log (labelled x w) (n + at) s)
   user-moved env log w Colon = to w (place.Group log) tt
   user-moved env log w s = tail-moved env false log w s
-
-  who-moved : (w : GrammarState) (o : Option Who) → Moved n (step_who w at o) (step_who (labelled x w) (n + at) o)
-  who-moved w (Some who) = to w (place.Comparison who) tt
-  who-moved w None = not-expected
-
-  comparison-moved : (who : Who) (w : GrammarState) (o : Option Cmp) → Moved n (step_comparison who w at o) (step_comparison who (labelled x w) (n + at) o)
-  comparison-moved who w (Some cmp) = to w (place.Id who) tt
-  comparison-moved who w None = not-expected
 
   -- at every place but at a header's binary, where it matters which ones are known
   step-moved : (env : Env) (known : List (List ℕ)) (w : GrammarState) (s : Symbol) (p : Place) → is_binary_place p ≡ false → LabelMoved n p w.label_at x → Moved n (step env [] w at s p) (step env known (labelled x w) (n + at) s p)
@@ -236,10 +230,10 @@ module _ (n at x : ℕ) where
   step-moved env known w s place.Clause e h = clause-moved env w s
   step-moved env known w s place.Operand e h = operand-moved w s
   step-moved env known w s place.Label e h = label-moved w h s
-  step-moved env known w s place.Index e h = index-moved w h s
+  step-moved env known w s place.Index e h = indexed-moved w h (word_index s)
   step-moved env known w s place.IndexEnd e h = only-moved w (is_close_bracket s) place.Operator tt
   step-moved env known w s place.Operator e h = operator-moved w s
-  step-moved env known w s place.Text e h = only-moved w (is_quoted s) place.Joint tt
+  step-moved env known w s place.Text e h = text-moved env w s
   step-moved env known w s place.Joint e h = joint-moved w s
   step-moved env known w s place.Action e h = action-moved env w s
   step-moved env known w s place.Denial e h = denial-moved env w s
@@ -248,11 +242,11 @@ module _ (n at x : ℕ) where
   step-moved env known w s (place.Tail grant log) e h = tail-moved env grant log w s
   step-moved env known w s (place.Grant log) e h = grant-moved env log w s
   step-moved env known w s (place.User log) e h = user-moved env log w s
-  step-moved env known w s (place.Group log) e h = id-moved env.groups w (place.Tail false log) tt s
+  step-moved env known w s (place.Group log) e h = id-moved env.groups _ _ (λ id. on (record w { place = place.Tail false log; grant = option_map (with_group id) w.grant }) tt) s
   step-moved env known w s place.If e h = only-moved w (is_keyword (codes "if") s) place.Who tt
-  step-moved env known w s place.Who e h = who-moved w (word_who s)
-  step-moved env known w s (place.Comparison who) e h = comparison-moved who w (comparison s)
-  step-moved env known w s (place.Id who) e h = id-moved (names_for env who) w place.FilterEnd tt s
+  step-moved env known w s place.Who e h = moved-found (word_who s) (λ who. to w (place.Comparison who) tt) not-expected
+  step-moved env known w s (place.Comparison who) e h = moved-found (comparison s) (λ cmp. on (record w { place = place.Id who; cmp = cmp }) tt) not-expected
+  step-moved env known w s (place.Id who) e h = id-moved (names_for env who) _ _ (λ id. on (record w { place = place.FilterEnd; predicate = Some (record { who = who; cmp = w.cmp; id = id }) }) tt) s
   step-moved env known w s place.HeaderEnd e h = only-moved w (is_line s) place.Row tt
   step-moved env known w s place.FilterEnd e h = only-moved w (is_line s) place.Row tt
 

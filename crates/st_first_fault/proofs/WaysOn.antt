@@ -1,13 +1,12 @@
 -- Where a text goes on, and where a reading of it stops.
 use Rattle.std.proofs.Common.{◌≡◌, ℕ, ◌≤◌, List, [], ◌∷◌, ◌++◌, length, take, map, Option, None, Some, Ok, Err, refl, ap, sym, subst, ◌∙◌, append_assoc, append-nil}
 use Rattle.std.proofs.lemmas.List.{map-append}
-use Rattle.st_grammar.proofs.Common.{AreRows, BinaryPolicy, Broken, error_in, fault_in, filters_in, first_reading, lexed_text, LexFault, lexical, Line, MOST_FILTERS, Piece, piece_tokens, print, read_from, read_step, Reading, reading_of, Space, spelled_tokens, Symbol, symbol_of, symbols_in, Token, unless_lexical}
+use Rattle.st_grammar.proofs.Common.{AreRows, BinaryPolicy, Broken, fault_in, fault_of, filters_in, first_reading, lexed_text, LexFault, lexical, Line, MOST_FILTERS, or_refused, Piece, piece_tokens, print, read_end, read_from, read_step, Reading, Space, spelled_tokens, Symbol, symbol_of, symbols_in, Token, unless_lexical}
 use Rattle.st_grammar.specs.declared.env.Env.{Env}
 use Rattle.st_grammar.specs.declared.fault.PolicyFault.{PolicyFault}
 use Rattle.st_first_fault.specs.Cuts.{end_of}
 use Rattle.st_lex.specs.Pieces.{IsReadAs}
 use Rattle.st_first_fault.proofs.Cuts.{cut_is_read}
-use Rattle.st_grammar.specs.Draft.{read_end}
 use Rattle.st_first_fault.specs.FirstFault.{symbol_at_end, symbol_here, place_here, symbols_at, GoesOn}
 use Rattle.st_grammar.proofs.Complete.{AtRows, placed, rows-read}
 use Rattle.st_first_fault.proofs.Completions.{Ending, Printed}
@@ -168,8 +167,12 @@ end-stops : (env : Env) (text : List ℕ) (broken : Option LexFault) (r : Readin
 end-stops env text None r told e = (told, e, refl)
 end-stops env text (Some fault) r told e = unless-parts fault (read_step env r (length text) Broken) told e
 
-stops-first : (env : Env) (text : List ℕ) (r : Reading) (t : Token) (ts : List Token) (told : PolicyFault) → ((r : Reading) → read_from env text (lexed_text text).fault r ts ≡ Err told → StopsIn env text r ts told) →
-    (x : Read) → read_step env r t.at (symbol_of text t) ≡ x → result_after env text (lexed_text text).fault ts x ≡ Err told → StopsIn env text r (t ∷ ts) told
+told-by : (r : Reading) (told : PolicyFault) (x : Read) → fault_of (or_refused r x) ≡ Some told → x ≡ Err told
+told-by r told (Ok q) e = absurd (cc)
+told-by r told (Err found) e = let same : found ≡ told = cc in ap (λ fault. Err fault) same
+
+stops-first : (env : Env) (text : List ℕ) (r : Reading) (t : Token) (ts : List Token) (told : PolicyFault) → ((r : Reading) → fault_of (read_from env text (lexed_text text).fault r ts) ≡ Some told → StopsIn env text r ts told) →
+    (x : Read) → read_step env r t.at (symbol_of text t) ≡ x → fault_of (result_after env text (lexed_text text).fault r ts x) ≡ Some told → StopsIn env text r (t ∷ ts) told
 stops-first env text r t ts told ih (Err found) e h = record { before = []; behind = t ∷ ts; parts = refl; reading = r; read = refl; found = found; stops = e; told = cc }
 stops-first env text r t ts told ih (Ok next) e h =
     let s : StopsIn env text next ts told = ih next h in
@@ -184,19 +187,15 @@ stops-first env text r t ts told ih (Ok next) e h =
       told = s.told;
     }
 
-stops-in : (env : Env) (text : List ℕ) (ts : List Token) (told : PolicyFault) (r : Reading) → read_from env text (lexed_text text).fault r ts ≡ Err told → StopsIn env text r ts told
+stops-in : (env : Env) (text : List ℕ) (ts : List Token) (told : PolicyFault) (r : Reading) → fault_of (read_from env text (lexed_text text).fault r ts) ≡ Some told → StopsIn env text r ts told
 stops-in env text [] told r e =
-    let s = end-stops env text (lexed_text text).fault r told e in
+    let s = end-stops env text (lexed_text text).fault r told (told-by r told (read_end env text (lexed_text text).fault r) e) in
     record { before = []; behind = []; parts = refl; reading = r; read = refl; found = s.0; stops = s.1; told = s.2 }
 stops-in env text (t ∷ ts) told r e = stops-first env text r t ts told (stops-in env text ts told) (read_step env r t.at (symbol_of text t)) refl e
 
-error-is : (x : Read) (fault : PolicyFault) → error_in x ≡ Some fault → x ≡ Err fault
-error-is (Ok r) fault e = absurd (cc)
-error-is (Err found) fault e = cc
-
 -- a text with a fault stops there
 pub fault-stops : (text : List ℕ) (env : Env) (old : List BinaryPolicy) (fault : PolicyFault) → fault_in text env old ≡ Some fault → StopsIn env text (first_reading old) (lexed_text text).tokens fault
-fault-stops text env old fault e = stops-in env text (lexed_text text).tokens fault (first_reading old) (error-is (reading_of text env old) fault e)
+fault-stops text env old fault e = stops-in env text (lexed_text text).tokens fault (first_reading old) e
 
 -- ---- what has been spelled there
 

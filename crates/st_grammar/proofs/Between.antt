@@ -1,10 +1,11 @@
 -- What holds between two tokens of a policy's text.
-use Rattle.std.proofs.Common.{◌≡◌, ℕ, ◌<◌, ◌≤◌, true, List, [], ◌∷◌, ◌++◌, length, take, Ok, subst, ap, ◌∙◌, arith, append_assoc}
+use Rattle.std.proofs.Common.{◌≡◌, ℕ, ◌<◌, ◌≤◌, true, List, [], ◌∷◌, ◌++◌, length, take, Ok, refl, subst, ap, sym, ◌∙◌, arith, append_assoc}
 use Rattle.std.proofs.lemmas.List.{take-append-le, take_all}
-use Rattle.st_grammar.proofs.Common.{BinaryPolicy, Draft, Env, filters_in, first_reading, GrammarState, MOST_FILTERS, Place, read_step, Reading, Symbol}
+use Rattle.st_grammar.proofs.Common.{as_reading, BinaryPolicy, ends_filter, Env, filters_in, first_reading, GrammarState, is_between_rows, is_line, Line, MOST_FILTERS, Place, read_step, Reading, Symbol}
 use Rattle.st_grammar.specs.declared.place.Place.TheVariants as place
-use Rattle.st_grammar.specs.Draft.{ends_filter}
-use Rattle.st_grammar.proofs.Fronts.{FilterFront, Facts}
+use Rattle.st_grammar.proofs.Clauses.{line-symbol}
+use Rattle.st_grammar.proofs.Readings.{reading_at}
+use Rattle.st_grammar.proofs.Fronts.{Behind, FilterFront, Facts}
 use Rattle.st_grammar.proofs.Sound.{Stands, StandsAfter, stands-step, first-stands}
 
 -- some symbols lead to a reading
@@ -18,57 +19,67 @@ reached_first env old few = record { done = []; stands = first-stands env [] old
 pub reached_step : (env : Env) (old : List BinaryPolicy) (r r' : Reading) (at : ℕ) (s : Symbol) → IsReached env old r → read_step env r at s ≡ Ok r' → IsReached env old r'
 reached_step env old r r' at s h e = record { done = h.done ++ s ∷ []; stands = subst (StandsAfter env old (h.done ++ s ∷ [])) e (stands-step env old h.done r at s h.stands) }
 
+-- ---- blank lines
+
+blank_at : (env : Env) (at : ℕ) (w : GrammarState) (set : List BinaryPolicy) (p : Place) → is_between_rows p ≡ true → read_step env (reading_at p w set) at Line ≡ Ok (reading_at p w set)
+blank_at env at w set place.Start e = refl
+blank_at env at w set place.Row e = refl
+blank_at env at w set p e = absurd (cc)
+
+pub blank_line : (env : Env) (at : ℕ) (w : GrammarState) (set : List BinaryPolicy) (s : Symbol) (p : Place) → is_line s ≡ true → p ≡ w.place → is_between_rows p ≡ true → read_step env (as_reading w set) at s ≡ Ok (as_reading w set)
+blank_line env at w set s p line here between = ap (read_step env (as_reading w set) at) (line-symbol s line) ∙ blank_at env at w set w.place (ap is_between_rows (sym here) ∙ between)
+
 -- ---- what was read before is still in front
 
-kept : (old own set : List BinaryPolicy) → set ≡ old ++ own → take (length old) set ≡ old
-kept old own set e =
-    let front : take (length old) (old ++ own) ≡ take (length old) old = take-append-le (length old) old own (omega arith) in
-    ap (take (length old)) e ∙ front ∙ take_all (length old) old (omega arith)
+-- these policies stand behind those that were read before
+record IsKept (old set : List BinaryPolicy) : Type 0 where
+  own : List BinaryPolicy
+  set_is : set ≡ old ++ own
 
-module _ (env : Env) (old : List BinaryPolicy) (rows front : List Symbol) (w : GrammarState) (d : Draft) (set : List BinaryPolicy) where
-  kept-behind : (ps qs : List BinaryPolicy) → set ≡ old ++ ps ++ qs → take (length old) set ≡ old
-  kept-behind ps qs e = kept old (ps ++ qs) set (e ∙ append_assoc old ps qs)
+module _ (env : Env) (old : List BinaryPolicy) (rows front : List Symbol) (w : GrammarState) (set : List BinaryPolicy) where
+  kept-parts : (ps qs : List BinaryPolicy) → set ≡ old ++ ps ++ qs → IsKept old set
+  kept-parts ps qs e = record { own = ps ++ qs; set_is = e ∙ append_assoc old ps qs }
 
-  kept-filter : (P : List Symbol → Type 0) → FilterFront env old rows front w.filters w.name set P → take (length old) set ≡ old
-  kept-filter P h = kept-behind h.behind.before (h.behind.last ∷ []) h.behind.set_is
+  kept-behind : Behind env old rows set → IsKept old set
+  kept-behind h = kept-parts h.before (h.last ∷ []) h.set_is
 
-  kept-at : (p : Place) → Facts env old rows front p w d set → take (length old) set ≡ old
-  kept-at place.Start h = kept old h.policies set h.set_is
-  kept-at place.Row h = kept-behind h.behind.before (h.behind.last ∷ []) h.behind.set_is
-  kept-at place.PolicyColon h = kept old h.policies set h.set_is
-  kept-at place.Binary h = kept old h.policies set h.set_is
-  kept-at place.Comma h = kept-behind h.policies _ h.set_is
-  kept-at place.Emulation h = kept-behind h.policies _ h.set_is
-  kept-at place.EmulationColon h = kept-behind h.policies _ h.set_is
-  kept-at place.System h = kept-behind h.policies _ h.set_is
-  kept-at place.HeaderEnd h = kept-behind h.policies _ h.set_is
-  kept-at place.NameColon h = kept-behind h.behind.before (h.behind.last ∷ []) h.behind.set_is
-  kept-at place.Clause h = kept-filter _ h
-  kept-at place.Operand h = kept-filter _ h.1
-  kept-at place.Label h = kept-filter _ h.1
-  kept-at place.Index h = kept-filter _ h.1
-  kept-at place.IndexEnd h = kept-filter _ h.1
-  kept-at place.Operator h = kept-filter _ h.1
-  kept-at place.Text h = kept-filter _ h.1
-  kept-at place.Joint h = kept-filter _ h.1
-  kept-at place.Action h = kept-filter _ h.1
-  kept-at place.Denial h = kept-filter _ h.2
-  kept-at place.Error h = kept-filter _ h.1
-  kept-at place.ErrorEnd h = kept-filter _ h.1
-  kept-at (place.Tail grant log) h = kept-filter _ h
-  kept-at (place.Grant log) h = kept-filter _ h
-  kept-at (place.User log) h = kept-filter _ h
-  kept-at (place.Group log) h = kept-filter _ h
-  kept-at place.If h = kept-filter _ h.1
-  kept-at place.Who h = kept-filter _ h.1
-  kept-at (place.Comparison who) h = kept-filter _ h.1
-  kept-at (place.Id who) h = kept-filter _ h.1
-  kept-at place.FilterEnd h = kept-filter _ h
+  kept-at : (p : Place) → Facts env old rows front p w set → IsKept old set
+  kept-at place.Start h = record { own = h.policies; set_is = h.set_is }
+  kept-at place.Row h = kept-behind h.behind
+  kept-at place.PolicyColon h = record { own = h.policies; set_is = h.set_is }
+  kept-at place.Binary h = record { own = h.policies; set_is = h.set_is }
+  kept-at place.Comma h = kept-parts h.policies _ h.set_is
+  kept-at place.Emulation h = kept-parts h.policies _ h.set_is
+  kept-at place.EmulationColon h = kept-parts h.policies _ h.set_is
+  kept-at place.System h = kept-parts h.policies _ h.set_is
+  kept-at place.HeaderEnd h = kept-parts h.policies _ h.set_is
+  kept-at place.NameColon h = kept-behind h.behind
+  kept-at place.Clause h = kept-behind h.behind
+  kept-at place.Operand h = kept-behind h.1.behind
+  kept-at place.Label h = kept-behind h.1.behind
+  kept-at place.Index h = kept-behind h.1.behind
+  kept-at place.IndexEnd h = kept-behind h.1.behind
+  kept-at place.Operator h = kept-behind h.1.behind
+  kept-at place.Text h = kept-behind h.1.behind
+  kept-at place.Joint h = kept-behind h.1.behind
+  kept-at place.Action h = kept-behind h.1.behind
+  kept-at place.Denial h = kept-behind h.2.behind
+  kept-at place.Error h = kept-behind h.1.behind
+  kept-at place.ErrorEnd h = kept-behind h.1.behind
+  kept-at (place.Tail grant log) h = kept-behind h.behind
+  kept-at (place.Grant log) h = kept-behind h.behind
+  kept-at (place.User log) h = kept-behind h.behind
+  kept-at (place.Group log) h = kept-behind h.behind
+  kept-at place.If h = kept-behind h.1.behind
+  kept-at place.Who h = kept-behind h.1.behind
+  kept-at (place.Comparison who) h = kept-behind h.1.behind
+  kept-at (place.Id who) h = kept-behind h.1.behind
+  kept-at place.FilterEnd h = kept-behind h.behind
 
   room-for : (P : List Symbol → Type 0) → FilterFront env old rows front w.filters w.name set P → filters_in set < MOST_FILTERS
   room-for P h = omega (arith, h.filters_are, h.few)
 
-  room-at : (p : Place) → Facts env old rows front p w d set → ends_filter p ≡ true → filters_in set < MOST_FILTERS
+  room-at : (p : Place) → Facts env old rows front p w set → ends_filter p ≡ true → filters_in set < MOST_FILTERS
   room-at place.Denial h e = room-for _ h.2
   room-at (place.Tail grant log) h e = room-for _ h
   room-at (place.User log) h e = room-for _ h
@@ -76,8 +87,11 @@ module _ (env : Env) (old : List BinaryPolicy) (rows front : List Symbol) (w : G
   room-at _ h e = absurd (cc)
 
 pub old_is_kept : (env : Env) (old : List BinaryPolicy) (r : Reading) → IsReached env old r → take (length old) r.set ≡ old
-old_is_kept env old r h = kept-at env old h.stands.rows h.stands.front r.walk r.draft r.set r.walk.place h.stands.facts
+old_is_kept env old r h =
+    let k : IsKept old r.set = kept-at env old h.stands.rows h.stands.front r.walk r.set r.walk.place h.stands.facts in
+    let front : take (length old) (old ++ k.own) ≡ take (length old) old = take-append-le (length old) old k.own (omega arith) in
+    ap (take (length old)) k.set_is ∙ front ∙ take_all (length old) old (omega arith)
 
 -- where a filter ends there is room for it
 pub has_room : (env : Env) (old : List BinaryPolicy) (r : Reading) → IsReached env old r → ends_filter r.walk.place ≡ true → filters_in r.set < MOST_FILTERS
-has_room env old r h e = room-at env old h.stands.rows h.stands.front r.walk r.draft r.set r.walk.place h.stands.facts e
+has_room env old r h e = room-at env old h.stands.rows h.stands.front r.walk r.set r.walk.place h.stands.facts e

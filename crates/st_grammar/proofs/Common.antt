@@ -15,10 +15,11 @@ pub use Rattle.st_filter.specs.declared.filter.Predicate.{Predicate}
 pub use Rattle.st_filter.specs.declared.filter.Who.{Who}
 pub use Rattle.st_filter.specs.declared.set.BinaryPolicy.{BinaryPolicy}
 pub use Rattle.st_filter.specs.declared.set.TheConstants.{MOST_FILTERS}
-pub use Rattle.st_grammar.specs.Diagram.{binaries, GrammarState, is_action, is_close_bracket, is_colon, is_comma, is_keyword, is_line, is_quoted, joined, lexical, next, only, step, step_action, step_as, step_binary, step_comparison, step_denial, step_errno, step_error, step_grant, step_id, step_index, step_indexed, step_joint, step_known, step_label, step_name, step_op, step_operand, step_operator, step_row, step_start, step_system, step_tail, step_to, step_user, step_who, StepResult, word_who}
-pub use Rattle.st_grammar.specs.Draft.{close_either, close_group, Draft, draft_after, draft_step, error_in, fault_in, filter_of, first_draft, first_reading, is_binary_place, new_policy, PendingOperand, read_from, read_step, Reading, reading_of, reading_step, Reduced, set_after, settle, unless_lexical}
+pub use Rattle.st_grammar.specs.Diagram.{acts, completed, concluded, found, fresh, GrammarState, grants, is_action, is_close_bracket, is_colon, is_comma, is_keyword, is_line, joined, lexical, next, only, step, step_action, step_as, step_binary, step_comparison, step_denial, step_error, step_grant, step_group, step_id, step_indexed, step_joint, step_label, step_name, step_operand, step_operator, step_predicate, step_row, step_start, step_system, step_tail, step_text, step_to, step_user, step_who, StepResult, waits, with_group, word_index, word_who}
+pub use Rattle.st_grammar.specs.Expression.{close_either, close_group, joins_both, joins_either, PendingOperand, Reduced, reduced, settle, with_operand, with_pending, without_either}
 pub use Rattle.st_grammar.specs.Grammar.{Always, AreNew, AreRows, Asks, binary_of, Blank, Both, comparison, Denies, DeniesWith, Either, FilterRow, First, Grants, GrantsAndLogs, Grouped, Header, If, Indexed, is_join, IsAction, IsCondition, IsFilter, IsGrant, IsHeader, IsPredicate, IsTail, Logs, LogsAndGrants, MayGrant, most_joins, Negated, NoRow, OfBoth, OfGroup, OfUser, OneConjunction, OneOperand, Permits, Plain, Reads, Short, Spells, symbols_in, Then, who_named, Whoever}
 pub use Rattle.st_grammar.specs.OneFilter.{filter_in, FilterResult}
+pub use Rattle.st_grammar.specs.Reading.{as_reading, binaries, ends_filter, fault_in, fault_of, filter_of, first_reading, is_between_rows, is_binary_place, new_policy, or_refused, policies_in, read_end, read_from, read_step, Reading, reading_behind, reading_of, reading_step, refusal_in, refusal_of, Refusable, set_of, taken, unless_lexical}
 pub use Rattle.st_grammar.specs.Symbol.{Broken, Close, CloseBracket, Colon, Comma, Equal, Line, Open, OpenBracket, Quoted, Symbol, symbol_by, symbol_of, Word}
 pub use Rattle.st_grammar.specs.Words.{filter_name, id_in, index_in, is_label, may_test, may_test_label, names_for, op_named, sets_ids}
 pub use Rattle.st_grammar.specs.declared.env.Env.{Env}

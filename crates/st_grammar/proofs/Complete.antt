@@ -1,13 +1,13 @@
 -- What the grammar says is read.
 use Rattle.std.proofs.Common.{◌≡◌, ◌↔◌, ℕ, ◌+◌, ◌≤◌, Bool, true, false, List, [], ◌∷◌, ◌++◌, length, map, Option, None, Ok, Err, refl, ap, sym, subst, ◌∙◌, arith, append_assoc, append-nil}
-use Rattle.st_grammar.proofs.Common.{add_filter, AreNew, AreRows, BinaryPolicy, Blank, Draft, Env, error_in, fault_in, FilterRow, filters_in, FilterValue, first_reading, GrammarState, has_policy, Header, IsFilter, IsHeader, lexed_text, LexFault, Line, MOST_FILTERS, NoRow, Place, read_from, read_step, Reading, reading_of, Reads, Symbol, symbol_of, symbols_in, Token, with_filter}
+use Rattle.st_grammar.proofs.Common.{add_filter, AreNew, AreRows, BinaryPolicy, Blank, Env, fault_in, fault_of, FilterRow, filters_in, FilterValue, first_reading, GrammarState, has_policy, Header, IsFilter, IsHeader, lexed_text, LexFault, Line, MOST_FILTERS, NoRow, or_refused, Place, read_from, read_step, Reading, reading_of, Reads, Refusable, Symbol, symbol_of, symbols_in, Token, with_filter}
 use Rattle.st_grammar.specs.declared.place.Place.TheVariants as place
 use Rattle.st_grammar.proofs.Texts.{result_after}
 use Rattle.st_grammar.proofs.Readings.{Placed, symbols, read_over, reading_followed, Read, Leads, Passes, passes-none, passes-append, passes-one, passes-more, At, stands}
 use Rattle.st_grammar.proofs.Filters.{HasFilters}
 use Rattle.st_grammar.proofs.FilterRows.{row_place, step-blank, passes-filter, passes-header}
-use Rattle.st_grammar.proofs.RowsKept.{fresh_policy, filters-append}
-use Rattle.st_grammar.proofs.Sound.{add-last, filters-with, reading-is_sound}
+use Rattle.st_grammar.proofs.Policies.{add-last, filters-append, filters-with, fresh_policy, new-before, new-without}
+use Rattle.st_grammar.proofs.Sound.{reading-is_sound}
 
 -- ---- rows
 
@@ -22,16 +22,6 @@ AtRows old ps = At (row_place (is_below ps)) (old ++ ps) (HasFilters (filters_in
 pub below-last : (ps : List BinaryPolicy) (p : BinaryPolicy) → is_below (ps ++ p ∷ []) ≡ true
 below-last [] p = refl
 below-last (q ∷ qs) p = refl
-
-new-before : (known ps : List BinaryPolicy) (p : BinaryPolicy) → AreNew known (ps ++ p ∷ []) → AreNew known ps × (has_policy (known ++ ps) p.binary ≡ false)
-new-before known [] p a = (tt, ap (λ (xs : List BinaryPolicy). has_policy xs p.binary) (append-nil known) ∙ a.0)
-new-before known (q ∷ qs) p a =
-    let b : AreNew (known ++ q ∷ []) qs × (has_policy ((known ++ q ∷ []) ++ qs) p.binary ≡ false) = new-before (known ++ q ∷ []) qs p a.1 in
-    ((a.0, b.0), ap (λ (xs : List BinaryPolicy). has_policy xs p.binary) (sym (append_assoc known (q ∷ []) qs)) ∙ b.1)
-
-new-without : (known ps : List BinaryPolicy) (p : BinaryPolicy) (f : FilterValue) → AreNew known (ps ++ with_filter p f ∷ []) → AreNew known (ps ++ p ∷ [])
-new-without known [] p f a = (a.0, tt)
-new-without known (q ∷ qs) p f a = (a.0, new-without (known ++ q ∷ []) qs p f a.1)
 
 at-below : (b c : Bool) (set next : List BinaryPolicy) (n m : ℕ) → b ≡ c → set ≡ next → n ≡ m → (r : Reading) → At (row_place b) set (HasFilters n) r → At (row_place c) next (HasFilters m) r
 at-below b c set next n m e f g r a =
@@ -49,7 +39,7 @@ module _ (env : Env) (old : List BinaryPolicy) where
       let p : BinaryPolicy = fresh_policy binary in
       let same : (old ++ ps) ++ p ∷ [] ≡ old ++ (ps ++ p ∷ []) = append_assoc old ps (p ∷ []) in
       let count : n ≡ filters_in (old ++ (ps ++ p ∷ [])) = sym (omega (arith, filters-append (old ++ ps) (p ∷ []))) ∙ ap filters_in same in
-      passes-more env _ _ _ (row ++ Line ∷ []) (passes-header env (old ++ ps) n (is_below ps) row binary h new)
+      passes-more (passes-header env (old ++ ps) n (is_below ps) row binary h new)
       (at-below true (is_below (ps ++ p ∷ [])) ((old ++ ps) ++ p ∷ []) (old ++ (ps ++ p ∷ [])) n (filters_in (old ++ (ps ++ p ∷ []))) (sym (below-last ps p)) same count)
 
   filter-rows : (row : List Symbol) (ps : List BinaryPolicy) (p : BinaryPolicy) (f : FilterValue) → IsFilter env row f → filters_in (old ++ (ps ++ with_filter p f ∷ [])) ≤ MOST_FILTERS →
@@ -61,7 +51,7 @@ module _ (env : Env) (old : List BinaryPolicy) where
       let added : add_filter set f ≡ next = ap (λ (xs : List BinaryPolicy). add_filter xs f) (sym (append_assoc old ps (p ∷ []))) ∙ add-last (old ++ ps) p f ∙ append_assoc old ps (with_filter p f ∷ []) in
       let count : n + 1 ≡ filters_in next = ap (λ (xs : List BinaryPolicy). filters_in xs + 1) (sym (append_assoc old ps (p ∷ []))) ∙ sym (filters-with (old ++ ps) p f) ∙ ap filters_in (append_assoc old ps (with_filter p f ∷ [])) in
       from-below env (is_below (ps ++ p ∷ [])) true set n (row ++ Line ∷ []) (AtRows old (ps ++ with_filter p f ∷ [])) (below-last ps p)
-      (passes-more env _ _ _ (row ++ Line ∷ []) (passes-filter env set n row f h (omega (arith, count, few)))
+      (passes-more (passes-filter env set n row f h (omega (arith, count, few)))
       (at-below true (is_below (ps ++ with_filter p f ∷ [])) (add_filter set f) next (n + 1) (filters_in next) (sym (below-last ps (with_filter p f))) added count))
 
   fewer : (ps : List BinaryPolicy) (p : BinaryPolicy) → filters_in (old ++ (ps ++ p ∷ [])) ≤ MOST_FILTERS → filters_in (old ++ ps) ≤ MOST_FILTERS
@@ -71,15 +61,15 @@ module _ (env : Env) (old : List BinaryPolicy) where
   fewer-with ps p f few = omega (arith, few, filters-with (old ++ ps) p f, ap filters_in (append_assoc old ps (p ∷ [])), ap filters_in (append_assoc old ps (with_filter p f ∷ [])))
 
   pub passes-rows : {ts : List Symbol} {ps : List BinaryPolicy} → AreRows env ts ps → AreNew old ps → filters_in (old ++ ps) ≤ MOST_FILTERS → Passes env (AtRows old []) ts (AtRows old ps)
-  passes-rows NoRow new few = passes-none env (AtRows old []) (AtRows old []) (λ r a. a)
-  passes-rows (Blank ts ps rows) new few = passes-append env _ _ _ ts (Line ∷ []) (passes-rows rows new few) (passes-one env _ _ Line (step-blank env (old ++ ps) (filters_in (old ++ ps)) (is_below ps)))
+  passes-rows NoRow new few = passes-none (λ r a. a)
+  passes-rows (Blank ts ps rows) new few = passes-append (passes-rows rows new few) (passes-one (step-blank env (old ++ ps) (filters_in (old ++ ps)) (is_below ps)))
   passes-rows (Header ts row ps binary rows h) new few =
       let n : AreNew old ps × (has_policy (old ++ ps) binary ≡ false) = new-before old ps (fresh_policy binary) new in
       subst (λ (us : List Symbol). Passes env (AtRows old []) us (AtRows old (ps ++ fresh_policy binary ∷ []))) (sym (append_assoc ts row (Line ∷ [])))
-      (passes-append env _ _ _ ts (row ++ Line ∷ []) (passes-rows rows n.0 (fewer ps (fresh_policy binary) few)) (header-rows row ps binary h n.1))
+      (passes-append (passes-rows rows n.0 (fewer ps (fresh_policy binary) few)) (header-rows row ps binary h n.1))
   passes-rows (FilterRow ts row ps p f rows h) new few =
       subst (λ (us : List Symbol). Passes env (AtRows old []) us (AtRows old (ps ++ with_filter p f ∷ []))) (sym (append_assoc ts row (Line ∷ [])))
-      (passes-append env _ _ _ ts (row ++ Line ∷ []) (passes-rows rows (new-without old ps p f new) (fewer-with ps p f few)) (filter-rows row ps p f h few))
+      (passes-append (passes-rows rows (new-without old ps p f new) (fewer-with ps p f few)) (filter-rows row ps p f h few))
 
 -- ---- texts
 
@@ -94,25 +84,24 @@ symbols-placed : (text : List ℕ) (ts : List Token) → symbols (ended text ts)
 symbols-placed text [] = refl
 symbols-placed text (t ∷ ts) = ap (λ (us : List Symbol). symbol_of text t ∷ us) (symbols-placed text ts)
 
-pub followed-ok : (x : Read) → x ≡ reading_followed (λ r. Ok r) x
-followed-ok (Ok r) = refl
-followed-ok (Err fault) = refl
+end-over : (r q : Reading) (x : Read) → reading_followed (λ r. Ok r) x ≡ Ok q → or_refused r x ≡ Ok q
+end-over r q (Ok r') e = ap (λ x. or_refused r x) e
+end-over r q (Err fault) e = absurd (cc)
 
-behind-followed : (env : Env) (text : List ℕ) (ts : List Token) → ((r : Reading) → read_from env text None r ts ≡ read_over env r (ended text ts)) → (x : Read) → result_after env text None ts x ≡ reading_followed (λ r. read_over env r (ended text ts)) x
-behind-followed env text ts h (Ok r) = h r
-behind-followed env text ts h (Err fault) = refl
+from-over : (env : Env) (text : List ℕ) (ts : List Token) (r q : Reading) → read_over env r (ended text ts) ≡ Ok q → read_from env text None r ts ≡ Ok q
+from-over env text [] r q e = end-over r q (read_step env r (length text) Line) e
+from-over env text (t ∷ ts) r q e = by (λ r. from-over env text ts r q) (read_step env r t.at (symbol_of text t)) e where
+  by : ((r : Reading) → read_over env r (ended text ts) ≡ Ok q → read_from env text None r ts ≡ Ok q) → (x : Read) → reading_followed (λ r. read_over env r (ended text ts)) x ≡ Ok q → result_after env text None r ts x ≡ Ok q
+  by ih (Ok r') e = ih r' e
+  by ih (Err fault) e = absurd (cc)
 
-from-over : (env : Env) (text : List ℕ) (ts : List Token) (r : Reading) → read_from env text None r ts ≡ read_over env r (ended text ts)
-from-over env text [] r = followed-ok (read_step env r (length text) Line)
-from-over env text (t ∷ ts) r = behind-followed env text ts (from-over env text ts) (read_step env r t.at (symbol_of text t))
-
-at-set : (p : Place) (set : List BinaryPolicy) (H : GrammarState → Draft → Type 0) (r : Reading) → At p set H r → r.set ≡ set
-at-set p set H r (stands w d h) = refl
+at-set : (p : Place) (set : List BinaryPolicy) (H : GrammarState → Type 0) (r : Reading) → At p set H r → r.set ≡ set
+at-set p set H r (stands w h) = refl
 
 pub first-rows : (old : List BinaryPolicy) → AtRows old [] (first_reading old)
 first-rows old =
     subst (λ (xs : List BinaryPolicy). At place.Start xs (HasFilters (filters_in xs)) (first_reading old)) (sym (append-nil old))
-    (stands (first_reading old).walk (first_reading old).draft (record { filters_are = refl }))
+    (stands (first_reading old).walk (record { filters_are = refl }))
 
 -- the symbols of a text that is read lead to its policies, wherever they stand
 pub rows-read : (text : List ℕ) (env : Env) (old set : List BinaryPolicy) (h : Reads text env old set) (zs : List Placed) → symbols zs ≡ symbols_in text ++ Line ∷ [] → Leads env (first_reading old) zs (AtRows old h.policies)
@@ -125,7 +114,7 @@ pub reading-is_complete : (text : List ℕ) (env : Env) (old set : List BinaryPo
 reading-is_complete text env old set h =
     let ts : List Token = (lexed_text text).tokens in
     let l : Leads env (first_reading old) (ended text ts) (AtRows old h.policies) = rows-read text env old set h (ended text ts) (symbols-placed text ts) in
-    let read : reading_of text env old ≡ Ok l.reading = ap (λ (x : Option LexFault). read_from env text x (first_reading old) ts) h.whole ∙ from-over env text ts (first_reading old) ∙ l.over in
+    let read : reading_of text env old ≡ Ok l.reading = ap (λ (x : Option LexFault). read_from env text x (first_reading old) ts) h.whole ∙ from-over env text ts (first_reading old) l.reading l.over in
     (l.reading, read, at-set (row_place (is_below h.policies)) (old ++ h.policies) (HasFilters (filters_in (old ++ h.policies))) l.reading l.holds ∙ sym h.set_is)
 
 -- the reading and the grammar agree
@@ -142,9 +131,9 @@ reads-once text env old a b p q =
 
 -- ---- faults
 
-no-error : (x : Read) → error_in x ≡ None → (r : Reading) × (x ≡ Ok r)
+no-error : (x : Refusable) → fault_of x ≡ None → (r : Reading) × (x ≡ Ok r)
 no-error (Ok r) e = (r, refl)
-no-error (Err fault) e = absurd (cc)
+no-error (Err refusal) e = absurd (cc)
 
 -- where there is no fault a set is read
 pub faultless-reads : (text : List ℕ) (env : Env) (old : List BinaryPolicy) → filters_in old ≤ MOST_FILTERS → fault_in text env old ≡ None → (set : List BinaryPolicy) × Reads text env old set
@@ -156,7 +145,7 @@ faultless-reads text env old few e =
 pub reads-faultless : (text : List ℕ) (env : Env) (old set : List BinaryPolicy) → Reads text env old set → fault_in text env old ≡ None
 reads-faultless text env old set h =
     let x : (r : Reading) × (reading_of text env old ≡ Ok r) × (r.set ≡ set) = reading-is_complete text env old set h in
-    ap error_in x.1
+    ap fault_of x.1
 
 pub faultless-iff : (text : List ℕ) (env : Env) (old : List BinaryPolicy) → filters_in old ≤ MOST_FILTERS → (fault_in text env old ≡ None) ↔ ((set : List BinaryPolicy) × Reads text env old set)
 faultless-iff text env old few = (faultless-reads text env old few, λ h. reads-faultless text env old h.0 h.1)

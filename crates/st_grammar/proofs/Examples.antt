@@ -1,6 +1,7 @@
 -- Texts that the definitions read as they should.
-use Rattle.std.proofs.Common.{◌≡◌, ℕ, List, [], ◌∷◌, ◌++◌, None, Some, Option, Result, Ok, Err, true, false, refl, codes}
-use Rattle.st_grammar.proofs.Common.{And, BinaryPolicy, Call, Deny, DuplicatePolicy, ElevateOnSetId, ElevateWithoutIds, Env, fault_in, FilterValue, FsRead, Lex, Not, NotSupported, Or, Permit, PolicyFault, Reading, reading_of, Test, True}
+use Rattle.std.proofs.Common.{◌≡◌, ℕ, List, [], ◌∷◌, ◌++◌, None, Some, Ok, true, false, refl, codes}
+use Rattle.st_grammar.proofs.Common.{And, Call, Deny, DuplicatePolicy, ElevateOnSetId, ElevateWithoutIds, Env, fault_in, FilterValue, FsRead, Lex, Not, NotSupported, Or, Permit, policies_in, refusal_in, Test, True}
+use Rattle.st_grammar.specs.declared.place.Place.TheVariants as place
 use Rattle.st_lex.specs.declared.token.LexFault.TheVariants.{OpenQuote}
 use Rattle.st_grammar.specs.declared.fault.Unsupported.TheVariants.{Re}
 use Rattle.st_base.specs.declared.errno.Errno.TheVariants.{ENOENT}
@@ -40,10 +41,6 @@ sets_ids = refl
 good : fault_in (after_header (codes "native-fsread: filename eq \"/etc\" or not true and true then deny[enoent] log, if user != root")) with_elevate [] ≡ None
 good = refl
 
-abbrev set_in : Result Reading PolicyFault → Option (List BinaryPolicy)
-set_in (Ok r) = Some r.set
-set_in (Err fault) = None
-
 abbrev denial : FilterValue
 denial = record {
   name = name.Rule FsRead;
@@ -64,9 +61,9 @@ permission = record {
   predicate = None;
 }
 
-good_set : set_in (reading_of (after_header (codes "native-fsread: filename eq \"/etc\" or not true and true then deny[enoent] log, if user != root" ++ 10 ∷ codes "native-bind: permit log as 0:wheel")) with_elevate [])
-    ≡ Some (record { binary = codes "/bin/a"; filters = denial ∷ permission ∷ [] } ∷ [])
+good_set : policies_in (after_header (codes "native-fsread: filename eq \"/etc\" or not true and true then deny[enoent] log, if user != root" ++ 10 ∷ codes "native-bind: permit log as 0:wheel")) with_elevate []
+    ≡ Ok (record { binary = codes "/bin/a"; filters = denial ∷ permission ∷ [] } ∷ [])
 good_set = refl
 
-binary_twice : fault_in (codes "Policy: /a, Emulation: native") with_elevate (record { binary = codes "/a"; filters = [] } ∷ []) ≡ Some (DuplicatePolicy 8)
-binary_twice = refl
+refused : refusal_in (codes "Policy: /a, Emulation: native") with_elevate (record { binary = codes "/a"; filters = [] } ∷ []) ≡ Some (record { fault = DuplicatePolicy 8; place = place.Binary })
+refused = refl

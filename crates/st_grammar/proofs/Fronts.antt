@@ -1,11 +1,20 @@
 -- What has been spelled at each place of the grammar.
-use Rattle.std.proofs.Common.{◌≡◌, ℕ, ◌+◌, ◌≤◌, Bool, true, false, not, List, [], ◌∷◌, ◌++◌, Option, None, Some, Ok, Err, if◌then◌else◌, codes, sum_by, refl, ap, sym, subst}
+use Rattle.std.proofs.Common.{◌≡◌, ℕ, ◌+◌, ◌≤◌, Bool, true, false, not, List, [], ◌∷◌, ◌++◌, Option, None, Some, Ok, Err, codes, sum_by, refl, ap, sym, ◌∙◌, append_assoc, append-nil}
 use Rattle.std.specs.Str.{bytes_eq}
-use Rattle.st_grammar.proofs.Common.{Action, AreNew, AreRows, binary_of, BinaryPolicy, Cmp, Colon, Comma, comparison, Deny, Draft, Env, EPERM, Errno, error_named, filter_name, FilterName, filters_in, first_draft, Formula, GrammarState, Grant, id_in, index_in, is_join, is_label, IsAction, IsCondition, IsGrant, IsPredicate, IsTail, may_test, MayGrant, MOST_FILTERS, most_joins, Op, op_named, OpenBracket, Operand, PendingOperand, Permit, Place, Predicate, Quoted, Reading, reading_step, Reduced, Spells, StepResult, Symbol, Test, unquoted, Who, who_named, Word}
+use Rattle.st_grammar.proofs.Common.{Action, AreNew, AreRows, binary_of, BinaryPolicy, Cmp, Colon, Comma, comparison, Deny, Env, EPERM, Errno, error_named, filter_name, filter_of, FilterName, filters_in, fresh, GrammarState, Grant, id_in, index_in, is_join, is_label, IsAction, IsCondition, IsGrant, IsPredicate, IsTail, may_test, MOST_FILTERS, most_joins, Op, op_named, OpenBracket, Operand, PendingOperand, Permit, Place, Predicate, Quoted, Reduced, Spells, Symbol, Test, True, unquoted, Who, who_named, Word}
 use Rattle.st_grammar.specs.declared.place.Place.TheVariants as place
 use Rattle.st_grammar.proofs.Keywords.{same-word}
 use Rattle.st_grammar.proofs.Readings.{Read}
+use Rattle.st_grammar.proofs.Expressions.{blank}
 use Rattle.st_grammar.proofs.Stacks.{Opens, Ends, groups}
+
+-- a filter of which nothing is read behind its name
+abbrev pub IsFirst : GrammarState → Type 0
+IsFirst w = record w { place = place.Start } ≡ fresh place.Start w.filters w.name
+
+-- a filter of which its name, expression and action are read at most
+abbrev pub IsPlain : GrammarState → Type 0
+IsPlain w = record (filter_of w) { formula = True; action = Permit } ≡ blank w.name True
 
 -- ---- rows and headers
 
@@ -46,20 +55,17 @@ pub record BelowHeader (env : Env) (old : List BinaryPolicy) (rows front : List 
   pub filters_are : filters ≡ filters_in set
   pub few : filters ≤ MOST_FILTERS
 
-pub record NameFront (env : Env) (old : List BinaryPolicy) (rows front : List Symbol) (w : GrammarState) (d : Draft) (set : List BinaryPolicy) : Type 0 where
+pub record NameFront (env : Env) (old : List BinaryPolicy) (rows front : List Symbol) (w : GrammarState) (set : List BinaryPolicy) : Type 0 where
   pub behind : Behind env old rows set
   pub filters_are : w.filters ≡ filters_in set + 1
   pub few : w.filters ≤ MOST_FILTERS
   pub spelled : List ℕ
   pub front_is : front ≡ Word spelled ∷ []
   pub name_is : filter_name spelled ≡ Some w.name
-  pub first : d ≡ first_draft
-  pub no_parens : w.parens ≡ 0
-  pub no_joins : w.joins ≡ 0
+  pub first : IsFirst w
 
 -- ---- filters
 
--- a filter's name and colon, and what follows them
 pub record FilterFront (env : Env) (old : List BinaryPolicy) (rows front : List Symbol) (filters : ℕ) (name : FilterName) (set : List BinaryPolicy) (P : List Symbol → Type 0) : Type 0 where
   pub behind : Behind env old rows set
   pub filters_are : filters ≡ filters_in set + 1
@@ -70,16 +76,17 @@ pub record FilterFront (env : Env) (old : List BinaryPolicy) (rows front : List 
   pub name_is : filter_name spelled ≡ Some name
   pub rest : P us
 
-pub record IsPlain (grant : Option Grant) (log : Bool) (predicate : Option Predicate) : Type 0 where
-  pub no_grant : grant ≡ None
-  pub no_log : log ≡ false
-  pub no_predicate : predicate ≡ None
+-- symbols of which some are of one kind, and those behind them of another
+pub record Parts (P Q : List Symbol → Type 0) (us : List Symbol) : Type 0 where
+  pub front : List Symbol
+  pub back : List Symbol
+  pub parts : us ≡ front ++ back
+  pub first : P front
+  pub rest : Q back
 
-pub record IsFirst (w : GrammarState) (d : Draft) (us : List Symbol) : Type 0 where
-  pub none : us ≡ []
-  pub first : d ≡ first_draft
-  pub no_parens : w.parens ≡ 0
-  pub no_joins : w.joins ≡ 0
+-- with no symbol, and where nothing is read
+abbrev pub FirstFront : GrammarState → List Symbol → Type 0
+FirstFront w us = (us ≡ []) × IsFirst w
 
 pub record OperandFront (env : Env) (name : FilterName) (s : List PendingOperand) (parens n : ℕ) (us : List Symbol) : Type 0 where
   pub opens : Opens env name s us
@@ -87,12 +94,8 @@ pub record OperandFront (env : Env) (name : FilterName) (s : List PendingOperand
   pub joins_are : n ≡ sum_by is_join us
   pub few : n ≤ most_joins
 
--- a test that has begun behind what waits for it
-pub record TestFront (env : Env) (name : FilterName) (s : List PendingOperand) (parens n : ℕ) (P : List Symbol → Type 0) (us : List Symbol) : Type 0 where
-  pub front : List Symbol
-  pub begun : List Symbol
-  pub parts : us ≡ front ++ begun
-  pub operand : OperandFront env name s parens n front
+-- symbols of a test that has begun, of which none is a join
+pub record TestFront (P : List Symbol → Type 0) (begun : List Symbol) : Type 0 where
   pub none : sum_by is_join begun ≡ 0
   pub rest : P begun
 
@@ -128,30 +131,12 @@ pub record JointFront (env : Env) (name : FilterName) (e : Reduced) (parens n : 
 
 -- ---- actions and what follows them
 
--- a condition, and the symbols of an action that has begun
-pub record ActionFront (env : Env) (name : FilterName) (f : Formula) (begun : List Symbol) (us : List Symbol) : Type 0 where
-  pub condition : List Symbol
-  pub parts : us ≡ condition ++ begun
-  pub condition_is : IsCondition env name condition f
-
-pub record ErrorFront (env : Env) (name : FilterName) (f : Formula) (action : Action) (us : List Symbol) : Type 0 where
+pub record ErrorFront (action : Action) (begun : List Symbol) : Type 0 where
   pub word : List ℕ
   pub errno : Errno
-  pub condition : List Symbol
-  pub parts : us ≡ condition ++ Word (codes "deny") ∷ OpenBracket ∷ Word word ∷ []
-  pub condition_is : IsCondition env name condition f
+  pub begun_is : begun ≡ Word (codes "deny") ∷ OpenBracket ∷ Word word ∷ []
   pub errno_is : error_named word ≡ Some errno
   pub action_is : action ≡ Deny errno
-
--- a condition, an action, and what follows the action so far
-pub record ActedFront (env : Env) (name : FilterName) (f : Formula) (action : Action) (P : List Symbol → Type 0) (us : List Symbol) : Type 0 where
-  pub condition : List Symbol
-  pub acted : List Symbol
-  pub begun : List Symbol
-  pub parts : us ≡ (condition ++ acted) ++ begun
-  pub condition_is : IsCondition env name condition f
-  pub action_is : IsAction env acted action
-  pub rest : P begun
 
 -- `log` before `as`, unless it may still come
 abbrev pub logged : Bool → List Symbol
@@ -170,40 +155,23 @@ pub record TailFront (env : Env) (name : FilterName) (may_grant may_log : Bool) 
   pub logging : may_log ≡ true → IsTail env name action (begun ++ Word (codes "log") ∷ []) grant true
   pub no_predicate : predicate ≡ None
 
-pub record GrantFront (env : Env) (name : FilterName) (log : Bool) (action : Action) (logs : Bool) (predicate : Option Predicate) (begun : List Symbol) : Type 0 where
-  pub may : MayGrant env name action
-  pub begun_is : begun ≡ logged log ++ Word (codes "as") ∷ []
-  pub logs_are : logs ≡ not log
-  pub no_predicate : predicate ≡ None
+-- with ids these symbols are what may stand behind an action
+abbrev pub EndsByGrant : Env → GrammarState → Bool → List Symbol → Type 0
+EndsByGrant env w log begun = (ts : List Symbol) (g : Grant) → IsGrant env ts g → TailFront env w.name false log w.action (Some g) w.log w.predicate (begun ++ ts)
 
-pub record UserFront (env : Env) (name : FilterName) (log : Bool) (action : Action) (grant : Option Grant) (logs : Bool) (predicate : Option Predicate) (begun : List Symbol) : Type 0 where
+pub record UserFront (env : Env) (grant : Option Grant) (ids : List Symbol) : Type 0 where
   pub user : List ℕ
   pub id : ℕ
-  pub may : MayGrant env name action
-  pub begun_is : begun ≡ logged log ++ Word (codes "as") ∷ Word user ∷ []
+  pub ids_are : ids ≡ Word user ∷ []
   pub id_is : id_in env.users user ≡ Some id
   pub grant_is : grant ≡ Some (record { user = Some id; group = None })
-  pub logs_are : logs ≡ not log
-  pub no_predicate : predicate ≡ None
 
-pub record GroupFront (env : Env) (name : FilterName) (log : Bool) (action : Action) (grant : Option Grant) (logs : Bool) (predicate : Option Predicate) (begun : List Symbol) : Type 0 where
-  pub granted : List Symbol
+pub record GroupFront (env : Env) (grant : Option Grant) (ids : List Symbol) : Type 0 where
   pub user : Option ℕ
-  pub may : MayGrant env name action
-  pub begun_is : begun ≡ logged log ++ Word (codes "as") ∷ granted
   pub grant_is : grant ≡ Some (record { user = user; group = None })
-  pub with_group : (group : List ℕ) (g : ℕ) → id_in env.groups group ≡ Some g → IsGrant env (granted ++ Word group ∷ []) (record { user = user; group = Some g })
-  pub logs_are : logs ≡ not log
-  pub no_predicate : predicate ≡ None
+  pub with_group : (group : List ℕ) (g : ℕ) → id_in env.groups group ≡ Some g → IsGrant env (ids ++ Word group ∷ []) (record { user = user; group = Some g })
 
 -- ---- predicates
-
-pub record PredicateFront (env : Env) (name : FilterName) (action : Action) (grant : Option Grant) (logs : Bool) (P : List Symbol → Type 0) (us : List Symbol) : Type 0 where
-  pub tail : List Symbol
-  pub begun : List Symbol
-  pub parts : us ≡ tail ++ begun
-  pub tail_is : IsTail env name action tail grant logs
-  pub rest : P begun
 
 pub record WhoFront (who : Who) (begun : List Symbol) : Type 0 where
   pub word : List ℕ
@@ -219,78 +187,98 @@ pub record ComparedFront (who : Who) (cmp : Cmp) (begun : List Symbol) : Type 0 
 
 -- ---- all places
 
+-- a filter's name and colon, and what follows them
 abbrev pub Filtered : Env → List BinaryPolicy → List Symbol → List Symbol → GrammarState → List BinaryPolicy → (List Symbol → Type 0) → Type 0
 Filtered env old rows front w set P = FilterFront env old rows front w.filters w.name set P
 
-abbrev pub Plain : Draft → Type 0
-Plain d = IsPlain d.grant d.log d.predicate
+-- what waits, and a test that has begun
+abbrev pub Tested : Env → GrammarState → (List Symbol → Type 0) → List Symbol → Type 0
+Tested env w P = Parts (OperandFront env w.name w.expression.pending w.parens w.joins) (TestFront P)
 
-abbrev pub Tested : Env → GrammarState → Draft → (List Symbol → Type 0) → List Symbol → Type 0
-Tested env w d P us = TestFront env w.name d.expression.pending w.parens w.joins P us
+-- a condition, and what follows it
+abbrev pub Conditioned : Env → GrammarState → (List Symbol → Type 0) → List Symbol → Type 0
+Conditioned env w P = Parts (λ ts. IsCondition env w.name ts w.expression.formula) P
 
-abbrev pub Acted : Env → GrammarState → Draft → (List Symbol → Type 0) → List Symbol → Type 0
-Acted env w d P us = ActedFront env w.name d.expression.formula d.action P us
+-- a condition, an action, and what follows it
+abbrev pub Acted : Env → GrammarState → (List Symbol → Type 0) → List Symbol → Type 0
+Acted env w P = Conditioned env w (Parts (λ ts. IsAction env ts w.action) P)
 
-abbrev pub Tailed : Env → GrammarState → Draft → (List Symbol → Type 0) → List Symbol → Type 0
-Tailed env w d P us = ActedFront env w.name d.expression.formula d.action (PredicateFront env w.name d.action d.grant d.log P) us
+-- all before a predicate, and what is read of that
+abbrev pub Tailed : Env → GrammarState → (List Symbol → Type 0) → List Symbol → Type 0
+Tailed env w P = Acted env w (Parts (λ ts. IsTail env w.name w.action ts w.grant w.log) P)
 
 -- what the symbols of a row so far have spelled
-abbrev pub Facts : Env → List BinaryPolicy → List Symbol → List Symbol → Place → GrammarState → Draft → List BinaryPolicy → Type 0
-Facts env old rows front place.Start w d set = RowFront env old rows front [] w.filters set
-Facts env old rows front place.Row w d set = BelowHeader env old rows front w.filters set
-Facts env old rows front place.PolicyColon w d set = RowFront env old rows front (Word (codes "Policy") ∷ []) w.filters set
-Facts env old rows front place.Binary w d set = RowFront env old rows front (Word (codes "Policy") ∷ Colon ∷ []) w.filters set
-Facts env old rows front place.Comma w d set = HeaderFront env old rows front [] w.filters set
-Facts env old rows front place.Emulation w d set = HeaderFront env old rows front (Comma ∷ []) w.filters set
-Facts env old rows front place.EmulationColon w d set = HeaderFront env old rows front (Comma ∷ Word (codes "Emulation") ∷ []) w.filters set
-Facts env old rows front place.System w d set = HeaderFront env old rows front (Comma ∷ Word (codes "Emulation") ∷ Colon ∷ []) w.filters set
-Facts env old rows front place.HeaderEnd w d set = HeaderFront env old rows front (Comma ∷ Word (codes "Emulation") ∷ Colon ∷ Word (codes "native") ∷ []) w.filters set
-Facts env old rows front place.NameColon w d set = NameFront env old rows front w d set
-Facts env old rows front place.Clause w d set = Filtered env old rows front w set (IsFirst w d)
-Facts env old rows front place.Operand w d set = Plain d × Filtered env old rows front w set (OperandFront env w.name d.expression.pending w.parens w.joins)
-Facts env old rows front place.Label w d set = Plain d × Filtered env old rows front w set (Tested env w d (LabelFront w.label d.index))
-Facts env old rows front place.Index w d set = Plain d × Filtered env old rows front w set (Tested env w d (IndexFront w.label))
-Facts env old rows front place.IndexEnd w d set = Plain d × Filtered env old rows front w set (Tested env w d (IndexedFront w.name w.label d.index))
-Facts env old rows front place.Operator w d set = Plain d × Filtered env old rows front w set (Tested env w d (EndsByOp env w.name w.label d.index))
-Facts env old rows front place.Text w d set = Plain d × Filtered env old rows front w set (Tested env w d (EndsByText env w.name w.label d.index d.op))
-Facts env old rows front place.Joint w d set = Plain d × Filtered env old rows front w set (JointFront env w.name d.expression w.parens w.joins)
-Facts env old rows front place.Action w d set = Plain d × Filtered env old rows front w set (ActionFront env w.name d.expression.formula [])
-Facts env old rows front place.Denial w d set = Plain d × (d.action ≡ Deny EPERM) × Filtered env old rows front w set (ActionFront env w.name d.expression.formula (Word (codes "deny") ∷ []))
-Facts env old rows front place.Error w d set = Plain d × Filtered env old rows front w set (ActionFront env w.name d.expression.formula (Word (codes "deny") ∷ OpenBracket ∷ []))
-Facts env old rows front place.ErrorEnd w d set = Plain d × Filtered env old rows front w set (ErrorFront env w.name d.expression.formula d.action)
-Facts env old rows front (place.Tail grant log) w d set = Filtered env old rows front w set (Acted env w d (TailFront env w.name grant log d.action d.grant d.log d.predicate))
-Facts env old rows front (place.Grant log) w d set = Filtered env old rows front w set (Acted env w d (GrantFront env w.name log d.action d.log d.predicate))
-Facts env old rows front (place.User log) w d set = Filtered env old rows front w set (Acted env w d (UserFront env w.name log d.action d.grant d.log d.predicate))
-Facts env old rows front (place.Group log) w d set = Filtered env old rows front w set (Acted env w d (GroupFront env w.name log d.action d.grant d.log d.predicate))
-Facts env old rows front place.If w d set = (d.predicate ≡ None) × Filtered env old rows front w set (Tailed env w d (λ begun. begun ≡ Comma ∷ []))
-Facts env old rows front place.Who w d set = (d.predicate ≡ None) × Filtered env old rows front w set (Tailed env w d (λ begun. begun ≡ Comma ∷ Word (codes "if") ∷ []))
-Facts env old rows front (place.Comparison who) w d set = (d.predicate ≡ None) × Filtered env old rows front w set (Tailed env w d (WhoFront who))
-Facts env old rows front (place.Id who) w d set = (d.predicate ≡ None) × Filtered env old rows front w set (Tailed env w d (ComparedFront who d.cmp))
-Facts env old rows front place.FilterEnd w d set = Filtered env old rows front w set (Tailed env w d (λ begun. IsPredicate env begun d.predicate))
+abbrev pub Facts : Env → List BinaryPolicy → List Symbol → List Symbol → Place → GrammarState → List BinaryPolicy → Type 0
+Facts env old rows front place.Start w set = RowFront env old rows front [] w.filters set
+Facts env old rows front place.Row w set = BelowHeader env old rows front w.filters set
+Facts env old rows front place.PolicyColon w set = RowFront env old rows front (Word (codes "Policy") ∷ []) w.filters set
+Facts env old rows front place.Binary w set = RowFront env old rows front (Word (codes "Policy") ∷ Colon ∷ []) w.filters set
+Facts env old rows front place.Comma w set = HeaderFront env old rows front [] w.filters set
+Facts env old rows front place.Emulation w set = HeaderFront env old rows front (Comma ∷ []) w.filters set
+Facts env old rows front place.EmulationColon w set = HeaderFront env old rows front (Comma ∷ Word (codes "Emulation") ∷ []) w.filters set
+Facts env old rows front place.System w set = HeaderFront env old rows front (Comma ∷ Word (codes "Emulation") ∷ Colon ∷ []) w.filters set
+Facts env old rows front place.HeaderEnd w set = HeaderFront env old rows front (Comma ∷ Word (codes "Emulation") ∷ Colon ∷ Word (codes "native") ∷ []) w.filters set
+Facts env old rows front place.NameColon w set = NameFront env old rows front w set
+Facts env old rows front place.Clause w set = Filtered env old rows front w set (FirstFront w)
+Facts env old rows front place.Operand w set = IsPlain w × Filtered env old rows front w set (OperandFront env w.name w.expression.pending w.parens w.joins)
+Facts env old rows front place.Label w set = IsPlain w × Filtered env old rows front w set (Tested env w (LabelFront w.label w.index))
+Facts env old rows front place.Index w set = IsPlain w × Filtered env old rows front w set (Tested env w (IndexFront w.label))
+Facts env old rows front place.IndexEnd w set = IsPlain w × Filtered env old rows front w set (Tested env w (IndexedFront w.name w.label w.index))
+Facts env old rows front place.Operator w set = IsPlain w × Filtered env old rows front w set (Tested env w (EndsByOp env w.name w.label w.index))
+Facts env old rows front place.Text w set = IsPlain w × Filtered env old rows front w set (Tested env w (EndsByText env w.name w.label w.index w.op))
+Facts env old rows front place.Joint w set = IsPlain w × Filtered env old rows front w set (JointFront env w.name w.expression w.parens w.joins)
+Facts env old rows front place.Action w set = IsPlain w × Filtered env old rows front w set (Conditioned env w (λ begun. begun ≡ []))
+Facts env old rows front place.Denial w set = IsPlain w × (w.action ≡ Deny EPERM) × Filtered env old rows front w set (Conditioned env w (λ begun. begun ≡ Word (codes "deny") ∷ []))
+Facts env old rows front place.Error w set = IsPlain w × Filtered env old rows front w set (Conditioned env w (λ begun. begun ≡ Word (codes "deny") ∷ OpenBracket ∷ []))
+Facts env old rows front place.ErrorEnd w set = IsPlain w × Filtered env old rows front w set (Conditioned env w (ErrorFront w.action))
+Facts env old rows front (place.Tail grant log) w set = Filtered env old rows front w set (Acted env w (TailFront env w.name grant log w.action w.grant w.log w.predicate))
+Facts env old rows front (place.Grant log) w set = Filtered env old rows front w set (Acted env w (EndsByGrant env w log))
+Facts env old rows front (place.User log) w set = Filtered env old rows front w set (Acted env w (Parts (EndsByGrant env w log) (UserFront env w.grant)))
+Facts env old rows front (place.Group log) w set = Filtered env old rows front w set (Acted env w (Parts (EndsByGrant env w log) (GroupFront env w.grant)))
+Facts env old rows front place.If w set = (w.predicate ≡ None) × Filtered env old rows front w set (Tailed env w (λ begun. begun ≡ Comma ∷ []))
+Facts env old rows front place.Who w set = (w.predicate ≡ None) × Filtered env old rows front w set (Tailed env w (λ begun. begun ≡ Comma ∷ Word (codes "if") ∷ []))
+Facts env old rows front (place.Comparison who) w set = (w.predicate ≡ None) × Filtered env old rows front w set (Tailed env w (WhoFront who))
+Facts env old rows front (place.Id who) w set = (w.predicate ≡ None) × Filtered env old rows front w set (Tailed env w (ComparedFront who w.cmp))
+Facts env old rows front place.FilterEnd w set = Filtered env old rows front w set (Tailed env w (λ begun. IsPredicate env begun w.predicate))
 
 -- the facts of what is read, unless it is a fault
 abbrev pub HasFacts : Env → List BinaryPolicy → List Symbol → List Symbol → Read → Type 0
-HasFacts env old rows front (Ok r) = Facts env old rows front r.walk.place r.walk r.draft r.set
+HasFacts env old rows front (Ok r) = Facts env old rows front r.walk.place r.walk r.set
 HasFacts env old rows front (Err fault) = Unit {0}
 
 -- ---- steps
 
 -- a keyword, or another word
-pub by-word : (P : List ℕ → Type 0) (k w : List ℕ) → P k → (bytes_eq w k ≡ false → P w) → P w
-by-word P k w p q = by (bytes_eq w k) refl where
-  by : (b : Bool) → bytes_eq w k ≡ b → P w
-  by true e = subst P (sym (same-word w k e)) p
+pub by-word : {X : Type 0} (w k : List ℕ) → (w ≡ k → X) → (bytes_eq w k ≡ false → X) → X
+by-word {X} w k p q = by (bytes_eq w k) refl where
+  by : (b : Bool) → bytes_eq w k ≡ b → X
+  by true e = p (same-word w k e)
   by false e = q e
 
-pub by-test : (env : Env) (old : List BinaryPolicy) (rows front : List Symbol) (r : Reading) (s : Symbol) (b : Bool) (x y : StepResult) →
-    (b ≡ true → HasFacts env old rows front (reading_step env r s x)) → (b ≡ false → HasFacts env old rows front (reading_step env r s y)) → HasFacts env old rows front (reading_step env r s (if b then x else y))
-by-test env old rows front r s true x y f g = f refl
-by-test env old rows front r s false x y f g = g refl
+pub by-test : {X : Type 0} (b : Bool) → (b ≡ true → X) → (b ≡ false → X) → X
+by-test true f g = f refl
+by-test false f g = g refl
 
--- one more symbol of a filter
-pub filter-more : (env : Env) (old : List BinaryPolicy) (rows front : List Symbol) (filters : ℕ) (name : FilterName) (set : List BinaryPolicy) (P Q : List Symbol → Type 0) (s : Symbol) →
+pub by-some : {X A : Type 0} (o : Option A) → ((x : A) → o ≡ Some x → X) → (o ≡ None → X) → X
+by-some None f n = n refl
+by-some (Some x) f n = f x refl
+
+-- one more symbol
+pub parts-more : {P Q R : List Symbol → Type 0} {us : List Symbol} (s : Symbol) → Parts P Q us → ((back : List Symbol) → Q back → R (back ++ s ∷ [])) → Parts P R (us ++ s ∷ [])
+parts-more s h f = record { front = h.front; back = h.back ++ s ∷ []; parts = ap (λ (ts : List Symbol). ts ++ s ∷ []) h.parts ∙ append_assoc h.front h.back (s ∷ []); first = h.first; rest = f h.back h.rest }
+
+-- the same symbols in another light
+pub parts-map : {P Q R : List Symbol → Type 0} {us : List Symbol} → Parts P Q us → ((back : List Symbol) → Q back → R back) → Parts P R us
+parts-map h f = record { front = h.front; back = h.back; parts = h.parts; first = h.first; rest = f h.back h.rest }
+
+-- what is spelled, and no more
+pub parts-whole : {P Q : List Symbol → Type 0} (us : List Symbol) → P us → Q [] → Parts P Q us
+parts-whole us p q = record { front = us; back = []; parts = sym (append-nil us); first = p; rest = q }
+
+-- one more symbol of a filter, and the same symbols in another light
+pub filter-more : {env : Env} {old : List BinaryPolicy} {rows front : List Symbol} {filters : ℕ} {name : FilterName} {set : List BinaryPolicy} {P Q : List Symbol → Type 0} (s : Symbol) →
     FilterFront env old rows front filters name set P → ((us : List Symbol) → P us → Q (us ++ s ∷ [])) → FilterFront env old rows (front ++ s ∷ []) filters name set Q
-filter-more env old rows front filters name set P Q s h f = record {
+filter-more s h f = record {
   behind = h.behind;
   filters_are = h.filters_are;
   few = h.few;
@@ -300,3 +288,7 @@ filter-more env old rows front filters name set P Q s h f = record {
   name_is = h.name_is;
   rest = f h.us h.rest;
 }
+
+pub filter-map : {env : Env} {old : List BinaryPolicy} {rows front : List Symbol} {filters : ℕ} {name : FilterName} {set : List BinaryPolicy} {P Q : List Symbol → Type 0} →
+    FilterFront env old rows front filters name set P → ((us : List Symbol) → P us → Q us) → FilterFront env old rows front filters name set Q
+filter-map h f = record { behind = h.behind; filters_are = h.filters_are; few = h.few; spelled = h.spelled; us = h.us; front_is = h.front_is; name_is = h.name_is; rest = f h.us h.rest }

@@ -1,4 +1,3 @@
-pub mod ActionsKept
 pub mod Between
 pub mod Clauses
 pub mod Common
@@ -6,19 +5,14 @@ pub mod Complete
 pub mod Examples
 pub mod Expressions
 pub mod FilterRows
-pub mod FilterTails
 pub mod Filters
 pub mod Fronts
-pub mod JointsKept
+pub mod Kept
 pub mod Keywords
-pub mod Lines
 pub mod OneFilters
-pub mod OperandsKept
-pub mod PredicatesKept
+pub mod Policies
 pub mod Readings
 pub mod Results
-pub mod RowsKept
 pub mod Sound
 pub mod Stacks
-pub mod TailsKept
 pub mod Texts

@@ -1,6 +1,6 @@
 -- Readings of placed symbols, joined end to end.
-use Rattle.std.proofs.Common.{◌≡◌, ℕ, List, [], ◌∷◌, ◌++◌, map, Result, Ok, Err, refl, ap, ◌∙◌}
-use Rattle.st_grammar.proofs.Common.{BinaryPolicy, Draft, Env, GrammarState, Place, PolicyFault, read_step, Reading, Symbol}
+use Rattle.std.proofs.Common.{◌≡◌, ℕ, List, [], ◌∷◌, ◌++◌, map, Result, Ok, Err, refl, ap, sym, ◌∙◌}
+use Rattle.st_grammar.proofs.Common.{BinaryPolicy, Env, GrammarState, Place, PolicyFault, read_step, Reading, Symbol}
 
 -- a symbol, and where it stands
 pub record Placed : Type 0 where
@@ -66,14 +66,14 @@ Step1 env P s Q = (at : ℕ) (r : Reading) → P r → Steps env r at s Q
 pub record Passes (env : Env) (P : Reading → Type 0) (ts : List Symbol) (Q : Reading → Type 0) : Type 0 where
   pub pass : (zs : List Placed) → symbols zs ≡ ts → (r : Reading) → P r → Leads env r zs Q
 
-pub passes-none : (env : Env) (P Q : Reading → Type 0) → ((r : Reading) → P r → Q r) → Passes env P [] Q
-passes-none env P Q f = record { pass = none } where
+pub passes-none : {env : Env} {P Q : Reading → Type 0} → ((r : Reading) → P r → Q r) → Passes env P [] Q
+passes-none {env} {P} {Q} f = record { pass = none } where
   none : (zs : List Placed) → symbols zs ≡ [] → (r : Reading) → P r → Leads env r zs Q
   none [] e r p = record { reading = r; over = refl; holds = f r p }
   none (z ∷ zs) e r p = absurd (cc)
 
-pub passes-append : (env : Env) (P Q R : Reading → Type 0) (ts us : List Symbol) → Passes env P ts Q → Passes env Q us R → Passes env P (ts ++ us) R
-passes-append env P Q R ts us p q = record {
+pub passes-append : {env : Env} {P Q R : Reading → Type 0} {ts us : List Symbol} → Passes env P ts Q → Passes env Q us R → Passes env P (ts ++ us) R
+passes-append {env} {P} {Q} {R} {ts} {us} p q = record {
   pass = λ zs e r h.
       let c : Cut zs ts us = cut ts us zs e in
       let a : Leads env r c.front Q = p.pass c.front c.front_is r h in
@@ -85,8 +85,8 @@ passes-append env P Q R ts us p q = record {
       };
 }
 
-pub passes-one : (env : Env) (P Q : Reading → Type 0) (s : Symbol) → Step1 env P s Q → Passes env P (s ∷ []) Q
-passes-one env P Q s f = record { pass = one } where
+pub passes-one : {env : Env} {P Q : Reading → Type 0} {s : Symbol} → Step1 env P s Q → Passes env P (s ∷ []) Q
+passes-one {env} {P} {Q} {s} f = record { pass = one } where
   one : (zs : List Placed) → symbols zs ≡ s ∷ [] → (r : Reading) → P r → Leads env r zs Q
   one [] e r p = absurd (cc)
   one (z ∷ []) e r p =
@@ -95,21 +95,54 @@ passes-one env P Q s f = record { pass = one } where
       record { reading = a.reading; over = ap (λ (s : Symbol). reading_followed (λ r. Ok r) (read_step env r z.at s)) same ∙ ap (reading_followed (λ r. Ok r)) a.step; holds = a.holds }
   one (z ∷ y ∷ zs) e r p = absurd (cc)
 
-pub passes-step : (env : Env) (P Q R : Reading → Type 0) (s : Symbol) (ts : List Symbol) → Step1 env P s Q → Passes env Q ts R → Passes env P (s ∷ ts) R
-passes-step env P Q R s ts f q = passes-append env P Q R (s ∷ []) ts (passes-one env P Q s f) q
+pub passes-step : {env : Env} {P Q R : Reading → Type 0} {s : Symbol} {ts : List Symbol} → Step1 env P s Q → Passes env Q ts R → Passes env P (s ∷ ts) R
+passes-step f q = passes-append (passes-one f) q
 
-pub passes-more : (env : Env) (P Q R : Reading → Type 0) (ts : List Symbol) → Passes env P ts Q → ((r : Reading) → Q r → R r) → Passes env P ts R
-passes-more env P Q R ts p f = record {
+pub passes-more : {env : Env} {P Q R : Reading → Type 0} {ts : List Symbol} → Passes env P ts Q → ((r : Reading) → Q r → R r) → Passes env P ts R
+passes-more {env} {P} {Q} p f = record {
   pass = λ zs e r h.
       let a : Leads env r zs Q = p.pass zs e r h in
       record { reading = a.reading; over = a.over; holds = f a.reading a.holds };
 }
 
+pub passes-from : {env : Env} {P Q R : Reading → Type 0} {ts : List Symbol} → ((r : Reading) → Q r → P r) → Passes env P ts R → Passes env Q ts R
+passes-from f p = record { pass = λ zs e r h. p.pass zs e r (f r h) }
+
+-- a place where the first symbol is read as at another
+pub record Alike (env : Env) (r : Reading) (s : Symbol) (P : Reading → Type 0) : Type 0 where
+  pub other : Reading
+  pub holds : P other
+  pub same : (at : ℕ) → read_step env r at s ≡ read_step env other at s
+
+pub passes-alike : {env : Env} {P Q R : Reading → Type 0} {s : Symbol} {ts : List Symbol} → ((r : Reading) → Q r → Alike env r s P) → Passes env P (s ∷ ts) R → Passes env Q (s ∷ ts) R
+passes-alike {env} {P} {Q} {R} {s} {ts} f p = record { pass = alike } where
+  alike : (zs : List Placed) → symbols zs ≡ s ∷ ts → (r : Reading) → Q r → Leads env r zs R
+  alike [] e r q = absurd (cc)
+  alike (z ∷ zs) e r q =
+      let first : z.symbol ≡ s = cc in
+      let a : Alike env r s P = f r q in
+      let l : Leads env a.other (z ∷ zs) R = p.pass (z ∷ zs) e a.other a.holds in
+      let same : read_step env r z.at z.symbol ≡ read_step env a.other z.at z.symbol = ap (read_step env r z.at) first ∙ a.same z.at ∙ ap (read_step env a.other z.at) (sym first) in
+      record { reading = l.reading; over = ap (reading_followed (λ r. read_over env r zs)) same ∙ l.over; holds = l.holds }
+
 -- ---- readings by their place
 
-abbrev pub places_of_reading : Place → GrammarState → Draft → List BinaryPolicy → Reading
-places_of_reading p w d set = record { walk = record w { place = p }; draft = d; set = set }
+abbrev pub reading_at : Place → GrammarState → List BinaryPolicy → Reading
+reading_at p w set = record { walk = record w { place = p }; set = set }
 
--- a reading at this place, with this set and with a walk and a draft of this kind
-pub data At (p : Place) (set : List BinaryPolicy) (H : GrammarState → Draft → Type 0) : Reading → Type 0 where
-  stands : (w : GrammarState) (d : Draft) → H w d → At p set H (places_of_reading p w d set)
+-- a reading at this place, with this set and with a walk of this kind
+pub data At (p : Place) (set : List BinaryPolicy) (H : GrammarState → Type 0) : Reading → Type 0 where
+  stands : (w : GrammarState) → H w → At p set H (reading_at p w set)
+
+-- a step to a place, with this set and a walk of this kind
+pub record Goes (env : Env) (r : Reading) (at : ℕ) (s : Symbol) (q : Place) (next : List BinaryPolicy) (K : GrammarState → Type 0) : Type 0 where
+  pub walk : GrammarState
+  pub step : read_step env r at s ≡ Ok (reading_at q walk next)
+  pub holds : K walk
+
+pub goes : {env : Env} {p q : Place} {set next : List BinaryPolicy} {H K : GrammarState → Type 0} {s : Symbol} → ((at : ℕ) (w : GrammarState) → H w → Goes env (reading_at p w set) at s q next K) → Step1 env (At p set H) s (At q next K)
+goes {q} {next} f at r (stands w h) = let g = f at w h in record { reading = reading_at q g.walk next; step = g.step; holds = stands g.walk g.holds }
+
+-- a symbol that changes nothing but the place
+pub steady : {env : Env} {p q : Place} {set : List BinaryPolicy} {H : GrammarState → Type 0} {s : Symbol} → ((w : GrammarState) (at : ℕ) → read_step env (reading_at p w set) at s ≡ Ok (reading_at q w set)) → Step1 env (At p set H) s (At q set H)
+steady f = goes (λ at w h. record { walk = w; step = f w at; holds = h })

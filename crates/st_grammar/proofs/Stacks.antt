@@ -1,8 +1,8 @@
 -- What the stack of an expression that is read has spelled.
 use Rattle.std.proofs.Common.{◌≡◌, ℕ, suc, ◌+◌, ◌<◌, List, [], ◌∷◌, ◌++◌, codes, refl, ap, sym, subst, ◌∙◌, arith, append_assoc}
 use Rattle.st_grammar.proofs.Common.{And, Both, Close, close_either, close_group, Conjunction, Disjunction, Either, Env, FilterName, Formula, Grouped, Negated, Not, OneConjunction, OneOperand, Open, Operand, PendingOperand, Reduced, settle, Spells, Symbol, Word}
-use Rattle.st_grammar.specs.Draft.{reduced, Negation, Group}
-use Rattle.st_grammar.specs.Draft as draft
+use Rattle.st_grammar.specs.Expression.{reduced, Negation, Group}
+use Rattle.st_grammar.specs.Expression as draft
 use Rattle.st_grammar.proofs.Expressions.{IsBase, Outermost, Inside}
 
 -- neither `not` nor `and` waits for the operand that is read

@@ -1,28 +1,34 @@
--- What may stand at each place of the grammar, what each place leads to, and the fault of everything else.
-use Rattle.std.specs.Prelude.{◌≡◌, ◌≢◌, ℕ, ◌+◌, ◌-◌, Bool, true, false, ◌&&◌, ◌||◌, ◌==◌, if◌then◌else◌, nat_lt, List, [], map, codes, Option, Some, None, Result, Ok, Err}
+-- What may stand at each place of the grammar, what it spells, where it leads, and the fault of everything else.
+use Rattle.std.specs.Prelude.{◌≡◌, ◌≢◌, ℕ, ◌+◌, ◌-◌, Bool, true, false, ◌&&◌, ◌||◌, ◌==◌, if◌then◌else◌, nat_lt, List, [], codes, Option, Some, None, option_map, Result, Ok, Err}
 use Rattle.std.specs.List.{list_any}
 use Rattle.std.specs.Str.{bytes_eq}
-use Rattle.st_base.specs.declared.errno.Errno.{Errno}
+use Rattle.st_base.specs.declared.errno.Errno.TheVariants.{EPERM}
 use Rattle.st_base.specs.Errno.{error_named}
 use Rattle.st_lex.specs.declared.token.LexFault.{LexFault}
+use Rattle.st_lex.specs.Unquote.{unquoted}
+use Rattle.st_filter.specs.Formula.{Formula, True, Test}
+use Rattle.st_filter.specs.declared.filter.Action.{Action}
+use Rattle.st_filter.specs.declared.filter.Action.TheVariants.{Permit, Deny, Ask}
+use Rattle.st_filter.specs.declared.filter.Cmp.{Cmp}
+use Rattle.st_filter.specs.declared.filter.Cmp.TheVariants.{Same}
+use Rattle.st_filter.specs.declared.filter.FilterName.{FilterName}
+use Rattle.st_filter.specs.declared.filter.Grant.{Grant}
+use Rattle.st_filter.specs.declared.filter.Op.{Op}
+use Rattle.st_filter.specs.declared.filter.Op.TheVariants.{Eq}
+use Rattle.st_filter.specs.declared.filter.Predicate.{Predicate}
+use Rattle.st_filter.specs.declared.filter.Who.{Who}
+use Rattle.st_filter.specs.declared.set.TheConstants.{MOST_FILTERS}
 use Rattle.st_grammar.specs.declared.env.Env.{Env}
 use Rattle.st_grammar.specs.declared.env.NamedId.{NamedId}
 use Rattle.st_grammar.specs.declared.fault.PolicyFault.{PolicyFault}
 use Rattle.st_grammar.specs.declared.fault.PolicyFault.TheVariants.{Lex, Expected, UnknownCall, UnknownArgument, UnknownError, UnknownUser, DuplicatePolicy, ElevateWithoutIds, ElevateOnSetId, NotSupported, AskWithLearn, TooMany, NoMemory}
 use Rattle.st_grammar.specs.declared.fault.Unsupported.TheVariants as unsupported
-use Rattle.st_filter.specs.declared.filter.Cmp.{Cmp}
-use Rattle.st_filter.specs.declared.filter.FilterName.{FilterName}
-use Rattle.st_filter.specs.declared.filter.FilterName.TheVariants as name
-use Rattle.st_filter.specs.declared.filter.Op.{Op}
-use Rattle.st_filter.specs.declared.filter.Who.{Who}
 use Rattle.st_grammar.specs.declared.place.Place.{Place}
 use Rattle.st_grammar.specs.declared.place.Place.TheVariants as place
-use Rattle.st_filter.specs.declared.set.BinaryPolicy.{BinaryPolicy}
+use Rattle.st_grammar.specs.Expression.{PendingOperand, Negation, Group, Reduced, reduced, close_group, with_pending, with_operand, without_either, joins_both, joins_either}
 use Rattle.st_grammar.specs.Grammar.{most_joins, binary_of, who_named, comparison}
-use Rattle.st_filter.specs.Policies.{filters_in}
 use Rattle.st_grammar.specs.Symbol.{Symbol, Word, Quoted, Colon, Comma, Open, Close, OpenBracket, CloseBracket, Line}
 use Rattle.st_grammar.specs.Words.{is_label, filter_name, may_test, may_test_label, sets_ids, op_named, index_in, id_in, names_for}
-use Rattle.st_filter.specs.declared.set.TheConstants.{MOST_FILTERS}
 
 -- how far the grammar has come
 pub record GrammarState : Type 0 where
@@ -34,9 +40,38 @@ pub record GrammarState : Type 0 where
   -- the label that is read, and where it stands
   pub label : List ℕ
   pub label_at : ℕ
+  pub index : ℕ
+  pub op : Op
   -- how many parentheses are open, and how many joins the filter's expression has
   pub parens : ℕ
   pub joins : ℕ
+  -- what is read of the filter behind its name
+  pub expression : Reduced
+  pub action : Action
+  pub grant : Option Grant
+  pub log : Bool
+  pub cmp : Cmp
+  pub predicate : Option Predicate
+
+-- nothing is read at this place, behind so many filters and the name of the last
+abbrev pub fresh : Place → ℕ → FilterName → GrammarState
+fresh at filters name = record {
+  place = at;
+  filters = filters;
+  name = name;
+  label = [];
+  label_at = 0;
+  index = 0;
+  op = Eq;
+  parens = 0;
+  joins = 0;
+  expression = reduced [] True;
+  action = Permit;
+  grant = None;
+  log = false;
+  cmp = Same;
+  predicate = None;
+}
 
 -- what a symbol comes to: how far the grammar has come behind it, or a fault
 abbrev pub StepResult : Type 0
@@ -54,6 +89,11 @@ step_to w then_at = Ok (record w { place = then_at })
 -- something else has to stand here
 abbrev pub expected : ℕ → StepResult
 expected at = Err (Expected at)
+
+-- what is understood leads on, and where nothing is the fault is this
+abbrev pub found : {A : Type 0} → PolicyFault → (A → StepResult) → Option A → StepResult
+found fault leads (Some x) = leads x
+found fault leads None = Err fault
 
 -- one thing alone may stand here
 abbrev pub only : GrammarState → ℕ → Bool → Place → StepResult
@@ -79,11 +119,6 @@ abbrev pub is_close_bracket : Symbol → Bool
 is_close_bracket CloseBracket = true
 is_close_bracket _ = false
 
--- whether a symbol is a quoted text
-abbrev pub is_quoted : Symbol → Bool
-is_quoted (Quoted source) = true
-is_quoted _ = false
-
 -- whether a symbol is a line's end
 abbrev pub is_line : Symbol → Bool
 is_line Line = true
@@ -97,26 +132,22 @@ step_start w at Line = step_to w place.Start
 step_start w at (Word word) = only w at (bytes_eq word (codes "Policy")) place.PolicyColon
 step_start w at _ = expected at
 
--- at a filter's name, by what it is for, if it is a name; there may not be too many filters
-abbrev pub step_name : GrammarState → ℕ → Option FilterName → StepResult
-step_name w at None = Err (UnknownCall at)
-step_name w at (Some filter) =
-    if nat_lt w.filters MOST_FILTERS then
-    Ok (record w { place = place.NameColon; filters = w.filters + 1; name = filter; parens = 0; joins = 0 })
-    else Err (TooMany at)
+-- at a filter's name, where there may not be too many filters
+abbrev pub step_name : GrammarState → ℕ → List ℕ → StepResult
+step_name w at word =
+    found (UnknownCall at) (λ name. if nat_lt w.filters MOST_FILTERS then Ok (fresh place.NameColon (w.filters + 1) name) else Err (TooMany at)) (filter_name word)
 
 -- at the front of a row behind a header: a blank line, `Policy`, or a filter's name
 abbrev pub step_row : GrammarState → ℕ → Symbol → StepResult
 step_row w at Line = step_to w place.Row
 step_row w at (Word word) =
-    if bytes_eq word (codes "Policy") then step_to w place.PolicyColon else step_name w at (filter_name word)
+    if bytes_eq word (codes "Policy") then step_to w place.PolicyColon else step_name w at word
 step_row w at _ = expected at
 
 -- at a header's binary, by the one that the symbol is, if it is one; it may have no policy yet
 abbrev pub step_binary : List (List ℕ) → GrammarState → ℕ → Option (List ℕ) → StepResult
-step_binary known w at None = expected at
-step_binary known w at (Some binary) =
-    if list_any (λ b. bytes_eq b binary) known then Err (DuplicatePolicy at) else step_to w place.Comma
+step_binary known w at binary =
+    found (Expected at) (λ binary. if list_any (λ b. bytes_eq b binary) known then Err (DuplicatePolicy at) else step_to w place.Comma) binary
 
 -- at the emulation of a header: `native`, and no other is supported
 abbrev pub step_system : GrammarState → ℕ → Symbol → StepResult
@@ -131,59 +162,82 @@ abbrev pub joined : GrammarState → ℕ → StepResult
 joined w at =
     if nat_lt w.joins most_joins then Ok (record w { place = place.Operand; joins = w.joins + 1 }) else Err (TooMany at)
 
+-- this waits for what comes next
+abbrev pub waits : PendingOperand → GrammarState → GrammarState
+waits p w = record w { expression = with_pending p w.expression }
+
+-- an operand is complete
+abbrev pub completed : Formula → GrammarState → GrammarState
+completed f w = record w { place = place.Joint; expression = with_operand f w.expression }
+
 -- at the front of an operand: `(`, `not`, `true`, or a label
 abbrev pub step_operand : GrammarState → ℕ → Symbol → StepResult
-step_operand w at Open = joined (record w { parens = w.parens + 1 }) at
+step_operand w at Open = joined (record (waits Group w) { parens = w.parens + 1 }) at
 step_operand w at (Word word) =
-    if bytes_eq word (codes "not") then joined w at
-    else if bytes_eq word (codes "true") then step_to w place.Joint
-    else if is_label word then Ok (record w { place = place.Label; label = word; label_at = at })
+    if bytes_eq word (codes "not") then joined (waits Negation w) at
+    else if bytes_eq word (codes "true") then Ok (completed True w)
+    else if is_label word then Ok (record w { place = place.Label; label = word; label_at = at; index = 0 })
     else expected at
 step_operand w at _ = expected at
 
--- at an operator, by the one that the word names, if it names one; `re` is not supported
-abbrev pub step_op : GrammarState → ℕ → List ℕ → Option Op → StepResult
-step_op w at word (Some op) = step_to w place.Text
-step_op w at word None = if bytes_eq word (codes "re") then Err (NotSupported at unsupported.Re) else expected at
+-- the fault of a word that names no operator; `re` is one that is not supported
+abbrev pub no_operator : ℕ → List ℕ → PolicyFault
+no_operator at word = if bytes_eq word (codes "re") then NotSupported at unsupported.Re else Expected at
 
 -- at the operator of a test
 abbrev pub step_operator : GrammarState → ℕ → Symbol → StepResult
-step_operator w at (Word word) = step_op w at word (op_named word)
+step_operator w at (Word word) = found (no_operator at word) (λ op. Ok (record w { place = place.Text; op = op })) (op_named word)
 step_operator w at _ = expected at
 
 -- a label without an index means index 0; where the call has no such argument, the fault is the label's
 abbrev pub step_label : GrammarState → ℕ → Symbol → StepResult
 step_label w at OpenBracket = step_to w place.Index
-step_label w at s = if may_test w.name w.label 0 then step_operator w at s else Err (UnknownArgument w.label_at)
+step_label w at (Word word) = if may_test w.name w.label 0 then step_operator w at (Word word) else Err (UnknownArgument w.label_at)
+step_label w at _ = Err (if may_test w.name w.label 0 then Expected at else UnknownArgument w.label_at)
 
--- at the index of a label, by the one that is spelled, if one is; the call must have such an argument
+-- behind the bracket that a label's index follows, by the index that is spelled, if one is; the call must have such an argument
 abbrev pub step_indexed : GrammarState → ℕ → Option ℕ → StepResult
-step_indexed w at (Some index) =
-    if may_test w.name w.label index then step_to w place.IndexEnd else Err (UnknownArgument w.label_at)
-step_indexed w at None = if may_test_label w.name w.label then expected at else Err (UnknownArgument w.label_at)
+step_indexed w at index =
+    found (if may_test_label w.name w.label then Expected at else UnknownArgument w.label_at)
+    (λ index. if may_test w.name w.label index then Ok (record w { place = place.IndexEnd; index = index }) else Err (UnknownArgument w.label_at)) index
 
--- behind the bracket that a label's index follows
-abbrev pub step_index : GrammarState → ℕ → Symbol → StepResult
-step_index w at (Word word) = step_indexed w at (index_in word)
-step_index w at _ = step_indexed w at None
+-- the index that a symbol spells, if it spells one
+abbrev pub word_index : Symbol → Option ℕ
+word_index (Word word) = index_in word
+word_index _ = None
+
+-- at the text of a test, which completes it
+abbrev pub step_text : Env → GrammarState → ℕ → Symbol → StepResult
+step_text env w at (Quoted source) = Ok (completed (Test w.label w.index w.op (unquoted env.dollars source)) w)
+step_text env w at _ = expected at
+
+-- the conjunction at the expression's end is complete
+abbrev pub concluded : GrammarState → GrammarState
+concluded w = record w { expression = without_either w.expression }
 
 -- behind an operand: `)`, `and`, `or`, or `then`
 abbrev pub step_joint : GrammarState → ℕ → Symbol → StepResult
 step_joint w at Close =
-    if nat_lt 0 w.parens then Ok (record w { place = place.Joint; parens = w.parens - 1 }) else expected at
+    if nat_lt 0 w.parens then Ok (record w { place = place.Joint; parens = w.parens - 1; expression = close_group (without_either w.expression) })
+    else expected at
 step_joint w at (Word word) =
-    if bytes_eq word (codes "and") || bytes_eq word (codes "or") then joined w at
-    else only w at (bytes_eq word (codes "then") && w.parens == 0) place.Action
+    if bytes_eq word (codes "and") then joined (record w { expression = joins_both w.expression }) at
+    else if bytes_eq word (codes "or") then joined (record w { expression = joins_either (without_either w.expression) }) at
+    else only (concluded w) at (bytes_eq word (codes "then") && w.parens == 0) place.Action
 step_joint w at _ = expected at
 
 -- ---- actions and what follows them
 
--- at an action: `permit`, `deny`, or `ask`, which may not stand where filters are learnt
+-- this action is read
+abbrev pub acts : Action → Place → GrammarState → GrammarState
+acts action then_at w = record w { place = then_at; action = action }
+
+-- at an action: `permit`, `deny`, which means EPERM until an error follows, or `ask`, which may not stand where filters are learnt
 abbrev pub step_action : Env → GrammarState → ℕ → Symbol → StepResult
 step_action env w at (Word word) =
-    if bytes_eq word (codes "permit") then step_to w (place.Tail true true)
-    else if bytes_eq word (codes "deny") then step_to w place.Denial
-    else if bytes_eq word (codes "ask") then (if env.learn then Err (AskWithLearn at) else step_to w (place.Tail false true))
+    if bytes_eq word (codes "permit") then Ok (acts Permit (place.Tail true true) w)
+    else if bytes_eq word (codes "deny") then Ok (acts (Deny EPERM) place.Denial w)
+    else if bytes_eq word (codes "ask") then (if env.learn then Err (AskWithLearn at) else Ok (acts Ask (place.Tail false true) w))
     else expected at
 step_action env w at _ = expected at
 
@@ -207,7 +261,7 @@ step_tail env grant log w at Line = step_to w place.Row
 step_tail env grant log w at Comma = step_to w place.If
 step_tail env grant log w at (Word word) =
     if bytes_eq word (codes "as") && grant then step_as env w at log
-    else only w at (bytes_eq word (codes "log") && log) (place.Tail grant false)
+    else only (record w { log = true }) at (bytes_eq word (codes "log") && log) (place.Tail grant false)
 step_tail env grant log w at _ = expected at
 
 -- behind `deny`: the bracket of its error, or what may follow an action
@@ -215,50 +269,55 @@ abbrev pub step_denial : Env → GrammarState → ℕ → Symbol → StepResult
 step_denial env w at OpenBracket = step_to w place.Error
 step_denial env w at s = step_tail env false true w at s
 
--- at the error of a denial, by the one that the word names, if it names one
-abbrev pub step_errno : GrammarState → ℕ → Option Errno → StepResult
-step_errno w at (Some errno) = step_to w place.ErrorEnd
-step_errno w at None = Err (UnknownError at)
-
 -- behind the bracket that the error of a denial follows
 abbrev pub step_error : GrammarState → ℕ → Symbol → StepResult
-step_error w at (Word word) = step_errno w at (error_named word)
+step_error w at (Word word) = found (UnknownError at) (λ errno. Ok (acts (Deny errno) place.ErrorEnd w)) (error_named word)
 step_error w at _ = expected at
 
--- at an id, by the one that the word is, if it is one
-abbrev pub step_known : GrammarState → ℕ → Place → Option ℕ → StepResult
-step_known w at then_at (Some id) = step_to w then_at
-step_known w at then_at None = Err (UnknownUser at)
-
 -- an id, as a number or by a name
-abbrev pub step_id : List NamedId → GrammarState → ℕ → Place → Symbol → StepResult
-step_id names w at then_at (Word word) = step_known w at then_at (id_in names word)
-step_id names w at then_at _ = expected at
+abbrev pub step_id : List NamedId → ℕ → (ℕ → GrammarState) → Symbol → StepResult
+step_id names at leads (Word word) = found (UnknownUser at) (λ id. Ok (leads id)) (id_in names word)
+step_id names at leads _ = expected at
+
+-- these ids are granted
+abbrev pub grants : Option ℕ → Place → GrammarState → GrammarState
+grants user then_at w = record w { place = then_at; grant = Some (record { user = user; group = None }) }
 
 -- behind `as`: a user, or the colon before a group
 abbrev pub step_grant : Env → Bool → GrammarState → ℕ → Symbol → StepResult
-step_grant env log w at Colon = step_to w (place.Group log)
-step_grant env log w at s = step_id env.users w at (place.User log) s
+step_grant env log w at Colon = Ok (grants None (place.Group log) w)
+step_grant env log w at s = step_id env.users at (λ id. grants (Some id) (place.User log) w) s
 
 -- behind the user of a grant: the colon before a group, or what may follow a grant
 abbrev pub step_user : Env → Bool → GrammarState → ℕ → Symbol → StepResult
 step_user env log w at Colon = step_to w (place.Group log)
 step_user env log w at s = step_tail env false log w at s
 
--- behind `if`, by whose id is looked at, if the word says so
-abbrev pub step_who : GrammarState → ℕ → Option Who → StepResult
-step_who w at (Some who) = step_to w (place.Comparison who)
-step_who w at None = expected at
+-- a grant with this group too
+abbrev pub with_group : ℕ → Grant → Grant
+with_group group grant = record { user = grant.user; group = Some group }
+
+-- at the group of a grant
+abbrev pub step_group : Env → Bool → GrammarState → ℕ → Symbol → StepResult
+step_group env log w at s = step_id env.groups at (λ id. record w { place = place.Tail false log; grant = option_map (with_group id) w.grant }) s
 
 -- whose id a symbol says that a predicate looks at
 abbrev pub word_who : Symbol → Option Who
 word_who (Word word) = who_named word
 word_who _ = None
 
--- at the comparison of a predicate, by the one that the symbol is, if it is one
-abbrev pub step_comparison : Who → GrammarState → ℕ → Option Cmp → StepResult
-step_comparison who w at (Some cmp) = step_to w (place.Id who)
-step_comparison who w at None = expected at
+-- behind `if`: whose id is looked at
+abbrev pub step_who : GrammarState → ℕ → Symbol → StepResult
+step_who w at s = found (Expected at) (λ who. step_to w (place.Comparison who)) (word_who s)
+
+-- at the comparison of a predicate
+abbrev pub step_comparison : Who → GrammarState → ℕ → Symbol → StepResult
+step_comparison who w at s = found (Expected at) (λ cmp. Ok (record w { place = place.Id who; cmp = cmp })) (comparison s)
+
+-- at the id of a predicate, which completes it
+abbrev pub step_predicate : Env → Who → GrammarState → ℕ → Symbol → StepResult
+step_predicate env who w at s =
+    step_id (names_for env who) at (λ id. record w { place = place.FilterEnd; predicate = Some (record { who = who; cmp = w.cmp; id = id }) }) s
 
 -- ---- all places
 
@@ -276,10 +335,10 @@ step env known w at s place.NameColon = only w at (is_colon s) place.Clause
 step env known w at s place.Clause = step_clause env w at s
 step env known w at s place.Operand = step_operand w at s
 step env known w at s place.Label = step_label w at s
-step env known w at s place.Index = step_index w at s
+step env known w at s place.Index = step_indexed w at (word_index s)
 step env known w at s place.IndexEnd = only w at (is_close_bracket s) place.Operator
 step env known w at s place.Operator = step_operator w at s
-step env known w at s place.Text = only w at (is_quoted s) place.Joint
+step env known w at s place.Text = step_text env w at s
 step env known w at s place.Joint = step_joint w at s
 step env known w at s place.Action = step_action env w at s
 step env known w at s place.Denial = step_denial env w at s
@@ -288,11 +347,11 @@ step env known w at s place.ErrorEnd = only w at (is_close_bracket s) (place.Tai
 step env known w at s (place.Tail grant log) = step_tail env grant log w at s
 step env known w at s (place.Grant log) = step_grant env log w at s
 step env known w at s (place.User log) = step_user env log w at s
-step env known w at s (place.Group log) = step_id env.groups w at (place.Tail false log) s
+step env known w at s (place.Group log) = step_group env log w at s
 step env known w at s place.If = only w at (is_keyword (codes "if") s) place.Who
-step env known w at s place.Who = step_who w at (word_who s)
-step env known w at s (place.Comparison who) = step_comparison who w at (comparison s)
-step env known w at s (place.Id who) = step_id (names_for env who) w at place.FilterEnd s
+step env known w at s place.Who = step_who w at s
+step env known w at s (place.Comparison who) = step_comparison who w at s
+step env known w at s (place.Id who) = step_predicate env who w at s
 step env known w at s place.HeaderEnd = only w at (is_line s) place.Row
 step env known w at s place.FilterEnd = only w at (is_line s) place.Row
 
@@ -304,11 +363,3 @@ next env known w at s = step env known w at s w.place
 abbrev pub lexical : LexFault → PolicyFault → PolicyFault
 lexical fault (Expected at) = Lex fault
 lexical fault other = other
-
--- the binaries of policies, in order
-abbrev pub binaries : List BinaryPolicy → List (List ℕ)
-binaries policies = map (λ p. p.binary) policies
-
--- how far the grammar has come in front of a text, behind the policies read before
-abbrev pub first_walk : List BinaryPolicy → GrammarState
-first_walk old = record { place = place.Start; filters = filters_in old; name = name.Other []; label = []; label_at = 0; parens = 0; joins = 0 }

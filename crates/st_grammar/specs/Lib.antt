@@ -1,7 +1,7 @@
 pub mod Diagram
-pub mod Draft
+pub mod Expression
 pub mod Grammar
 pub mod OneFilter
-pub mod Refusals
+pub mod Reading
 pub mod Symbol
 pub mod Words

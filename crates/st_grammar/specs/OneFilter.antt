@@ -4,11 +4,12 @@ use Rattle.st_filter.specs.Formula.{FilterValue}
 use Rattle.st_lex.specs.Tokens.{lexed_text}
 use Rattle.st_lex.specs.declared.token.LexFault.{LexFault}
 use Rattle.st_lex.specs.declared.token.Token.{Token}
-use Rattle.st_grammar.specs.Diagram.{GrammarState, StepResult, next, expected, step_name, first_walk, is_line, lexical}
-use Rattle.st_grammar.specs.Draft.{Draft, first_draft, draft_step, filter_of}
+use Rattle.st_filter.specs.declared.filter.FilterName.TheVariants as name
+use Rattle.st_grammar.specs.Diagram.{GrammarState, StepResult, fresh, next, expected, step_name, is_line, lexical}
 use Rattle.st_grammar.specs.Grammar.{IsFilter, symbols_in}
 use Rattle.st_grammar.specs.Symbol.{Symbol, Word, Line, Broken, symbol_of}
-use Rattle.st_grammar.specs.Words.{filter_name}
+use Rattle.st_grammar.specs.Reading.{filter_of}
+use Rattle.st_grammar.specs.declared.place.Place.TheVariants as place
 use Rattle.st_grammar.specs.declared.env.Env.{Env}
 use Rattle.st_grammar.specs.declared.fault.PolicyFault.{PolicyFault}
 use Rattle.st_grammar.specs.declared.fault.PolicyFault.TheVariants.{Lex, Expected}
@@ -38,9 +39,9 @@ behind_filter None filter [] = Ok filter
 behind_filter (Some fault) filter [] = Err (Lex fault)
 
 -- a filter that the text's end ends, where it may
-abbrev pub if_ended : FilterValue → StepResult → FilterResult
-if_ended filter (Ok w) = Ok filter
-if_ended filter (Err fault) = Err fault
+abbrev pub if_ended : StepResult → FilterResult
+if_ended (Ok w) = Ok (filter_of w)
+if_ended (Err fault) = Err fault
 
 -- what is no token fits nowhere
 abbrev pub if_broken : LexFault → StepResult → FilterResult
@@ -48,24 +49,22 @@ if_broken fault (Ok w) = Err (Lex fault)
 if_broken fault (Err found) = Err (lexical fault found)
 
 -- a filter at the end of its text's tokens
-abbrev pub filter_at_end : Env → ℕ → GrammarState → Draft → Option LexFault → FilterResult
-filter_at_end env end w d None = if_ended (filter_of w.name d) (next env [] w end Line)
-filter_at_end env end w d (Some fault) = if_broken fault (next env [] w end Broken)
+abbrev pub filter_at_end : Env → ℕ → GrammarState → Option LexFault → FilterResult
+filter_at_end env end w None = if_ended (next env [] w end Line)
+filter_at_end env end w (Some fault) = if_broken fault (next env [] w end Broken)
 
 -- a filter of which some symbols are read, with the tokens that follow
-abbrev pub filter_from : Env → List ℕ → Option LexFault → GrammarState → Draft → List Token → FilterResult
-filter_from env text broken w d [] = filter_at_end env (length text) w d broken
-filter_from env text broken w d (t ∷ ts) =
+abbrev pub filter_from : Env → List ℕ → Option LexFault → GrammarState → List Token → FilterResult
+filter_from env text broken w [] = filter_at_end env (length text) w broken
+filter_from env text broken w (t ∷ ts) =
     elim (next env [] w t.at (symbol_of text t)) [
-      | Ok w' ↦
-          if is_line (symbol_of text t) then behind_filter broken (filter_of w.name d) ts
-          else filter_from env text broken w' (draft_step env w.label d (symbol_of text t) w.place) ts
+      | Ok w' ↦ if is_line (symbol_of text t) then behind_filter broken (filter_of w') ts else filter_from env text broken w' ts
       | Err fault ↦ Err fault
     ]
 
 -- a filter begins with its name
 abbrev pub begin_filter : ℕ → Symbol → StepResult
-begin_filter at (Word word) = step_name (first_walk []) at (filter_name word)
+begin_filter at (Word word) = step_name (fresh place.Start 0 (name.Other [])) at word
 begin_filter at _ = expected at
 
 -- where a text has no token
@@ -78,7 +77,7 @@ abbrev pub filter_of_tokens : Env → List ℕ → Option LexFault → List Toke
 filter_of_tokens env text broken [] = no_filter (length text) broken
 filter_of_tokens env text broken (t ∷ ts) =
     elim (begin_filter t.at (symbol_of text t)) [
-      | Ok w ↦ filter_from env text broken w first_draft ts
+      | Ok w ↦ filter_from env text broken w ts
       | Err fault ↦ Err fault
     ]
 

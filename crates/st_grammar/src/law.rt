@@ -3,7 +3,7 @@ ghost use Rattle.st_filter.specs.Formula.{FilterValue};
 ghost use Rattle.st_filter.specs.Policies.{filters_in};
 ghost use Rattle.st_filter.specs.declared.set.BinaryPolicy.{BinaryPolicy};
 ghost use Rattle.st_filter.specs.declared.set.TheConstants.{MOST_FILTERS};
-ghost use Rattle.st_grammar.specs.Draft.{fault_in};
+ghost use Rattle.st_grammar.specs.Reading.{fault_in};
 ghost use Rattle.st_grammar.specs.Grammar.{Reads};
 ghost use Rattle.st_grammar.specs.OneFilter.{ReadsFilter, filter_in};
 ghost use Rattle.st_grammar.specs.declared.env.Env.{Env};

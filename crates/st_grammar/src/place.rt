@@ -59,7 +59,7 @@ pub enum Place {
 }
 
 impl Place {
-    ghost use Rattle.st_grammar.specs.Draft.{ends_filter, is_between_rows, is_binary_place};
+    ghost use Rattle.st_grammar.specs.Reading.{ends_filter, is_between_rows, is_binary_place};
 
     /// Whether the end of a line ends a filter there.
     pub fn ends_filter(self) -> bool

@@ -1,7 +1,7 @@
 ghost use Rattle.std.specs.Prelude.{◌≡◌};
 ghost use Rattle.st_grammar.specs.Symbol.{symbol_of, seen};
 ghost use Rattle.st_grammar.specs.Grammar.{comparison};
-ghost use Rattle.st_grammar.specs.Diagram.{is_action, is_keyword, is_colon, is_comma, is_close_bracket, is_quoted, is_line};
+ghost use Rattle.st_grammar.specs.Diagram.{is_action, is_keyword, is_colon, is_comma, is_close_bracket, is_line};
 
 use crate::words::is_keyword;
 use st_filter::Cmp;
@@ -77,13 +77,6 @@ impl<'a> Symbol<'a> {
         ensures { result ≡ is_line (seen self.now) }
     {
         matches!(*self, Symbol::Line)
-    }
-
-    /// Whether it is a quoted text.
-    pub fn is_quoted(&self) -> bool
-        ensures { result ≡ is_quoted (seen self.now) }
-    {
-        matches!(*self, Symbol::Quoted(_))
     }
 
     /// Whether it is this word.

@@ -1,6 +1,6 @@
 ghost use Rattle.std.specs.Prelude.{◌≡◌, ◌≢◌, ◌^◌, ◌<◌, ◌∷◌, false, Ok, Err, length, IfOk, IfErr};
 ghost use Rattle.st_grammar.specs.Symbol.{seen, symbol_of};
-ghost use Rattle.st_grammar.specs.Draft.{first_draft, is_binary_place};
+ghost use Rattle.st_grammar.specs.Reading.{is_binary_place};
 ghost use Rattle.st_grammar.specs.OneFilter.{behind_filter, filter_at_end, begin_filter, no_filter, filter_of_tokens, filter_in};
 
 use crate::reader::lexical;
@@ -27,15 +27,14 @@ fn behind_filter(
 
 // A filter begins with its name.
 fn begin_filter<'a>(alloc: Global, at: u32, symbol: &Symbol<'a>) -> Result<Reader<'a>, PolicyFault>
-    ensures walk { IfOk result (λ reader. begin_filter at (seen symbol.now) ≡ Ok reader.walk) }
-    ensures draft { IfOk result (λ reader. reader.draft ≡ first_draft) }
+    ensures ok { IfOk result (λ reader. begin_filter at (seen symbol.now) ≡ Ok reader) }
     ensures fault { IfErr result (λ f. f ≢ PolicyFault.NoMemory → begin_filter at (seen symbol.now) ≡ Err f) }
 {
     let Symbol::Word(word) = *symbol else {
         return Err(PolicyFault::Expected(at));
     };
     let mut reader = Reader::new(alloc, 0);
-    reader.walk.begin_filter(at, word)?;
+    reader.begin_filter(at, word)?;
     Ok(reader)
 }
 
@@ -47,9 +46,9 @@ fn filter_at_end<'a>(
     end: u32,
     broken: Option<LexFault>,
 ) -> Result<Filter, PolicyFault>
-    requires { is_binary_place reader.old.walk.place ≡ false }
-    ensures ok { IfOk result (λ filter. filter_at_end env.now end reader.old.walk reader.old.draft broken ≡ Ok filter) }
-    ensures fault { IfErr result (λ f. f ≢ PolicyFault.NoMemory → filter_at_end env.now end reader.old.walk reader.old.draft broken ≡ Err f) }
+    requires { is_binary_place reader.old.place ≡ false }
+    ensures ok { IfOk result (λ filter. filter_at_end env.now end reader.old broken ≡ Ok filter) }
+    ensures fault { IfErr result (λ f. f ≢ PolicyFault.NoMemory → filter_at_end env.now end reader.old broken ≡ Err f) }
 {
     match broken {
         None => {
@@ -75,8 +74,7 @@ fn rest_of_filter<'a>(
     tokens: &[Token],
 ) -> Result<Filter, PolicyFault>
     requires small { length text.now < 2 ^ 32 }
-    requires walk { begin_filter first.now.at (symbol_of text.now first.now) ≡ Ok reader.old.walk }
-    requires draft { reader.old.draft ≡ first_draft }
+    requires begun { begin_filter first.now.at (symbol_of text.now first.now) ≡ Ok reader.old }
     ensures ok { IfOk result (λ filter. filter_of_tokens env.now text.now broken (first.now ∷ tokens.now) ≡ Ok filter) }
     ensures fault { IfErr result (λ f. f ≢ PolicyFault.NoMemory → filter_of_tokens env.now text.now broken (first.now ∷ tokens.now) ≡ Err f) }
 {

@@ -3,8 +3,7 @@ ghost use Rattle.st_grammar.specs.Symbol.{seen};
 ghost use Rattle.st_grammar.specs.Grammar.{Reads, if_absolute, binary_of};
 ghost use Rattle.st_filter.specs.Policies.{filters_in, add_filter};
 ghost use Rattle.st_grammar.specs.Diagram.{lexical};
-ghost use Rattle.st_grammar.specs.Refusals.{place_from, place_in, refusal_in};
-ghost use Rattle.st_grammar.specs.Draft.{is_between_rows, is_binary_place, ends_filter, filter_of, first_draft, as_reading, read_step, read_end, read_from, first_reading, set_of, policies_in};
+ghost use Rattle.st_grammar.specs.Reading.{is_between_rows, is_binary_place, ends_filter, filter_of, taken, as_reading, read_step, read_end, read_from, first_reading, set_of, policies_in, refusal_in};
 ghost use Rattle.st_filter.specs.declared.set.TheConstants.{MOST_FILTERS};
 
 use st_base::Text;
@@ -60,15 +59,15 @@ fn read_binary<'a>(
     at: u32,
     symbol: &Symbol<'a>,
 ) -> Result<(), PolicyFault>
-    requires { is_binary_place reader.old.walk.place ≡ true }
-    ensures ok { OnOk result (read_step env.now (as_reading reader.old.walk reader.old.draft set.old) at (seen symbol.now) ≡ Ok (as_reading reader.new.walk reader.new.draft set.new)) }
-    ensures fault { IfErr result (λ f. f ≢ PolicyFault.NoMemory → read_step env.now (as_reading reader.old.walk reader.old.draft set.old) at (seen symbol.now) ≡ Err f) }
+    requires { is_binary_place reader.old.place ≡ true }
+    ensures ok { OnOk result (read_step env.now (as_reading reader.old set.old) at (seen symbol.now) ≡ Ok (as_reading reader.new set.new)) }
+    ensures fault { IfErr result (λ f. f ≢ PolicyFault.NoMemory → read_step env.now (as_reading reader.old set.old) at (seen symbol.now) ≡ Err f) }
     ensures same { OnErr result (set.new ≡ set.old) }
 {
     let Some(binary) = binary_of(alloc, env, symbol)? else {
         return Err(PolicyFault::Expected(at));
     };
-    reader.walk.begin_policy(set, at, binary.bytes())?;
+    reader.begin_policy(set, at, binary.bytes())?;
     set.begin(alloc, binary)?;
     Ok(())
 }
@@ -81,9 +80,8 @@ fn end_filter<'a>(
     set: &mut PolicySet,
 ) -> Result<(), AllocError>
     requires { filters_in set.old < MOST_FILTERS }
-    ensures ok { OnOk result (set.new ≡ add_filter set.old (filter_of reader.old.walk.name reader.old.draft)) }
-    ensures draft { OnOk result (reader.new.draft ≡ first_draft) }
-    ensures walk { reader.new.walk ≡ reader.old.walk }
+    ensures ok { OnOk result (set.new ≡ add_filter set.old (filter_of reader.old)) }
+    ensures taken { OnOk result (reader.new ≡ taken reader.old) }
     ensures same { OnErr result (set.new ≡ set.old) }
 {
     let filter = reader.take_filter(alloc)?;
@@ -92,7 +90,6 @@ fn end_filter<'a>(
 
 // At every other place; the end of a filter's row adds it to the policies.
 #[inline]
-#[tactic(auto, using(crate::proofs::Cited::line_leaves))]
 fn read_other<'a>(
     reader: &mut Reader<'a>,
     alloc: Global,
@@ -101,13 +98,13 @@ fn read_other<'a>(
     at: u32,
     symbol: &Symbol<'a>,
 ) -> Result<(), PolicyFault>
-    requires other { is_binary_place reader.old.walk.place ≡ false }
-    requires room { ends_filter reader.old.walk.place ≡ true → filters_in set.old < MOST_FILTERS }
-    ensures ok { OnOk result (read_step env.now (as_reading reader.old.walk reader.old.draft set.old) at (seen symbol.now) ≡ Ok (as_reading reader.new.walk reader.new.draft set.new)) }
-    ensures fault { IfErr result (λ f. f ≢ PolicyFault.NoMemory → read_step env.now (as_reading reader.old.walk reader.old.draft set.old) at (seen symbol.now) ≡ Err f) }
+    requires other { is_binary_place reader.old.place ≡ false }
+    requires room { ends_filter reader.old.place ≡ true → filters_in set.old < MOST_FILTERS }
+    ensures ok { OnOk result (read_step env.now (as_reading reader.old set.old) at (seen symbol.now) ≡ Ok (as_reading reader.new set.new)) }
+    ensures fault { IfErr result (λ f. f ≢ PolicyFault.NoMemory → read_step env.now (as_reading reader.old set.old) at (seen symbol.now) ≡ Err f) }
     ensures same { OnErr result (set.new ≡ set.old) }
 {
-    let ends = symbol.is_line() && reader.walk.place().ends_filter();
+    let ends = symbol.is_line() && reader.place().ends_filter();
     reader.step(alloc, env, at, symbol)?;
     if ends {
         end_filter(reader, alloc, set)?;
@@ -125,12 +122,12 @@ fn read<'a>(
     at: u32,
     symbol: &Symbol<'a>,
 ) -> Result<(), PolicyFault>
-    requires { ends_filter reader.old.walk.place ≡ true → filters_in set.old < MOST_FILTERS }
-    ensures ok { OnOk result (read_step env.now (as_reading reader.old.walk reader.old.draft set.old) at (seen symbol.now) ≡ Ok (as_reading reader.new.walk reader.new.draft set.new)) }
-    ensures fault { IfErr result (λ f. f ≢ PolicyFault.NoMemory → read_step env.now (as_reading reader.old.walk reader.old.draft set.old) at (seen symbol.now) ≡ Err f) }
+    requires { ends_filter reader.old.place ≡ true → filters_in set.old < MOST_FILTERS }
+    ensures ok { OnOk result (read_step env.now (as_reading reader.old set.old) at (seen symbol.now) ≡ Ok (as_reading reader.new set.new)) }
+    ensures fault { IfErr result (λ f. f ≢ PolicyFault.NoMemory → read_step env.now (as_reading reader.old set.old) at (seen symbol.now) ≡ Err f) }
     ensures same { OnErr result (set.new ≡ set.old) }
 {
-    if reader.walk.place().is_binary() {
+    if reader.place().is_binary() {
         read_binary(reader, alloc, env, set, at, symbol)
     } else {
         read_other(reader, alloc, env, set, at, symbol)
@@ -147,9 +144,9 @@ fn end<'a>(
     broken: Option<LexFault>,
 ) -> Result<(), PolicyFault>
     requires small { length text.now < 2 ^ 32 }
-    requires room { ends_filter reader.old.walk.place ≡ true → filters_in set.old < MOST_FILTERS }
-    ensures ok { OnOk result (read_end env.now text.now broken (as_reading reader.old.walk reader.old.draft set.old) ≡ Ok (as_reading reader.new.walk reader.new.draft set.new)) }
-    ensures fault { IfErr result (λ f. f ≢ PolicyFault.NoMemory → read_end env.now text.now broken (as_reading reader.old.walk reader.old.draft set.old) ≡ Err f) }
+    requires room { ends_filter reader.old.place ≡ true → filters_in set.old < MOST_FILTERS }
+    ensures ok { OnOk result (read_end env.now text.now broken (as_reading reader.old set.old) ≡ Ok (as_reading reader.new set.new)) }
+    ensures fault { IfErr result (λ f. f ≢ PolicyFault.NoMemory → read_end env.now text.now broken (as_reading reader.old set.old) ≡ Err f) }
     ensures same { OnErr result (set.new ≡ set.old) }
 {
     let at = text.len() as u32;
@@ -174,16 +171,15 @@ fn read_all<'a>(
     broken: Option<LexFault>,
 ) -> Result<(), PolicyRefusal>
     requires small { length text.now < 2 ^ 32 }
-    requires first { as_reading reader.old.walk reader.old.draft set.old ≡ first_reading set.old }
+    requires first { as_reading reader.old set.old ≡ first_reading set.old }
     requires few { filters_in set.old ≤ MOST_FILTERS }
-    ensures ok { OnOk result (set_of (read_from env.now text.now broken (as_reading reader.old.walk reader.old.draft set.old) tokens.now) ≡ Ok set.new) }
-    ensures fault { IfErr result (λ r. r.fault ≢ PolicyFault.NoMemory → read_from env.now text.now broken (as_reading reader.old.walk reader.old.draft set.old) tokens.now ≡ Err r.fault) }
-    ensures place { IfErr result (λ r. r.fault ≢ PolicyFault.NoMemory → place_from env.now text.now (as_reading reader.old.walk reader.old.draft set.old) tokens.now ≡ r.place) }
+    ensures ok { OnOk result (set_of (read_from env.now text.now broken (as_reading reader.old set.old) tokens.now) ≡ Ok set.new) }
+    ensures fault { IfErr result (λ r. r.fault ≢ PolicyFault.NoMemory → read_from env.now text.now broken (as_reading reader.old set.old) tokens.now ≡ Err r) }
     ensures kept { OnErr result (take (length set.old) set.new ≡ set.old) }
 {
     for token in tokens {
         let symbol = Symbol::of(text, token);
-        let place = reader.walk.place();
+        let place = reader.place();
         // A blank line leaves everything as it is.
         if symbol.is_line() && place.is_between_rows() {
             continue;
@@ -192,7 +188,7 @@ fn read_all<'a>(
             return Err(PolicyRefusal { fault, place });
         }
     }
-    let place = reader.walk.place();
+    let place = reader.place();
     match end(reader, alloc, env, set, text, broken) {
         Ok(()) => Ok(()),
         Err(fault) => Err(PolicyRefusal { fault, place }),
@@ -210,8 +206,7 @@ fn read_tokens(
 ) -> Result<(), PolicyRefusal>
     requires { length text.now < 2 ^ 32 }
     ensures ok { OnOk result (set_of (read_from env.now text.now broken (first_reading set.old) tokens.now) ≡ Ok set.new) }
-    ensures fault { IfErr result (λ r. r.fault ≢ PolicyFault.NoMemory → read_from env.now text.now broken (first_reading set.old) tokens.now ≡ Err r.fault) }
-    ensures place { IfErr result (λ r. r.fault ≢ PolicyFault.NoMemory → place_from env.now text.now (first_reading set.old) tokens.now ≡ r.place) }
+    ensures fault { IfErr result (λ r. r.fault ≢ PolicyFault.NoMemory → read_from env.now text.now broken (first_reading set.old) tokens.now ≡ Err r) }
     ensures kept { OnErr result (take (length set.old) set.new ≡ set.old) }
     ensures few { OnOk result (filters_in set.old ≤ MOST_FILTERS) }
 {
@@ -228,8 +223,7 @@ fn read_text(
 ) -> Result<(), PolicyRefusal>
     requires { length text.now < 2 ^ 32 }
     ensures ok { OnOk result (policies_in text.now env.now set.old ≡ Ok set.new) }
-    ensures fault { IfErr result (λ r. r.fault ≢ PolicyFault.NoMemory → policies_in text.now env.now set.old ≡ Err r.fault) }
-    ensures place { IfErr result (λ r. r.fault ≢ PolicyFault.NoMemory → place_in text.now env.now set.old ≡ r.place) }
+    ensures fault { IfErr result (λ r. r.fault ≢ PolicyFault.NoMemory → policies_in text.now env.now set.old ≡ Err r) }
     ensures kept { OnErr result (take (length set.old) set.new ≡ set.old) }
     ensures few { OnOk result (filters_in set.old ≤ MOST_FILTERS) }
 {
@@ -246,8 +240,7 @@ fn read_or_restore(
 ) -> Result<(), PolicyRefusal>
     requires { length text.now < 2 ^ 32 }
     ensures ok { OnOk result (policies_in text.now env.now set.old ≡ Ok set.new) }
-    ensures fault { IfErr result (λ r. r.fault ≢ PolicyFault.NoMemory → policies_in text.now env.now set.old ≡ Err r.fault) }
-    ensures place { IfErr result (λ r. r.fault ≢ PolicyFault.NoMemory → place_in text.now env.now set.old ≡ r.place) }
+    ensures fault { IfErr result (λ r. r.fault ≢ PolicyFault.NoMemory → policies_in text.now env.now set.old ≡ Err r) }
     ensures same { OnErr result (set.new ≡ set.old) }
     ensures few { OnOk result (filters_in set.old ≤ MOST_FILTERS) }
 {

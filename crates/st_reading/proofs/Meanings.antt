@@ -7,12 +7,10 @@ use Rattle.st_filter.specs.declared.set.BinaryPolicy.{BinaryPolicy}
 use Rattle.st_filter.specs.declared.set.TheConstants.{MOST_FILTERS}
 use Rattle.st_filter.specs.Policies.{filters_in}
 use Rattle.st_grammar.specs.declared.env.Env.{Env}
-use Rattle.st_grammar.specs.Draft.{fault_in}
+use Rattle.st_grammar.specs.Reading.{refusal_in}
 use Rattle.st_grammar.specs.Grammar as policy
-use Rattle.st_grammar.specs.declared.fault.PolicyFault.{PolicyFault}
 use Rattle.st_grammar.specs.declared.fault.PolicyRefusal.{PolicyRefusal}
 use Rattle.st_printing.specs.Canon.{canon}
-use Rattle.st_grammar.specs.Refusals.{place_in, refusal_in}
 use Rattle.st_grammar.proofs.Complete.{reads-once, reads-faultless, faultless-reads}
 use Rattle.st_schedule.specs.Schedule.{schedule_in}
 use Rattle.st_script_faults.specs.declared.fault.ScriptFault.{ScriptFault}
@@ -73,17 +71,13 @@ fault_or d (Some h) = h
 same_fault : (n : ℕ) (f g : PolicyRefusal) → Some f ≡ Some g → Refuses (Policy n f) ≡ Refuses (Policy n g)
 same_fault n f g e = ap (λ (h : PolicyRefusal). Refuses (Policy n h)) (ap (fault_or f) e)
 
--- a fault, with the place at which a text leads to it
-abbrev placed : List ℕ → Env → List BinaryPolicy → PolicyFault → PolicyRefusal
-placed text env before fault = record { fault = fault; place = place_in text env before }
+none_told : (found : Option PolicyRefusal) → option_map (λ refusal. refusal.fault) found ≡ None → found ≡ None
+none_told None e = refl
+none_told (Some refusal) e = absurd (cc)
 
 -- a text that is read is not refused
 unrefused : (text : List ℕ) (env : Env) (before policies : List BinaryPolicy) → policy.Reads text env before policies → refusal_in text env before ≡ None
-unrefused text env before policies reads = ap (option_map (placed text env before)) (reads-faultless text env before policies reads)
-
-faultless : (text : List ℕ) (env : Env) (before : List BinaryPolicy) (found : Option PolicyFault) → option_map (placed text env before) found ≡ None → found ≡ None
-faultless text env before None e = refl
-faultless text env before (Some fault) e = absurd (cc)
+unrefused text env before policies reads = none_told (refusal_in text env before) (reads-faultless text env before policies reads)
 
 -- a text has one reading or one first fault
 policy_one : (text : List ℕ) (env : Env) (before : List BinaryPolicy) (n : ℕ) (R : List BinaryPolicy → Meaning → Type 0) → ((policies : List BinaryPolicy) → IsOne (R policies)) →
@@ -169,7 +163,7 @@ policy_some text env before n R few some = by (refusal_in text env before) refl
     by : (found : Option PolicyRefusal) → refusal_in text env before ≡ found → HasOne (λ o. SaysPolicy text env before n (λ policies. R policies o) o)
     by (Some fault) e = (Refuses (Policy n fault), refl, inr (fault, e, refl))
     by None e =
-        let read = faultless-reads text env before few (faultless text env before (fault_in text env before) e) in
+        let read = faultless-reads text env before few (ap (option_map (λ refusal. refusal.fault)) e) in
         let one = some read.0 read.1.few in
         (one.0, one.1, inl (read.0, read.1, one.2))
 

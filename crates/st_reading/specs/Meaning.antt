@@ -7,7 +7,7 @@ use Rattle.st_filter.specs.declared.set.BinaryPolicy.{BinaryPolicy}
 use Rattle.st_grammar.specs.declared.env.Env.{Env}
 use Rattle.st_grammar.specs.declared.fault.PolicyRefusal.{PolicyRefusal}
 use Rattle.st_printing.specs.Canon.{canon}
-use Rattle.st_grammar.specs.Refusals.{refusal_in}
+use Rattle.st_grammar.specs.Reading.{refusal_in}
 use Rattle.st_grammar.specs.Grammar as policy
 use Rattle.st_law.specs.declared.input.Input.{Input}
 use Rattle.st_law.specs.declared.input.ReadSchedule.{ReadSchedule}

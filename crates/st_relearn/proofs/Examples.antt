@@ -8,7 +8,7 @@ use Rattle.st_law.proofs.Scripts.{passwd_only}
 use Rattle.st_law.proofs.SessionRuns.{link_learner}
 use Rattle.st_law.proofs.Writing.{policy, rest, trace}
 use Rattle.st_learn.specs.Learnt.{learnt_policies}
-use Rattle.st_grammar.specs.Draft.{policies_in}
+use Rattle.st_grammar.specs.Reading.{policies_in}
 use Rattle.st_grammar.specs.declared.env.Env.{Env}
 use Rattle.st_trace.specs.declared.entry.Entry.{Entry}
 use Rattle.st_relearn.specs.Relearnt.{policy_text}

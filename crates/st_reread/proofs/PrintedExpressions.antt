@@ -1,5 +1,5 @@
 -- Canonical expressions are spelled as the grammar asks.
-use Rattle.std.proofs.Common.{◌≡◌, ℕ, ◌+◌, ◌^◌, ◌<◌, Bool, true, false, cond, nat_eq, List, [], ◌∷◌, ◌++◌, codes, decimal, Some, refl, sym, subst, arith, eqb-true}
+use Rattle.std.proofs.Common.{◌≡◌, ℕ, ◌^◌, ◌<◌, Bool, true, false, cond, nat_eq, List, [], ◌∷◌, ◌++◌, codes, decimal, Some, refl, sym, subst, arith, eqb-true}
 use Rattle.st_lex.specs.declared.token.TokenKind.TheVariants as kind
 use Rattle.st_grammar.proofs.Common.{Always, And, AreBytes, Both, Close, CloseBracket, Conjunction, Disjunction, Either, FilterName, First, Formula, Grouped, Indexed, is_label, is_word_text, Level, may_test, Negated, Not, OneConjunction, OneOperand, Op, op_named, Open, OpenBracket, Operand, Or, Piece, PlainWord, Quoted, QuotedText, Sign, Space, Spells, StandWell, Symbol, Test, True, Word}
 use Rattle.st_grammar.specs.declared.env.Env.{Env}

@@ -4,7 +4,7 @@ use Rattle.std.specs.Prelude.{reverse}
 use Rattle.std.proofs.lemmas.List.{map-append, reverse-append}
 use Rattle.st_steps.specs.declared.stack.PendingOperand as kept
 use Rattle.st_filter.specs.Formula.{Formula}
-use Rattle.st_grammar.specs.Draft.{PendingOperand, Negation, Group, Both, Either, reduced, settle, close_either, without_group}
+use Rattle.st_grammar.specs.Expression.{PendingOperand, Negation, Group, Both, Either, reduced, settle, close_either, without_group}
 use Rattle.st_steps.specs.Stack.{waiting, stacked, takes, newest, with_right_operand}
 use Rattle.st_steps.specs.declared.stack.Takes.TheVariants.{Operand, Conjunction, Expression}
 

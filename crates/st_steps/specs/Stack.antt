@@ -6,7 +6,7 @@ use Rattle.st_steps.specs.declared.stack.Takes.{Takes}
 use Rattle.st_steps.specs.declared.stack.Takes.TheVariants.{Operand, Conjunction, Expression}
 use Rattle.st_filter.specs.Formula.{Formula, formula}
 use Rattle.st_filter.specs.Formula as formula
-use Rattle.st_grammar.specs.Draft as spec
+use Rattle.st_grammar.specs.Expression as spec
 
 -- what waits for its right operand, as the definitions have it
 abbrev pub waiting : PendingOperand → spec.PendingOperand

@@ -1,11 +1,8 @@
 //! The reader of policies, one symbol at a time: where the grammar goes on, and what the row has spelled.
 #![tactic(auto)]
 
-mod draft;
+mod reader;
 mod stack;
-pub mod steps;
-mod walk;
+mod steps;
 
-pub use draft::Draft;
-pub use steps::Reader;
-pub use walk::GrammarState;
+pub use reader::Reader;

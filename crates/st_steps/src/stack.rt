@@ -1,7 +1,7 @@
 ghost use Rattle.std.specs.Prelude.{◌≡◌, ◌∷◌, [], Some, OnOk, IfOk, IfSome, IfNone};
 ghost use Rattle.st_filter.specs.Formula.{formula};
 ghost use Rattle.st_steps.specs.Stack.{waiting, takes, newest, with_right_operand};
-ghost use Rattle.st_grammar.specs.Draft.{reduced, settle, close_either, without_group};
+ghost use Rattle.st_grammar.specs.Expression.{reduced, settle, close_either, without_group};
 
 use st_filter::Expr;
 use std::alloc::{AllocError, Global};
@@ -65,7 +65,7 @@ impl Model for Stack {
     ghost use Rattle.std.specs.Prelude.{List};
     ghost use Rattle.std.specs.Coded.{codes};
     ghost use Rattle.st_filter.specs.FormulaCode.{formula_code};
-    ghost use Rattle.st_grammar.specs.Draft.{PendingOperand};
+    ghost use Rattle.st_grammar.specs.Expression.{PendingOperand};
     ghost use Rattle.st_steps.specs.Stack.{stacked};
 
     ghost Value = { List PendingOperand };

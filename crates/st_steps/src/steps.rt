@@ -1,63 +1,25 @@
-ghost use Rattle.std.specs.Prelude.{◌≡◌, ◌≢◌, ℕ, List, [], Ok, Err, false, unwrap_or, IfOk, OnOk};
+ghost use Rattle.std.specs.Prelude.{◌≡◌, ℕ, List, Ok, false};
 ghost use Rattle.st_grammar.specs.Symbol.{seen, Word};
-ghost use Rattle.st_grammar.specs.Diagram.{IsStepped, is_quoted, step_to, only, step_start, step_row, step_system, step_operand, step_operator, step_label, step_indexed, step_index, step_joint, step_action, step_clause, step_as, step_tail, step_denial, step_error, step_id, step_grant, step_user, step_who, word_who, step_comparison, next};
-ghost use Rattle.st_grammar.specs.Grammar.{comparison};
-ghost use Rattle.st_grammar.specs.Words.{names_for};
-ghost use Rattle.st_grammar.specs.Draft.{first_draft, filter_of, is_binary_place, draft_row, draft_operand, draft_operator, draft_index, draft_text, draft_joint, draft_action, draft_clause, draft_error, draft_tail, draft_grant, draft_group, draft_comparison, draft_id, draft_step};
+ghost use Rattle.st_grammar.specs.Diagram.{IsStepped, acts, grants, step_start, step_row, step_system, step_operand, step_operator, step_label, step_indexed, word_index, step_text, step_joint, step_action, step_clause, step_as, step_tail, step_denial, step_error, step_grant, step_user, step_group, step_who, step_comparison, step_predicate, next};
+ghost use Rattle.st_grammar.specs.Words.{may_test, may_test_label};
+ghost use Rattle.st_grammar.specs.Reading.{is_binary_place};
 
-use crate::draft::Draft;
+use crate::reader::Reader;
 use crate::stack::PendingOperand;
-use crate::walk::GrammarState;
 use st_base::{Errno, Text};
-use st_filter::{Action, Cmp, Expr, Filter, FilterName, Grant, Predicate, Who};
-use st_grammar::words::{id_of, index_of, is_keyword, is_label, names_for, op_named, who_named};
+use st_filter::{Action, Expr, Grant, Predicate, Who};
+use st_grammar::words::{
+    id_of, index_of, is_keyword, is_label, may_test, may_test_label, names_for, op_named, sets_ids,
+    who_named,
+};
 use st_grammar::{Env, Place, PolicyFault, Symbol, Unsupported};
 use st_lex::unquote;
-use std::alloc::{AllocError, Global};
-
-/// How far a text is read, but for its policies. Each step takes one symbol in: the grammar goes on, and the row's draft gets what the
-/// symbol spells.
-#[derive(Drop)]
-pub struct Reader<'a> {
-    pub walk: GrammarState<'a>,
-    pub draft: Draft,
-}
+use std::alloc::Global;
 
 // Rows and headers.
 impl<'a> Reader<'a> {
-    /// The front of a text, with so many filters read before it.
-    pub fn new(alloc: Global, filters: usize) -> Self
-        ensures walk { result.walk ≡ record { place = Place.Start; filters = filters; name = FilterName.Other []; label = []; label_at = 0; parens = 0; joins = 0 } }
-        ensures draft { result.draft ≡ first_draft }
-    {
-        Reader {
-            walk: GrammarState::new(filters),
-            draft: Draft::new(alloc),
-        }
-    }
-
-    // The symbol may stand here, and adds nothing.
-    #[inline]
-    fn go(&mut self, next: Place) -> Result<(), PolicyFault>
-        ensures ok { IsStepped result self.new.walk (step_to self.old.walk next) }
-        ensures memory { result ≢ Err PolicyFault.NoMemory }
-        ensures draft { self.new.draft ≡ self.old.draft }
-    {
-        self.walk.go(next);
-        Ok(())
-    }
-
-    // One thing alone may stand here, which adds nothing.
-    fn only(&mut self, at: u32, fits: bool, next: Place) -> Result<(), PolicyFault>
-        ensures walk { IsStepped result self.new.walk (only self.old.walk at fits next) }
-        ensures draft { self.new.draft ≡ self.old.draft }
-    {
-        self.walk.only(at, fits, next)
-    }
-
     fn step_start(&mut self, at: u32, symbol: &Symbol<'a>) -> Result<(), PolicyFault>
-        ensures walk { IsStepped result self.new.walk (step_start self.old.walk at (seen symbol.now)) }
-        ensures draft { self.new.draft ≡ self.old.draft }
+        ensures { IsStepped result self.new (step_start self.old at (seen symbol.now)) }
     {
         match *symbol {
             Symbol::Line => self.go(Place::Start),
@@ -67,18 +29,15 @@ impl<'a> Reader<'a> {
     }
 
     fn step_row(&mut self, at: u32, symbol: &Symbol<'a>) -> Result<(), PolicyFault>
-        ensures walk { IsStepped result self.new.walk (step_row self.old.walk at (seen symbol.now)) }
-        ensures draft { OnOk result (self.new.draft ≡ draft_row self.old.draft (seen symbol.now)) }
+        ensures { IsStepped result self.new (step_row self.old at (seen symbol.now)) }
     {
         match *symbol {
             Symbol::Line => self.go(Place::Row),
             Symbol::Word(word) => {
-                self.draft.clear();
                 if is_keyword(word, b"Policy") {
-                    self.walk.go(Place::PolicyColon);
-                    Ok(())
+                    self.go(Place::PolicyColon)
                 } else {
-                    self.walk.begin_filter(at, word)
+                    self.begin_filter(at, word)
                 }
             }
             _ => Err(PolicyFault::Expected(at)),
@@ -86,16 +45,14 @@ impl<'a> Reader<'a> {
     }
 
     fn step_system(&mut self, at: u32, symbol: &Symbol<'a>) -> Result<(), PolicyFault>
-        ensures walk { IsStepped result self.new.walk (step_system self.old.walk at (seen symbol.now)) }
-        ensures draft { self.new.draft ≡ self.old.draft }
+        ensures { IsStepped result self.new (step_system self.old at (seen symbol.now)) }
     {
         match *symbol {
             Symbol::Word(word) => {
                 if !is_keyword(word, b"native") {
                     return Err(PolicyFault::NotSupported(at, Unsupported::Emulation));
                 }
-                self.walk.go(Place::HeaderEnd);
-                Ok(())
+                self.go(Place::HeaderEnd)
             }
             _ => Err(PolicyFault::Expected(at)),
         }
@@ -104,87 +61,109 @@ impl<'a> Reader<'a> {
 
 // Expressions.
 impl<'a> Reader<'a> {
+    // `not`, `true`, or a label.
+    fn step_operand_word(
+        &mut self,
+        alloc: Global,
+        at: u32,
+        word: &'a [u8],
+    ) -> Result<(), PolicyFault>
+        ensures { IsStepped result self.new (step_operand self.old at (Word word.now)) }
+    {
+        if is_keyword(word, b"not") {
+            self.wait(PendingOperand::Negation)?;
+            return self.join(at);
+        }
+        if is_keyword(word, b"true") {
+            self.complete(alloc, Expr::True)?;
+            return Ok(());
+        }
+        if !is_label(word) {
+            return Err(PolicyFault::Expected(at));
+        }
+        self.place = Place::Label;
+        self.label = word;
+        self.label_at = at;
+        self.index = 0;
+        Ok(())
+    }
+
     fn step_operand(
         &mut self,
         alloc: Global,
         at: u32,
         symbol: &Symbol<'a>,
     ) -> Result<(), PolicyFault>
-        ensures walk { IsStepped result self.new.walk (step_operand self.old.walk at (seen symbol.now)) }
-        ensures draft { OnOk result (self.new.draft ≡ draft_operand self.old.draft (seen symbol.now)) }
+        ensures { IsStepped result self.new (step_operand self.old at (seen symbol.now)) }
     {
         match *symbol {
             Symbol::Open => {
-                self.walk.open(at)?;
-                self.draft.wait(PendingOperand::Group)?;
+                self.wait(PendingOperand::Group)?;
+                self.open(at)
             }
-            Symbol::Word(word) => {
-                if is_keyword(word, b"not") {
-                    self.walk.join(at)?;
-                    self.draft.wait(PendingOperand::Negation)?;
-                } else if is_keyword(word, b"true") {
-                    self.walk.go(Place::Joint);
-                    self.draft.complete(alloc, Expr::True)?;
-                } else if is_label(word) {
-                    self.walk.begin_test(at, word);
-                    self.draft.index = 0;
-                } else {
-                    return Err(PolicyFault::Expected(at));
-                }
-            }
-            _ => return Err(PolicyFault::Expected(at)),
+            Symbol::Word(word) => self.step_operand_word(alloc, at, word),
+            _ => Err(PolicyFault::Expected(at)),
         }
-        Ok(())
     }
 
     fn step_operator(&mut self, at: u32, symbol: &Symbol<'a>) -> Result<(), PolicyFault>
-        ensures walk { IsStepped result self.new.walk (step_operator self.old.walk at (seen symbol.now)) }
-        ensures draft { OnOk result (self.new.draft ≡ draft_operator self.old.draft (seen symbol.now)) }
+        ensures { IsStepped result self.new (step_operator self.old at (seen symbol.now)) }
     {
         let Symbol::Word(word) = *symbol else {
             return Err(PolicyFault::Expected(at));
         };
         match op_named(word) {
             Some(op) => {
-                self.walk.go(Place::Text);
-                self.draft.op = op;
-                Ok(())
+                self.op = op;
+                self.go(Place::Text)
             }
             None if is_keyword(word, b"re") => Err(PolicyFault::NotSupported(at, Unsupported::Re)),
             None => Err(PolicyFault::Expected(at)),
         }
     }
 
+    // Whether the filter may test the label that was read with this index.
+    fn may_test(&self, index: u32) -> bool
+        ensures { result ≡ may_test self.now.name self.now.label index }
+    {
+        may_test(self.name, self.rule, self.label, index)
+    }
+
+    // The call has no such argument.
+    fn no_argument(&self) -> PolicyFault
+        ensures { result ≡ PolicyFault.UnknownArgument self.now.label_at }
+    {
+        PolicyFault::UnknownArgument(self.label_at)
+    }
+
     fn step_label(&mut self, at: u32, symbol: &Symbol<'a>) -> Result<(), PolicyFault>
-        ensures walk { IsStepped result self.new.walk (step_label self.old.walk at (seen symbol.now)) }
-        ensures draft { OnOk result (self.new.draft ≡ draft_operator self.old.draft (seen symbol.now)) }
+        ensures { IsStepped result self.new (step_label self.old at (seen symbol.now)) }
     {
         match *symbol {
             Symbol::OpenBracket => self.go(Place::Index),
-            _ if self.walk.may_test(0) => self.step_operator(at, symbol),
-            _ => Err(self.walk.label_fault()),
+            _ if self.may_test(0) => self.step_operator(at, symbol),
+            _ => Err(self.no_argument()),
         }
     }
 
     // The index that is spelled, if one is.
     fn step_indexed(&mut self, at: u32, index: Option<u32>) -> Result<(), PolicyFault>
-        ensures walk { IsStepped result self.new.walk (step_indexed self.old.walk at index) }
-        ensures draft { OnOk result (self.new.draft ≡ record self.old.draft { index = unwrap_or index self.old.draft.index }) }
+        ensures { IsStepped result self.new (step_indexed self.old at index) }
     {
         match index {
-            Some(index) if self.walk.may_test(index) => {
-                self.walk.go(Place::IndexEnd);
-                self.draft.index = index;
-                Ok(())
+            Some(index) if self.may_test(index) => {
+                self.index = index;
+                self.go(Place::IndexEnd)
             }
-            None if self.walk.may_test_label() => Err(PolicyFault::Expected(at)),
-            _ => Err(self.walk.label_fault()),
+            None if may_test_label(self.name, self.rule, self.label) => {
+                Err(PolicyFault::Expected(at))
+            }
+            _ => Err(self.no_argument()),
         }
     }
 
     fn step_index(&mut self, at: u32, symbol: &Symbol<'a>) -> Result<(), PolicyFault>
-        ensures walk { IsStepped result self.new.walk (step_index self.old.walk at (seen symbol.now)) }
-        ensures draft { OnOk result (self.new.draft ≡ draft_index self.old.draft (seen symbol.now)) }
+        ensures { IsStepped result self.new (step_indexed self.old at (word_index (seen symbol.now))) }
     {
         match *symbol {
             Symbol::Word(word) => self.step_indexed(at, index_of(word)),
@@ -199,53 +178,50 @@ impl<'a> Reader<'a> {
         at: u32,
         symbol: &Symbol<'a>,
     ) -> Result<(), PolicyFault>
-        ensures walk { IsStepped result self.new.walk (only self.old.walk at (is_quoted (seen symbol.now)) Place.Joint) }
-        ensures draft { OnOk result (self.new.draft ≡ draft_text env.now self.old.walk.label self.old.draft (seen symbol.now)) }
+        ensures { IsStepped result self.new (step_text env.now self.old at (seen symbol.now)) }
     {
         let Symbol::Quoted(source) = *symbol else {
             return Err(PolicyFault::Expected(at));
         };
-        self.walk.go(Place::Joint);
         let test = Expr::Test {
-            label: Text::of(alloc, self.walk.label())?,
-            index: self.draft.index,
-            op: self.draft.op,
+            label: Text::of(alloc, self.label)?,
+            index: self.index,
+            op: self.op,
             text: unquote(alloc, source, &env.dollars)?,
         };
-        self.draft.complete(alloc, test)?;
+        self.complete(alloc, test)?;
         Ok(())
     }
 
     // `and`, `or`, or `then` behind an operand.
     fn step_joint_word(&mut self, alloc: Global, at: u32, word: &'a [u8]) -> Result<(), PolicyFault>
-        ensures walk { IsStepped result self.new.walk (step_joint self.old.walk at (Word word.now)) }
-        ensures draft { OnOk result (self.new.draft ≡ draft_joint self.old.draft (Word word.now)) }
+        ensures { IsStepped result self.new (step_joint self.old at (Word word.now)) }
     {
         if is_keyword(word, b"and") {
-            self.walk.join(at)?;
-            self.draft.join_both(alloc)?;
-        } else if is_keyword(word, b"or") {
-            self.walk.join(at)?;
-            self.draft.end_conjunction(alloc)?;
-            self.draft.join_either(alloc)?;
-        } else {
-            let ends = is_keyword(word, b"then") && self.walk.is_closed();
-            self.only(at, ends, Place::Action)?;
-            self.draft.end_conjunction(alloc)?;
+            self.join_both(alloc)?;
+            return self.join(at);
         }
-        Ok(())
+        self.conclude(alloc)?;
+        if is_keyword(word, b"or") {
+            self.join_either(alloc)?;
+            return self.join(at);
+        }
+        let ends = is_keyword(word, b"then") && self.parens == 0;
+        self.only(at, ends, Place::Action)
     }
 
     fn step_joint(&mut self, alloc: Global, at: u32, symbol: &Symbol<'a>) -> Result<(), PolicyFault>
-        ensures walk { IsStepped result self.new.walk (step_joint self.old.walk at (seen symbol.now)) }
-        ensures draft { OnOk result (self.new.draft ≡ draft_joint self.old.draft (seen symbol.now)) }
+        ensures { IsStepped result self.new (step_joint self.old at (seen symbol.now)) }
     {
         match *symbol {
             Symbol::Close => {
-                self.walk.close(at)?;
-                self.draft.end_conjunction(alloc)?;
-                self.draft.close_group(alloc)?;
-                Ok(())
+                if self.parens == 0 {
+                    return Err(PolicyFault::Expected(at));
+                }
+                self.parens -= 1;
+                self.conclude(alloc)?;
+                self.close_group(alloc)?;
+                self.go(Place::Joint)
             }
             Symbol::Word(word) => self.step_joint_word(alloc, at, word),
             _ => Err(PolicyFault::Expected(at)),
@@ -255,35 +231,43 @@ impl<'a> Reader<'a> {
 
 // Actions and what follows them.
 impl<'a> Reader<'a> {
+    // This action is read.
+    fn act(&mut self, action: Action, next: Place) -> Result<(), PolicyFault>
+        ensures { IsStepped result self.new (Ok (acts action next self.old)) }
+    {
+        self.action = action;
+        self.go(next)
+    }
+
     fn step_action(&mut self, env: &Env, at: u32, symbol: &Symbol<'a>) -> Result<(), PolicyFault>
-        ensures walk { IsStepped result self.new.walk (step_action env.now self.old.walk at (seen symbol.now)) }
-        ensures draft { OnOk result (self.new.draft ≡ draft_action self.old.draft (seen symbol.now)) }
+        ensures { IsStepped result self.new (step_action env.now self.old at (seen symbol.now)) }
     {
         let Symbol::Word(word) = *symbol else {
             return Err(PolicyFault::Expected(at));
         };
         if is_keyword(word, b"permit") {
-            self.walk.go(Place::Tail {
-                grant: true,
-                log: true,
-            });
-            self.draft.action = Action::Permit;
+            self.act(
+                Action::Permit,
+                Place::Tail {
+                    grant: true,
+                    log: true,
+                },
+            )
         } else if is_keyword(word, b"deny") {
-            self.walk.go(Place::Denial);
-            self.draft.action = Action::Deny(Errno::EPERM);
-        } else if is_keyword(word, b"ask") {
-            if env.learn {
-                return Err(PolicyFault::AskWithLearn(at));
-            }
-            self.walk.go(Place::Tail {
-                grant: false,
-                log: true,
-            });
-            self.draft.action = Action::Ask;
+            self.act(Action::Deny(Errno::EPERM), Place::Denial)
+        } else if !is_keyword(word, b"ask") {
+            Err(PolicyFault::Expected(at))
+        } else if env.learn {
+            Err(PolicyFault::AskWithLearn(at))
         } else {
-            return Err(PolicyFault::Expected(at));
+            self.act(
+                Action::Ask,
+                Place::Tail {
+                    grant: false,
+                    log: true,
+                },
+            )
         }
-        Ok(())
     }
 
     fn step_clause(
@@ -293,8 +277,7 @@ impl<'a> Reader<'a> {
         at: u32,
         symbol: &Symbol<'a>,
     ) -> Result<(), PolicyFault>
-        ensures walk { IsStepped result self.new.walk (step_clause env.now self.old.walk at (seen symbol.now)) }
-        ensures draft { OnOk result (self.new.draft ≡ draft_clause self.old.draft (seen symbol.now)) }
+        ensures { IsStepped result self.new (step_clause env.now self.old at (seen symbol.now)) }
     {
         if symbol.is_action() {
             self.step_action(env, at, symbol)
@@ -304,17 +287,15 @@ impl<'a> Reader<'a> {
     }
 
     fn step_as(&mut self, env: &Env, at: u32, log: bool) -> Result<(), PolicyFault>
-        ensures walk { IsStepped result self.new.walk (step_as env.now self.old.walk at log) }
-        ensures draft { self.new.draft ≡ self.old.draft }
+        ensures { IsStepped result self.new (step_as env.now self.old at log) }
     {
         if !env.elevate {
             return Err(PolicyFault::ElevateWithoutIds(at));
         }
-        if self.walk.sets_ids() {
+        if sets_ids(self.name, self.rule) {
             return Err(PolicyFault::ElevateOnSetId(at));
         }
-        self.walk.go(Place::Grant { log });
-        Ok(())
+        self.go(Place::Grant { log })
     }
 
     // `as` or `log`, where they may still come.
@@ -326,19 +307,16 @@ impl<'a> Reader<'a> {
         at: u32,
         word: &'a [u8],
     ) -> Result<(), PolicyFault>
-        ensures walk { IsStepped result self.new.walk (step_tail env.now grant log self.old.walk at (Word word.now)) }
-        ensures draft { OnOk result (self.new.draft ≡ draft_tail self.old.draft (Word word.now)) }
+        ensures { IsStepped result self.new (step_tail env.now grant log self.old at (Word word.now)) }
     {
         if is_keyword(word, b"as") && grant {
             return self.step_as(env, at, log);
         }
-        self.only(
-            at,
-            is_keyword(word, b"log") && log,
-            Place::Tail { grant, log: false },
-        )?;
-        self.draft.log = true;
-        Ok(())
+        if !(is_keyword(word, b"log") && log) {
+            return Err(PolicyFault::Expected(at));
+        }
+        self.log = true;
+        self.go(Place::Tail { grant, log: false })
     }
 
     fn step_tail(
@@ -349,8 +327,7 @@ impl<'a> Reader<'a> {
         at: u32,
         symbol: &Symbol<'a>,
     ) -> Result<(), PolicyFault>
-        ensures walk { IsStepped result self.new.walk (step_tail env.now grant log self.old.walk at (seen symbol.now)) }
-        ensures draft { OnOk result (self.new.draft ≡ draft_tail self.old.draft (seen symbol.now)) }
+        ensures { IsStepped result self.new (step_tail env.now grant log self.old at (seen symbol.now)) }
     {
         match *symbol {
             Symbol::Line => self.go(Place::Row),
@@ -361,8 +338,7 @@ impl<'a> Reader<'a> {
     }
 
     fn step_denial(&mut self, env: &Env, at: u32, symbol: &Symbol<'a>) -> Result<(), PolicyFault>
-        ensures walk { IsStepped result self.new.walk (step_denial env.now self.old.walk at (seen symbol.now)) }
-        ensures draft { OnOk result (self.new.draft ≡ draft_tail self.old.draft (seen symbol.now)) }
+        ensures { IsStepped result self.new (step_denial env.now self.old at (seen symbol.now)) }
     {
         match *symbol {
             Symbol::OpenBracket => self.go(Place::Error),
@@ -371,8 +347,7 @@ impl<'a> Reader<'a> {
     }
 
     fn step_error(&mut self, at: u32, symbol: &Symbol<'a>) -> Result<(), PolicyFault>
-        ensures walk { IsStepped result self.new.walk (step_error self.old.walk at (seen symbol.now)) }
-        ensures draft { OnOk result (self.new.draft ≡ draft_error self.old.draft (seen symbol.now)) }
+        ensures { IsStepped result self.new (step_error self.old at (seen symbol.now)) }
     {
         let Symbol::Word(word) = *symbol else {
             return Err(PolicyFault::Expected(at));
@@ -380,14 +355,20 @@ impl<'a> Reader<'a> {
         let Some(errno) = Errno::of_word(word) else {
             return Err(PolicyFault::UnknownError(at));
         };
-        self.walk.go(Place::ErrorEnd);
-        self.draft.action = Action::Deny(errno);
-        Ok(())
+        self.act(Action::Deny(errno), Place::ErrorEnd)
     }
 }
 
 // Ids.
 impl<'a> Reader<'a> {
+    // This user is granted, or nobody yet.
+    fn begin_grant(&mut self, user: Option<u32>, next: Place) -> Result<(), PolicyFault>
+        ensures { IsStepped result self.new (Ok (grants user next self.old)) }
+    {
+        self.grant = Some(Grant { user, group: None });
+        self.go(next)
+    }
+
     fn step_grant(
         &mut self,
         env: &Env,
@@ -395,25 +376,16 @@ impl<'a> Reader<'a> {
         at: u32,
         symbol: &Symbol<'a>,
     ) -> Result<(), PolicyFault>
-        ensures walk { IsStepped result self.new.walk (step_grant env.now log self.old.walk at (seen symbol.now)) }
-        ensures draft { OnOk result (self.new.draft ≡ draft_grant env.now self.old.draft (seen symbol.now)) }
+        ensures { IsStepped result self.new (step_grant env.now log self.old at (seen symbol.now)) }
     {
-        let user = match *symbol {
-            Symbol::Colon => {
-                self.walk.go(Place::Group { log });
-                None
-            }
-            Symbol::Word(word) => {
-                let Some(user) = id_of(env.users.as_slice(), word) else {
-                    return Err(PolicyFault::UnknownUser(at));
-                };
-                self.walk.go(Place::User { log });
-                Some(user)
-            }
-            _ => return Err(PolicyFault::Expected(at)),
-        };
-        self.draft.grant = Some(Grant { user, group: None });
-        Ok(())
+        match *symbol {
+            Symbol::Colon => self.begin_grant(None, Place::Group { log }),
+            Symbol::Word(word) => match id_of(env.users.as_slice(), word) {
+                Some(user) => self.begin_grant(Some(user), Place::User { log }),
+                None => Err(PolicyFault::UnknownUser(at)),
+            },
+            _ => Err(PolicyFault::Expected(at)),
+        }
     }
 
     fn step_user(
@@ -423,8 +395,7 @@ impl<'a> Reader<'a> {
         at: u32,
         symbol: &Symbol<'a>,
     ) -> Result<(), PolicyFault>
-        ensures walk { IsStepped result self.new.walk (step_user env.now log self.old.walk at (seen symbol.now)) }
-        ensures draft { OnOk result (self.new.draft ≡ draft_tail self.old.draft (seen symbol.now)) }
+        ensures { IsStepped result self.new (step_user env.now log self.old at (seen symbol.now)) }
     {
         match *symbol {
             Symbol::Colon => self.go(Place::Group { log }),
@@ -439,29 +410,25 @@ impl<'a> Reader<'a> {
         at: u32,
         symbol: &Symbol<'a>,
     ) -> Result<(), PolicyFault>
-        ensures walk { IsStepped result self.new.walk (step_id env.now.groups self.old.walk at (Place.Tail false log) (seen symbol.now)) }
-        ensures draft { OnOk result (self.new.draft ≡ draft_group env.now self.old.draft (seen symbol.now)) }
+        ensures { IsStepped result self.new (step_group env.now log self.old at (seen symbol.now)) }
     {
         let Symbol::Word(word) = *symbol else {
             return Err(PolicyFault::Expected(at));
         };
-        let group = id_of(env.groups.as_slice(), word);
-        if group.is_none() {
+        let Some(group) = id_of(env.groups.as_slice(), word) else {
             return Err(PolicyFault::UnknownUser(at));
-        }
-        self.walk.go(Place::Tail { grant: false, log });
-        if let Some(grant) = self.draft.grant {
-            self.draft.grant = Some(Grant {
+        };
+        if let Some(grant) = self.grant {
+            self.grant = Some(Grant {
                 user: grant.user,
-                group,
+                group: Some(group),
             });
         }
-        Ok(())
+        self.go(Place::Tail { grant: false, log })
     }
 
     fn step_who(&mut self, at: u32, symbol: &Symbol<'a>) -> Result<(), PolicyFault>
-        ensures walk { IsStepped result self.new.walk (step_who self.old.walk at (word_who (seen symbol.now))) }
-        ensures draft { self.new.draft ≡ self.old.draft }
+        ensures { IsStepped result self.new (step_who self.old at (seen symbol.now)) }
     {
         let Symbol::Word(word) = *symbol else {
             return Err(PolicyFault::Expected(at));
@@ -469,31 +436,27 @@ impl<'a> Reader<'a> {
         let Some(who) = who_named(word) else {
             return Err(PolicyFault::Expected(at));
         };
-        self.walk.go(Place::Comparison(who));
-        Ok(())
+        self.go(Place::Comparison(who))
     }
 
-    fn step_comparison(&mut self, who: Who, at: u32, cmp: Option<Cmp>) -> Result<(), PolicyFault>
-        ensures walk { IsStepped result self.new.walk (step_comparison who self.old.walk at cmp) }
-        ensures draft { OnOk result (self.new.draft ≡ draft_comparison self.old.draft cmp) }
+    fn step_comparison(&mut self, who: Who, at: u32, symbol: &Symbol<'a>) -> Result<(), PolicyFault>
+        ensures { IsStepped result self.new (step_comparison who self.old at (seen symbol.now)) }
     {
-        let Some(cmp) = cmp else {
+        let Some(cmp) = symbol.comparison() else {
             return Err(PolicyFault::Expected(at));
         };
-        self.walk.go(Place::Id(who));
-        self.draft.cmp = cmp;
-        Ok(())
+        self.cmp = cmp;
+        self.go(Place::Id(who))
     }
 
-    fn step_id(
+    fn step_predicate(
         &mut self,
         env: &Env,
         who: Who,
         at: u32,
         symbol: &Symbol<'a>,
     ) -> Result<(), PolicyFault>
-        ensures walk { IsStepped result self.new.walk (step_id (names_for env.now who) self.old.walk at Place.FilterEnd (seen symbol.now)) }
-        ensures draft { OnOk result (self.new.draft ≡ draft_id env.now who self.old.draft (seen symbol.now)) }
+        ensures { IsStepped result self.new (step_predicate env.now who self.old at (seen symbol.now)) }
     {
         let Symbol::Word(word) = *symbol else {
             return Err(PolicyFault::Expected(at));
@@ -501,13 +464,12 @@ impl<'a> Reader<'a> {
         let Some(id) = id_of(names_for(env, who), word) else {
             return Err(PolicyFault::UnknownUser(at));
         };
-        self.walk.go(Place::FilterEnd);
-        self.draft.predicate = Some(Predicate {
+        self.predicate = Some(Predicate {
             who,
-            cmp: self.draft.cmp,
+            cmp: self.cmp,
             id,
         });
-        Ok(())
+        self.go(Place::FilterEnd)
     }
 }
 
@@ -521,11 +483,10 @@ impl<'a> Reader<'a> {
         at: u32,
         symbol: &Symbol<'a>,
     ) -> Result<(), PolicyFault>
-        requires { is_binary_place self.old.walk.place ≡ false }
-        ensures walk { (known : List (List ℕ)) → IsStepped result self.new.walk (next env.now known self.old.walk at (seen symbol.now)) }
-        ensures draft { OnOk result (self.new.draft ≡ draft_step env.now self.old.walk.label self.old.draft (seen symbol.now) self.old.walk.place) }
+        requires { is_binary_place self.old.place ≡ false }
+        ensures { (known : List (List ℕ)) → IsStepped result self.new (next env.now known self.old at (seen symbol.now)) }
     {
-        match self.walk.place() {
+        match self.place {
             Place::Start => self.step_start(at, symbol),
             Place::Row => self.step_row(at, symbol),
             Place::PolicyColon => self.only(at, symbol.is_colon(), Place::Binary),
@@ -562,20 +523,10 @@ impl<'a> Reader<'a> {
             Place::Group { log } => self.step_group(env, log, at, symbol),
             Place::If => self.only(at, symbol.is_keyword(b"if"), Place::Who),
             Place::Who => self.step_who(at, symbol),
-            Place::Comparison(who) => self.step_comparison(who, at, symbol.comparison()),
-            Place::Id(who) => self.step_id(env, who, at, symbol),
+            Place::Comparison(who) => self.step_comparison(who, at, symbol),
+            Place::Id(who) => self.step_predicate(env, who, at, symbol),
             Place::HeaderEnd => self.only(at, symbol.is_line(), Place::Row),
             Place::FilterEnd => self.only(at, symbol.is_line(), Place::Row),
         }
-    }
-
-    /// The filter that the row has spelled; nothing is left of its draft.
-    pub fn take_filter(&mut self, alloc: Global) -> Result<Filter, AllocError>
-        ensures filter { IfOk result (λ filter. filter ≡ filter_of self.old.walk.name self.old.draft) }
-        ensures walk { self.new.walk ≡ self.old.walk }
-        ensures draft { OnOk result (self.new.draft ≡ first_draft) }
-    {
-        let name = self.walk.filter_name(alloc)?;
-        Ok(self.draft.take_filter(name))
     }
 }

@@ -1,17 +1,23 @@
-use Rattle.std.proofs.Common.{◌∷◌, refl}
-use Rattle.st_grammar.specs.OneFilter.{filter_of_tokens}
-use Rattle.st_grammar.specs.Symbol.{seen, symbol_of}
-use Rattle.st_grammar.proofs.OneFilters.{first_stands, token_stands}
+use Rattle.std.proofs.Common.{◌≡◌, ◌∷◌, ◌∙◌, [], Ok, ap, refl, sym, false}
+use Rattle.st_grammar.specs.Diagram.{is_line, next}
+use Rattle.st_grammar.specs.OneFilter.{filter_from, filter_of_tokens}
+use Rattle.st_grammar.specs.Symbol.{symbol_of}
+use Rattle.st_grammar.proofs.OneFilters.{begins, token_stands}
 use Rattle.st_policy.proofs.one_filter.rest_of_filter.Goals as goal
 
 pub loop-token-init : goal.loop-token-init
 loop-token-init c =
-    let s = first_stands c.args.env.now c.args.text.now c.args.broken c.args.first.now c.args.tokens.now (symbol_of c.args.text.now c.args.first.now) c.args.reader.now.walk c.args.reader.now.draft refl c.requires.walk c.requires.draft in
-    record { rest = s.rest; within = s.within }
+    let begun = c.requires.begun in
+    record {
+      rest = rw (begun, filter_of_tokens) refl;
+      within = record { front = symbol_of c.args.text.now c.args.first.now ∷ []; spelled = begins c.args.env.now c.args.first.now.at (symbol_of c.args.text.now c.args.first.now) c.args.reader.now begun };
+    }
 
 pub loop-token-preserved : goal.loop-token-preserved
 loop-token-preserved c =
-    let s = token_stands c.args.env.now c.args.text.now c.args.broken (filter_of_tokens c.args.env.now c.args.text.now c.args.broken (c.args.first.now ∷ c.args.tokens.now))
-    c.in-Some.token.now c.in-Some.behind.now c.loop-token.rest.now (seen c.of-symbol.result) c.loop-token.reader.walk c.step.new.self.walk c.loop-token.reader.draft c.step.new.self.draft c.is_line.result
-    c.in-Some.ensures.cases.0 c.of-symbol.ensures c.in_ok-step.ensures.walk c.is_line.ensures c.if-is_line.false c.in_ok-step.ensures.draft c.loop-token.invariant.rest c.loop-token.invariant.within in
-    record { rest = s.rest; within = s.within }
+    let token = c.in-Some.token.now in
+    let symbol = symbol_of c.args.text.now token in
+    let goes : (known : _) → next c.args.env.now known c.loop-token.reader token.at symbol ≡ Ok c.step.new.self = λ known. ap (next c.args.env.now known c.loop-token.reader token.at) (sym c.of-symbol.ensures) ∙ c.in_ok-step.ensures known in
+    let inside : is_line symbol ≡ false = ap is_line (sym c.of-symbol.ensures) ∙ sym c.is_line.ensures ∙ c.if-is_line.false in
+    let s = token_stands c.args.env.now c.args.text.now c.args.broken token c.in-Some.behind.now c.loop-token.reader c.step.new.self goes inside c.loop-token.invariant.within in
+    record { rest = c.loop-token.invariant.rest ∙ ap (filter_from c.args.env.now c.args.text.now c.args.broken c.loop-token.reader) c.in-Some.ensures.cases.0 ∙ s.0; within = s.1 }

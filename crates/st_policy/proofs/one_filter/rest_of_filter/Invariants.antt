@@ -6,8 +6,8 @@ use Rattle.st_policy.proofs.one_filter.rest_of_filter.Given as goal
 -- what is left, read behind what was read, gives the answer; and what was read begins a filter
 abbrev pub invariant-loop-token : goal.invariant-loop-token
 invariant-loop-token l = record {
-  rest : filter_of_tokens l.env l.text l.broken (l.first ∷ l.tokens) ≡ filter_from l.env l.text l.broken l.reader.walk l.reader.draft l.rest;
-  within : InFilter l.env l.reader.walk l.reader.draft;
+  rest : filter_of_tokens l.env l.text l.broken (l.first ∷ l.tokens) ≡ filter_from l.env l.text l.broken l.reader l.rest;
+  within : InFilter l.env l.reader;
 }
 
 abbrev pub decreases-loop-token : goal.decreases-loop-token

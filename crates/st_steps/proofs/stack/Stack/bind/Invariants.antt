@@ -1,6 +1,6 @@
 use Rattle.std.proofs.Common.{◌≡◌, length}
 use Rattle.st_filter.specs.Formula.{formula}
-use Rattle.st_grammar.specs.Draft.{settle}
+use Rattle.st_grammar.specs.Expression.{settle}
 use Rattle.st_steps.proofs.stack.Stack.bind.Given as goal
 
 abbrev pub invariant-loop-self : goal.invariant-loop-self

@@ -1,11 +1,12 @@
 use Rattle.std.proofs.Common.{◌≡◌, ◌∙◌, Bool, true, false, cond, Err, ap, sym}
 use Rattle.std.specs.List.{list_any}
 use Rattle.std.specs.Str.{bytes_eq}
-use Rattle.st_grammar.specs.Diagram.{binaries, step_to}
+use Rattle.st_grammar.specs.Diagram.{step_to}
+use Rattle.st_grammar.specs.Reading.{binaries}
 use Rattle.st_grammar.specs.declared.fault.PolicyFault.TheVariants.{DuplicatePolicy}
 use Rattle.st_grammar.specs.declared.place.Place.TheVariants as place
-use Rattle.st_grammar.proofs.RowsKept.{any-binaries}
-use Rattle.st_steps.proofs.walk.GrammarState.begin_policy.Goals as goal
+use Rattle.st_grammar.proofs.Policies.{any-binaries}
+use Rattle.st_steps.proofs.reader.Reader.begin_policy.Goals as goal
 
 pub returns-then-has-clause-ok : goal.returns-then-has-clause-ok
 returns-then-has-clause-ok c = λ memory.
