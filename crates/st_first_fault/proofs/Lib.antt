@@ -1,6 +1,7 @@
 pub mod Below
 pub mod Completions
 pub mod Cuts
+mod Examples
 pub mod FaultKinds
 pub mod FaultsOnce
 pub mod FilterFaults
