@@ -1,5 +1,5 @@
 -- Signs of one byte are neither blanks nor bytes of Words.
-use Rattle.std.proofs.Common.{◌≡◌, ℕ, Bool, true, false, ◌==◌, nat_eq, if◌then◌else◌, List, ◌∷◌, Option, None, Some, refl, sym, subst, arith}
+use Rattle.std.proofs.Common.{◌≡◌, ℕ, Bool, true, false, ◌==◌, nat_eq, if◌then◌else◌, List, ◌∷◌, Option, Some, refl, sym, subst, arith}
 use Rattle.std.proofs.lemmas.Bool.Decides.{nat_tests}
 use Rattle.st_lex.specs.declared.token.Front.TheVariants.{Piece}
 use Rattle.st_lex.specs.declared.token.TokenKind.{TokenKind}

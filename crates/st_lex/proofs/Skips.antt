@@ -1,6 +1,6 @@
 -- The tokens of a text, one front after the other.
-use Rattle.std.proofs.Common.{zero, suc, ◌≡◌, ℕ, ◌+◌, ◌-◌, ◌<◌, ◌≤◌, List, [], ◌∷◌, ◌++◌, length, take, drop, get_or, Option, None, Some, refl, ap, sym, ◌∙◌, arith, append_assoc}
-use Rattle.std.proofs.lemmas.List.{append-nil, drop_more, drop_all, drop-drop, take_rest, length-drop}
+use Rattle.std.proofs.Common.{zero, suc, ◌≡◌, ℕ, ◌+◌, ◌-◌, ◌<◌, ◌≤◌, List, [], ◌∷◌, ◌++◌, length, take, drop, get_or, Some, refl, ap, sym, ◌∙◌, arith}
+use Rattle.std.proofs.lemmas.List.{drop_more, drop-drop, take_rest, length-drop}
 use Rattle.st_lex.specs.declared.token.Token.{Token}
 use Rattle.st_lex.specs.declared.token.TokenKind.{TokenKind}
 use Rattle.st_lex.specs.declared.token.LexFault.{LexFault}
@@ -52,17 +52,6 @@ tokens_from-broken fault at line b bs e = tokens_from-front at line b bs ∙ ap 
 abbrev pub before : List Token → Lexed → Lexed
 before ts lexed = record { tokens = ts ++ lexed.tokens; fault = lexed.fault }
 
-pub before-with_token : (ts : List Token) (t : Token) (lexed : Lexed) → before ts (with_token t lexed) ≡ before (ts ++ t ∷ []) lexed
-before-with_token ts t lexed =
-    let e : ts ++ (t ∷ lexed.tokens) ≡ (ts ++ t ∷ []) ++ lexed.tokens = sym (append_assoc ts (t ∷ []) lexed.tokens) in
-    let F : List Token → Lexed = λ xs. record { tokens = xs; fault = lexed.fault } in
-    ap F e
-
-pub before-none : (ts : List Token) (fault : Option LexFault) → before ts (record { tokens = []; fault = fault }) ≡ record { tokens = ts; fault = fault }
-before-none ts fault =
-    let F : List Token → Lexed = λ xs. record { tokens = xs; fault = fault } in
-    ap F (append-nil ts)
-
 -- the text behind a place, as its parts are passed on
 abbrev pub text_after : List ℕ → ℕ → List ℕ
 text_after text at = take (length text - (at + 1)) (drop (at + 1) text)
@@ -78,28 +67,11 @@ length-behind text at h =
 dropped : (k at : ℕ) (text : List ℕ) → at < length text → drop k (get_or text at 0 ∷ text_after text at) ≡ drop (at + k) text
 dropped k at text h = ap (drop k) (sym (parted text at h)) ∙ drop-drop k at text
 
-pub gap_at : (ts : List Token) (k at line : ℕ) (text : List ℕ) → at < length text → Gap k ≡ front_of (get_or text at 0 ∷ text_after text at) → 0 < k → k ≤ length (text_after text at) + 1 → before ts (tokens_from 0 at line (drop at text)) ≡ before ts (tokens_from 0 (at + k) line (drop (at + k) text))
-gap_at ts k at line text h e p q =
-    let d : tokens_from 0 at line (drop at text) ≡ tokens_from 0 (at + k) line (drop (at + k) text) = ap (tokens_from 0 at line) (parted text at h) ∙ tokens_from-gap k at line (get_or text at 0) (text_after text at) e p q ∙ ap (tokens_from 0 (at + k) line) (dropped k at text h) in
-    ap (before ts) d
+pub gap_at : (k at line : ℕ) (text : List ℕ) → at < length text → Gap k ≡ front_of (get_or text at 0 ∷ text_after text at) → 0 < k → k ≤ length (text_after text at) + 1 → tokens_from 0 at line (drop at text) ≡ tokens_from 0 (at + k) line (drop (at + k) text)
+gap_at k at line text h e p q =
+    ap (tokens_from 0 at line) (parted text at h) ∙ tokens_from-gap k at line (get_or text at 0) (text_after text at) e p q ∙ ap (tokens_from 0 (at + k) line) (dropped k at text h)
 
-pub piece_at : (ts : List Token) (kind : TokenKind) (k at line : ℕ) (text : List ℕ) → at < length text → Piece kind k ≡ front_of (get_or text at 0 ∷ text_after text at) → 0 < k → k ≤ length (text_after text at) + 1 → before ts (tokens_from 0 at line (drop at text)) ≡ before (ts ++ record { kind = kind; at = at; len = k; line = line } ∷ []) (tokens_from 0 (at + k) (line_after kind line) (drop (at + k) text))
-piece_at ts kind k at line text h e p q =
+pub piece_at : (kind : TokenKind) (k at line : ℕ) (text : List ℕ) → at < length text → Piece kind k ≡ front_of (get_or text at 0 ∷ text_after text at) → 0 < k → k ≤ length (text_after text at) + 1 → tokens_from 0 at line (drop at text) ≡ with_token (record { kind = kind; at = at; len = k; line = line }) (tokens_from 0 (at + k) (line_after kind line) (drop (at + k) text))
+piece_at kind k at line text h e p q =
     let t : Token = record { kind = kind; at = at; len = k; line = line } in
-    let rest : Lexed = tokens_from 0 (at + k) (line_after kind line) (drop (at + k) text) in
-    let d : tokens_from 0 at line (drop at text) ≡ with_token t rest = ap (tokens_from 0 at line) (parted text at h) ∙ tokens_from-piece kind k at line (get_or text at 0) (text_after text at) e p q ∙ ap (λ (xs : List ℕ). with_token t (tokens_from 0 (at + k) (line_after kind line) xs)) (dropped k at text h) in
-    ap (before ts) d ∙ before-with_token ts t rest
-
-pub broken_at : (ts : List Token) (fault : LexFault) (at line : ℕ) (text : List ℕ) → at < length text → Broken fault ≡ front_of (get_or text at 0 ∷ text_after text at) → before ts (tokens_from 0 at line (drop at text)) ≡ record { tokens = ts; fault = Some (fault_after at fault) }
-broken_at ts fault at line text h e =
-    ap (before ts) (ap (tokens_from 0 at line) (parted text at h) ∙ tokens_from-broken fault at line (get_or text at 0) (text_after text at) e) ∙ before-none ts (Some (fault_after at fault))
-
-pub all_read : (ts : List Token) (at line : ℕ) (text : List ℕ) → length text ≤ at → before ts (tokens_from 0 at line (drop at text)) ≡ record { tokens = ts; fault = None }
-all_read ts at line text h = ap (λ (xs : List ℕ). before ts (tokens_from 0 at line xs)) (drop_all at text h) ∙ before-none ts None
-
-pub line_after-le : (kind : TokenKind) (line : ℕ) → line_after kind line ≤ line + 1
-line_after-le kind line = grind arith
-
-pub before-same : (ts us : List Token) (at line next : ℕ) (bytes : List ℕ) → us ≡ ts → next ≡ line → before ts (tokens_from 0 at line bytes) ≡ before us (tokens_from 0 at next bytes)
-before-same ts us at line next bytes e f =
-    ap (λ (xs : List Token). before xs (tokens_from 0 at line bytes)) (sym e) ∙ ap (λ (n : ℕ). before us (tokens_from 0 at n bytes)) (sym f)
+    ap (tokens_from 0 at line) (parted text at h) ∙ tokens_from-piece kind k at line (get_or text at 0) (text_after text at) e p q ∙ ap (λ (xs : List ℕ). with_token t (tokens_from 0 (at + k) (line_after kind line) xs)) (dropped k at text h)

@@ -1,5 +1,5 @@
 -- The tokens of a text.
-use Rattle.std.specs.Prelude.{ℕ, zero, suc, ◌+◌, ◌-◌, ◌<◌, ◌≤◌, Bool, ◌==◌, ◌||◌, not, if◌then◌else◌, List, [], ◌∷◌, Option, None, Some, codes}
+use Rattle.std.specs.Prelude.{ℕ, zero, suc, ◌+◌, ◌-◌, ◌<◌, ◌≤◌, Bool, ◌==◌, ◌||◌, not, if◌then◌else◌, List, [], ◌∷◌, Option, None, Some, Result, Ok, Err, ◌≡◌, codes}
 use Rattle.std.specs.List.{prefix_len, list_any}
 use Rattle.std.specs.Char.{is_ascii_alphanumeric}
 use Rattle.st_lex.specs.declared.token.Token.{Token}
@@ -95,3 +95,9 @@ tokens_from zero at line (b ∷ bs) =
 -- the tokens of a text up to its first fault, and that fault
 abbrev pub lexed_text : List ℕ → Lexed
 lexed_text text = tokens_from 0 0 1 text
+
+-- what comes next, by what was left before it and what is left behind it
+abbrev pub IsNext : Result (Option Token) LexFault → Lexed → Lexed → Type 0
+IsNext (Ok (Some token)) old new = old ≡ with_token token new
+IsNext (Ok None) old new = (old ≡ record { tokens = []; fault = None }) × (new ≡ old)
+IsNext (Err fault) old new = (old ≡ record { tokens = []; fault = Some fault }) × (new ≡ old)

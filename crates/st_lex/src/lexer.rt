@@ -2,12 +2,13 @@ ghost use Rattle.std.specs.Prelude.{◌≡◌, ◌+◌, ◌<◌, ◌≤◌, ◌�
 ghost use Rattle.std.specs.List.{prefix_len, list_all};
 ghost use Rattle.st_lex.specs.Pieces.{Piece, StandWell, IsReadAs, print, piece_tokens, is_word_text};
 ghost use Rattle.st_lex.specs.Slices.{AreSlices};
-ghost use Rattle.st_lex.specs.Tokens.{is_blank, is_word_byte, is_no_newline, sign_of, quoted_front, front_of, lexed_text, line_after, LiesWithin};
+ghost use Rattle.st_lex.specs.Tokens.{is_blank, is_word_byte, is_no_newline, sign_of, quoted_front, front_of, lexed_text, line_after, IsNext, LiesWithin};
 ghost use Rattle.st_lex.specs.Quoted.{closing_len, inner_fault, is_inner_byte, is_byte_escape, fault_after, place_of};
 
 use crate::token::{Front, LexFault, Lexed, Token, TokenKind};
 use st_base::Sequence;
 use std::alloc::{AllocError, Global};
+use std::marker::Model;
 
 fn is_blank(byte: u8) -> bool
     ensures { result ≡ is_blank byte }
@@ -216,37 +217,81 @@ fn line_after(kind: TokenKind, line: u64) -> u64
     }
 }
 
-/// The tokens of a text, by their places and lines, up to its first fault.
+/// Reads the tokens of a text one by one, so that they needn't all be kept.
+#[derive(Drop)]
+pub struct Lexer<'a> {
+    text: &'a [u8],
+    at: usize,
+    line: u64,
+}
+
+impl<'a> Model for Lexer<'a> {
+    ghost use Rattle.std.specs.Prelude.{◌+◌, ◌<◌, ◌≤◌, ◌^◌, drop, length};
+    ghost use Rattle.st_lex.specs.Tokens.{tokens_from};
+    ghost use Rattle.st_lex.specs.declared.token.Lexed.{Lexed};
+
+    ghost Value = { Lexed };
+
+    ghost view = { λ l. tokens_from 0 l.at l.line (drop l.at l.text.now) };
+
+    ghost invariant = { λ l. (l.at ≤ length l.text.now) × ((l.line ≤ l.at + 1) × (length l.text.now < 2 ^ 32)) };
+}
+
+impl<'a> Lexer<'a> {
+    /// The front of a text.
+    pub fn new(text: &'a [u8]) -> Self
+        requires { length text.now < 2 ^ 32 }
+        ensures { result ≡ lexed_text text.now }
+    {
+        Lexer {
+            text,
+            at: 0,
+            line: 1,
+        }
+    }
+
+    /// The next token, by its place and line, or none at the text's end; at a fault that fault, as often as it is asked.
+    #[inline]
+    pub fn next_token(&mut self) -> Result<Option<Token>, LexFault>
+        ensures { IsNext result self.old self.new }
+    {
+        let mut at = self.at;
+        while at < self.text.len() {
+            match front(self.text[at], &self.text[at + 1..]) {
+                Front::Gap(len) => at += len,
+                Front::Piece(kind, len) => {
+                    let token = Token {
+                        kind,
+                        at: at as u32,
+                        len: len as u32,
+                        line: self.line as u32,
+                    };
+                    self.at = at + len;
+                    self.line = line_after(kind, self.line);
+                    return Ok(Some(token));
+                }
+                Front::Broken(fault) => return Err(fault_after(at as u32, fault)),
+            }
+        }
+        Ok(None)
+    }
+}
+
+/// All tokens of a text, up to its first fault.
 pub fn tokens(alloc: Global, text: &[u8]) -> Result<Lexed, AllocError>
     requires { length text.now < 2 ^ 32 }
     ensures { IfOk result (λ lexed. lexed ≡ lexed_text text.now) }
 {
+    let mut lexer = Lexer::new(text);
     let mut tokens = Sequence::new(alloc);
-    let mut at: usize = 0;
-    let mut line: u64 = 1;
-    while at < text.len() {
-        match front(text[at], &text[at + 1..]) {
-            Front::Gap(len) => at += len,
-            Front::Piece(kind, len) => {
-                tokens.push(Token {
-                    kind,
-                    at: at as u32,
-                    len: len as u32,
-                    line: line as u32,
-                })?;
-                line = line_after(kind, line);
-                at += len;
-            }
-            Front::Broken(fault) => {
-                let fault = Some(fault_after(at as u32, fault));
-                return Ok(Lexed { tokens, fault });
-            }
+    let fault = loop {
+        match lexer.next_token() {
+            Ok(Some(token)) => tokens.push(token)?,
+            Ok(None) => break None,
+            Err(fault) => break Some(fault),
         }
-    }
-    Ok(Lexed {
-        tokens,
-        fault: None,
-    })
+    };
+    Ok(Lexed { tokens, fault })
 }
 
 /// The tokens of a text are parts of it: in order, words whole, quoted texts between their quotes, on their lines.

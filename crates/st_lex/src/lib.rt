@@ -8,7 +8,7 @@ pub mod rows;
 pub mod token;
 pub mod unquoted;
 
-pub use lexer::{is_word_text, pieces_are_tokens, tokens, tokens_are_slices};
+pub use lexer::{Lexer, is_word_text, pieces_are_tokens, tokens, tokens_are_slices};
 pub use plain::plain_tokens;
 pub use quoted::{hex_digit, quote, quoted_is_one_token};
 pub use rows::next_row;
