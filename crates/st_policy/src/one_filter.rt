@@ -1,27 +1,23 @@
 ghost use Rattle.std.specs.Prelude.{◌≡◌, ◌≢◌, ◌^◌, ◌<◌, ◌∷◌, false, Ok, Err, length, IfOk, IfErr};
 ghost use Rattle.st_grammar.specs.Symbol.{seen, symbol_of};
 ghost use Rattle.st_grammar.specs.Reading.{is_binary_place};
-ghost use Rattle.st_grammar.specs.OneFilter.{behind_filter, filter_at_end, begin_filter, no_filter, filter_of_tokens, filter_in};
+ghost use Rattle.st_grammar.specs.OneFilter.{behind_filter, filter_at_end, begin_filter, filter_of_tokens, filter_in};
 
 use crate::reader::lexical;
 use st_filter::Filter;
 use st_grammar::{Env, PolicyFault, Symbol};
-use st_lex::{LexFault, Token, tokens};
+use st_lex::{LexFault, Lexer, Token};
 use st_steps::Reader;
 use std::alloc::Global;
 
 // Behind a filter's line stands nothing.
-fn behind_filter(
-    filter: Filter,
-    behind: &[Token],
-    broken: Option<LexFault>,
-) -> Result<Filter, PolicyFault>
-    ensures { result ≡ behind_filter broken filter behind.now }
+fn behind_filter(filter: Filter, lexer: &mut Lexer) -> Result<Filter, PolicyFault>
+    ensures { result ≡ behind_filter lexer.old.fault filter lexer.old.tokens }
 {
-    match (behind, broken) {
-        ([token, ..], _) => Err(PolicyFault::Expected(token.at)),
-        ([], None) => Ok(filter),
-        ([], Some(fault)) => Err(PolicyFault::Lex(fault)),
+    match lexer.next_token() {
+        Ok(None) => Ok(filter),
+        Ok(Some(token)) => Err(PolicyFault::Expected(token.at)),
+        Err(fault) => Err(PolicyFault::Lex(fault)),
     }
 }
 
@@ -62,60 +58,50 @@ fn filter_at_end<'a>(
     }
 }
 
-// The filter that begins with the token that was read, and goes on with those behind it.
+// The filter that begins with the token that was read, and goes on with what the lexer has left.
 #[tactic(auto, using(crate::proofs::Cited::stands_elsewhere))]
 fn rest_of_filter<'a>(
     reader: &mut Reader<'a>,
     alloc: Global,
     env: &Env,
     text: &'a [u8],
-    broken: Option<LexFault>,
     first: &Token,
-    tokens: &[Token],
+    lexer: &mut Lexer<'a>,
 ) -> Result<Filter, PolicyFault>
     requires small { length text.now < 2 ^ 32 }
     requires begun { begin_filter first.now.at (symbol_of text.now first.now) ≡ Ok reader.old }
-    ensures ok { IfOk result (λ filter. filter_of_tokens env.now text.now broken (first.now ∷ tokens.now) ≡ Ok filter) }
-    ensures fault { IfErr result (λ f. f ≢ PolicyFault.NoMemory → filter_of_tokens env.now text.now broken (first.now ∷ tokens.now) ≡ Err f) }
+    ensures ok { IfOk result (λ filter. filter_of_tokens env.now text.now lexer.old.fault (first.now ∷ lexer.old.tokens) ≡ Ok filter) }
+    ensures fault { IfErr result (λ f. f ≢ PolicyFault.NoMemory → filter_of_tokens env.now text.now lexer.old.fault (first.now ∷ lexer.old.tokens) ≡ Err f) }
 {
-    let mut rest = tokens;
-    while let Some((token, behind)) = rest.split_first() {
-        let symbol = Symbol::of(text, token);
+    let broken = loop {
+        let token = match lexer.next_token() {
+            Ok(Some(token)) => token,
+            Ok(None) => break None,
+            Err(fault) => break Some(fault),
+        };
+        let symbol = Symbol::of(text, &token);
         reader.step(alloc, env, token.at, &symbol)?;
         if symbol.is_line() {
-            return behind_filter(reader.take_filter(alloc)?, behind, broken);
+            return behind_filter(reader.take_filter(alloc)?, lexer);
         }
-        rest = behind;
-    }
+    };
     filter_at_end(reader, alloc, env, text.len() as u32, broken)
 }
 
-// The filter whose tokens are this one and those behind it.
-fn filter_of_tokens(
+// The filter whose tokens are this one and those that the lexer has left.
+fn filter_of_tokens<'a>(
     alloc: Global,
     env: &Env,
-    text: &[u8],
-    broken: Option<LexFault>,
+    text: &'a [u8],
     first: &Token,
-    tokens: &[Token],
+    lexer: &mut Lexer<'a>,
 ) -> Result<Filter, PolicyFault>
     requires { length text.now < 2 ^ 32 }
-    ensures ok { IfOk result (λ filter. filter_of_tokens env.now text.now broken (first.now ∷ tokens.now) ≡ Ok filter) }
-    ensures fault { IfErr result (λ f. f ≢ PolicyFault.NoMemory → filter_of_tokens env.now text.now broken (first.now ∷ tokens.now) ≡ Err f) }
+    ensures ok { IfOk result (λ filter. filter_of_tokens env.now text.now lexer.old.fault (first.now ∷ lexer.old.tokens) ≡ Ok filter) }
+    ensures fault { IfErr result (λ f. f ≢ PolicyFault.NoMemory → filter_of_tokens env.now text.now lexer.old.fault (first.now ∷ lexer.old.tokens) ≡ Err f) }
 {
     let mut reader = begin_filter(alloc, first.at, &Symbol::of(text, first))?;
-    rest_of_filter(&mut reader, alloc, env, text, broken, first, tokens)
-}
-
-// Where a text has no token.
-fn no_filter(end: u32, broken: Option<LexFault>) -> PolicyFault
-    ensures is { no_filter end broken ≡ Err result }
-    ensures memory { result ≢ PolicyFault.NoMemory }
-{
-    match broken {
-        None => PolicyFault::Expected(end),
-        Some(fault) => PolicyFault::Lex(fault),
-    }
+    rest_of_filter(&mut reader, alloc, env, text, first, lexer)
 }
 
 /// Reads one filter without a header: exactly where the whole text is one, ended by a line or by the text's end. Else the fault is
@@ -125,9 +111,10 @@ pub fn read_filter(alloc: Global, text: &[u8], env: &Env) -> Result<Filter, Poli
     ensures ok { IfOk result (λ filter. filter_in text.now env.now ≡ Ok filter) }
     ensures fault { IfErr result (λ f. f ≢ PolicyFault.NoMemory → filter_in text.now env.now ≡ Err f) }
 {
-    let lexed = tokens(alloc, text)?;
-    match lexed.tokens.as_slice() {
-        [first, behind @ ..] => filter_of_tokens(alloc, env, text, lexed.fault, first, behind),
-        [] => Err(no_filter(text.len() as u32, lexed.fault)),
+    let mut lexer = Lexer::new(text);
+    match lexer.next_token() {
+        Ok(Some(first)) => filter_of_tokens(alloc, env, text, &first, &mut lexer),
+        Ok(None) => Err(PolicyFault::Expected(text.len() as u32)),
+        Err(fault) => Err(PolicyFault::Lex(fault)),
     }
 }

@@ -9,7 +9,7 @@ ghost use Rattle.st_filter.specs.declared.set.TheConstants.{MOST_FILTERS};
 use st_base::Text;
 use st_filter::{Filter, PolicySet};
 use st_grammar::{Env, PolicyFault, PolicyRefusal, Symbol};
-use st_lex::{LexFault, Token, tokens, unquote};
+use st_lex::{LexFault, Lexer, unquote};
 use st_steps::Reader;
 use std::alloc::{AllocError, Global};
 
@@ -159,7 +159,7 @@ fn end<'a>(
     }
 }
 
-// Reads tokens and what stands behind them; where that fails, the set has what was read of it.
+// Reads what the lexer has left; where that fails, the set has what was read of it.
 #[tactic(auto, using(crate::proofs::Cited::old_is_kept, crate::proofs::Cited::has_room))]
 fn read_all<'a>(
     reader: &mut Reader<'a>,
@@ -167,18 +167,22 @@ fn read_all<'a>(
     text: &'a [u8],
     env: &Env,
     set: &mut PolicySet,
-    tokens: &[Token],
-    broken: Option<LexFault>,
+    lexer: &mut Lexer<'a>,
 ) -> Result<(), PolicyRefusal>
     requires small { length text.now < 2 ^ 32 }
     requires first { as_reading reader.old set.old ≡ first_reading set.old }
     requires few { filters_in set.old ≤ MOST_FILTERS }
-    ensures ok { OnOk result (set_of (read_from env.now text.now broken (as_reading reader.old set.old) tokens.now) ≡ Ok set.new) }
-    ensures fault { IfErr result (λ r. r.fault ≢ PolicyFault.NoMemory → read_from env.now text.now broken (as_reading reader.old set.old) tokens.now ≡ Err r) }
+    ensures ok { OnOk result (set_of (read_from env.now text.now lexer.old.fault (as_reading reader.old set.old) lexer.old.tokens) ≡ Ok set.new) }
+    ensures fault { IfErr result (λ r. r.fault ≢ PolicyFault.NoMemory → read_from env.now text.now lexer.old.fault (as_reading reader.old set.old) lexer.old.tokens ≡ Err r) }
     ensures kept { OnErr result (take (length set.old) set.new ≡ set.old) }
 {
-    for token in tokens {
-        let symbol = Symbol::of(text, token);
+    let broken = loop {
+        let token = match lexer.next_token() {
+            Ok(Some(token)) => token,
+            Ok(None) => break None,
+            Err(fault) => break Some(fault),
+        };
+        let symbol = Symbol::of(text, &token);
         let place = reader.place();
         // A blank line leaves everything as it is.
         if symbol.is_line() && place.is_between_rows() {
@@ -187,31 +191,12 @@ fn read_all<'a>(
         if let Err(fault) = read(reader, alloc, env, set, token.at, &symbol) {
             return Err(PolicyRefusal { fault, place });
         }
-    }
+    };
     let place = reader.place();
     match end(reader, alloc, env, set, text, broken) {
         Ok(()) => Ok(()),
         Err(fault) => Err(PolicyRefusal { fault, place }),
     }
-}
-
-// Reads the tokens of a text and what stands behind them; where that fails, the set has what was read of it.
-fn read_tokens(
-    alloc: Global,
-    text: &[u8],
-    env: &Env,
-    set: &mut PolicySet,
-    tokens: &[Token],
-    broken: Option<LexFault>,
-) -> Result<(), PolicyRefusal>
-    requires { length text.now < 2 ^ 32 }
-    ensures ok { OnOk result (set_of (read_from env.now text.now broken (first_reading set.old) tokens.now) ≡ Ok set.new) }
-    ensures fault { IfErr result (λ r. r.fault ≢ PolicyFault.NoMemory → read_from env.now text.now broken (first_reading set.old) tokens.now ≡ Err r) }
-    ensures kept { OnErr result (take (length set.old) set.new ≡ set.old) }
-    ensures few { OnOk result (filters_in set.old ≤ MOST_FILTERS) }
-{
-    let mut reader = Reader::new(alloc, set.filters());
-    read_all(&mut reader, alloc, text, env, set, tokens, broken)
 }
 
 // Reads a text; where that fails, the set has what was read of it.
@@ -227,8 +212,9 @@ fn read_text(
     ensures kept { OnErr result (take (length set.old) set.new ≡ set.old) }
     ensures few { OnOk result (filters_in set.old ≤ MOST_FILTERS) }
 {
-    let lexed = tokens(alloc, text)?;
-    read_tokens(alloc, text, env, set, lexed.tokens.as_slice(), lexed.fault)
+    let mut reader = Reader::new(alloc, set.filters());
+    let mut lexer = Lexer::new(text);
+    read_all(&mut reader, alloc, text, env, set, &mut lexer)
 }
 
 // Reads a text, or gives the set back as it was.

@@ -6,9 +6,9 @@ use Rattle.st_policy.proofs.one_filter.rest_of_filter.Given as goal
 -- what is left, read behind what was read, gives the answer; and what was read begins a filter
 abbrev pub invariant-loop-token : goal.invariant-loop-token
 invariant-loop-token l = record {
-  rest : filter_of_tokens l.env l.text l.broken (l.first ∷ l.tokens) ≡ filter_from l.env l.text l.broken l.reader l.rest;
+  rest : filter_of_tokens l.env l.text l.initial.lexer.fault (l.first ∷ l.initial.lexer.tokens) ≡ filter_from l.env l.text l.lexer.fault l.reader l.lexer.tokens;
   within : InFilter l.env l.reader;
 }
 
 abbrev pub decreases-loop-token : goal.decreases-loop-token
-decreases-loop-token l = length l.rest
+decreases-loop-token l = length l.lexer.tokens
