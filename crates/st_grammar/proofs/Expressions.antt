@@ -4,7 +4,7 @@ use Rattle.std.proofs.lemmas.Bool.{lt-ltb}
 use Rattle.st_grammar.proofs.Common.{Always, And, BinaryPolicy, Both, Close, close_either, close_group, CloseBracket, completed, Conjunction, Disjunction, Either, Env, FilterName, filter_of, FilterValue, First, Formula, GrammarState, Grouped, index_in, Indexed, is_join, is_label, joins_both, joins_either, Level, may_test, most_joins, Negated, OneConjunction, OneOperand, Op, op_named, Open, OpenBracket, Operand, PendingOperand, Permit, Quoted, Reading, Reduced, reduced, settle, Spells, Symbol, Test, True, unquoted, waits, without_either, Word}
 use Rattle.st_grammar.specs.declared.place.Place.TheVariants as place
 use Rattle.st_grammar.specs.Expression.{Negation, Group}
-use Rattle.st_grammar.specs.Expression as draft
+use Rattle.st_grammar.specs.Expression as stack
 use Rattle.st_grammar.proofs.Keywords.{IsOther, label-other, joins-label, joins-op, joins-index, joins-append, joins-first}
 use Rattle.st_grammar.proofs.Readings.{Step1, Passes, passes-append, passes-one, passes-step, passes-more, At, goes, steady}
 
@@ -129,14 +129,14 @@ module _ (env : Env) (k : Kept) (s : List PendingOperand) (parens n m : ℕ) (mo
     holds = record { filters_are = h.filters_are; filter_is = h.filter_is; pending = ap (λ (s : List PendingOperand). Group ∷ s) h.pending; parens_are = omega (arith, h.parens_are); joins_are = omega (arith, h.joins_are) };
   })
 
-  step-and : (f : Formula) → Step1 env (AtJoint k (reduced s f) parens n) (Word (codes "and")) (AtOperand k (draft.Both f ∷ s) parens m)
+  step-and : (f : Formula) → Step1 env (AtJoint k (reduced s f) parens n) (Word (codes "and")) (AtOperand k (stack.Both f ∷ s) parens m)
   step-and f = goes (λ at w h. record {
     walk = record w { expression = joins_both w.expression; joins = w.joins + 1 };
     step = let b = below-most w.joins n m h.joins_are more few in rw b refl;
     holds = record { filters_are = h.filters_are; filter_is = h.filter_is; pending = ap (λ (e : Reduced). (joins_both e).pending) h.expression; parens_are = h.parens_are; joins_are = omega (arith, h.joins_are) };
   })
 
-  step-or : (e : Reduced) (f : Formula) → without_either e ≡ reduced s f → Step1 env (AtJoint k e parens n) (Word (codes "or")) (AtOperand k (draft.Either f ∷ s) parens m)
+  step-or : (e : Reduced) (f : Formula) → without_either e ≡ reduced s f → Step1 env (AtJoint k e parens n) (Word (codes "or")) (AtOperand k (stack.Either f ∷ s) parens m)
   step-or e f c = goes (λ at w h. record {
     walk = record w { expression = joins_either (without_either w.expression); joins = w.joins + 1 };
     step = let b = below-most w.joins n m h.joins_are more few in rw b refl;
@@ -178,7 +178,7 @@ step-end : (env : Env) (k : Kept) (s : List PendingOperand) (parens n : ℕ) (f 
 step-end env k s parens n f at r (ends e c h) = step-close env k s parens n e f c at r h
 
 -- `or` ends the conjunction before it
-step-either : (env : Env) (k : Kept) (s : List PendingOperand) (parens n m : ℕ) (f : Formula) → m ≡ n + 1 → m ≤ most_joins → Step1 env (AtEnd k s f parens n) (Word (codes "or")) (AtOperand k (draft.Either f ∷ s) parens m)
+step-either : (env : Env) (k : Kept) (s : List PendingOperand) (parens n m : ℕ) (f : Formula) → m ≡ n + 1 → m ≤ most_joins → Step1 env (AtEnd k s f parens n) (Word (codes "or")) (AtOperand k (stack.Either f ∷ s) parens m)
 step-either env k s parens n m f more few at r (ends e c h) = step-or env k s parens n m more few e f c at r h
 
 -- what the symbols of an expression lead to
@@ -232,7 +232,7 @@ module _ (env : Env) (k : Kept) where
       let i : ℕ = n + sum_by is_join ts in
       let fits : i + 1 ≤ most_joins = omega (arith, sum, all) in
       passes-append (passes-expression p s b parens n i refl (omega (arith, fits)))
-      (passes-step (step-and env k s parens i (i + 1) refl fits f) (passes-more (passes-expression q (draft.Both f ∷ s) parens (i + 1) m (omega (arith, sum, all)) h) (at-reduced (b (And f g)))))
+      (passes-step (step-and env k s parens i (i + 1) refl fits f) (passes-more (passes-expression q (stack.Both f ∷ s) parens (i + 1) m (omega (arith, sum, all)) h) (at-reduced (b (And f g)))))
   passes-expression (OneConjunction {ts} {f} p) = λ s b parens n m sum h.
       passes-more (passes-expression p s (base-looser b) parens n m sum h) (λ r a. ends (reduced s f) (base-close b f) a)
   passes-expression (Either {ts} {us} {f} {g} p q) = λ s b parens n m sum h.
@@ -241,4 +241,4 @@ module _ (env : Env) (k : Kept) where
       let fits : i + 1 ≤ most_joins = omega (arith, sum, all) in
       passes-append (passes-expression p s b parens n i refl (omega (arith, fits)))
       (passes-step (step-either env k s parens i (i + 1) f refl fits)
-      (passes-more (passes-expression q (draft.Either f ∷ s) (λ g. refl) parens (i + 1) m (omega (arith, sum, all)) h) (λ r a. ends (reduced (draft.Either f ∷ s) g) refl a)))
+      (passes-more (passes-expression q (stack.Either f ∷ s) (λ g. refl) parens (i + 1) m (omega (arith, sum, all)) h) (λ r a. ends (reduced (stack.Either f ∷ s) g) refl a)))

@@ -5,7 +5,7 @@ use Rattle.std.specs.List.{list_any}
 use Rattle.std.proofs.lemmas.Bool.{ltb-true, eqb-true}
 use Rattle.st_grammar.proofs.Common.{acts, Always, Ask, Asks, AskWithLearn, binaries, binary_of, BinaryPolicy, Close, close_group, CloseBracket, Colon, Comma, comparison, Denies, DeniesWith, Deny, ElevateOnSetId, ElevateWithoutIds, Env, EPERM, error_named, filter_name, filter_of, FilterName, FilterValue, First, Formula, fresh, GrammarState, Grant, Grants, GrantsAndLogs, has_policy, id_in, If, index_in, Indexed, is_action, is_join, is_label, is_line, IsAction, IsCondition, IsFilter, IsTail, joins_either, Line, Logs, LogsAndGrants, may_test, MayGrant, MOST_FILTERS, most_joins, names_for, new_policy, OfBoth, OfGroup, OfUser, Op, op_named, Open, OpenBracket, Operand, PendingOperand, Permit, Permits, Place, Quoted, read_step, reading_step, Reduced, settle, sets_ids, Short, Spells, step_to, StepResult, Symbol, Test, Then, True, unquoted, Who, who_named, Whoever, with_group, without_either, Word}
 use Rattle.st_grammar.specs.declared.place.Place.TheVariants as place
-use Rattle.st_grammar.specs.Expression as draft
+use Rattle.st_grammar.specs.Expression as stack
 use Rattle.st_grammar.specs.Grammar.{Plain as PlainTail}
 use Rattle.st_grammar.proofs.Keywords.{joins-label, joins-op, joins-index, joins-append, joins-first}
 use Rattle.st_grammar.proofs.Readings.{reading_at}
@@ -32,9 +32,9 @@ test-more {begun} s none h f = record { none = omega (arith, joins-last begun s,
 
 module _ (env : Env) (name : FilterName) (parens n : ℕ) (e : Reduced) (us : List Symbol) (j : JointFront env name e parens n us) where
   -- an `and` joins the conjunction before it
-  joined-and : n + 1 ≤ most_joins → OperandFront env name (draft.Both e.formula ∷ e.pending) parens (n + 1) (us ++ Word (codes "and") ∷ [])
+  joined-and : n + 1 ≤ most_joins → OperandFront env name (stack.Both e.formula ∷ e.pending) parens (n + 1) (us ++ Word (codes "and") ∷ [])
   joined-and few = record {
-    opens = subst (λ (ts : List Symbol). Opens env name (draft.Both e.formula ∷ e.pending) (ts ++ Word (codes "and") ∷ [])) (sym j.ends.parts) (Joins j.ends.settled j.ends.opens j.ends.spells);
+    opens = subst (λ (ts : List Symbol). Opens env name (stack.Both e.formula ∷ e.pending) (ts ++ Word (codes "and") ∷ [])) (sym j.ends.parts) (Joins j.ends.settled j.ends.opens j.ends.spells);
     parens_are = j.parens_are;
     joins_are = omega (arith, j.joins_are, joins-last us (Word (codes "and")));
     few = few;
@@ -45,7 +45,7 @@ module _ (env : Env) (name : FilterName) (parens n : ℕ) (e : Reduced) (us : Li
       let c : Reduced = without_either e in
       let h : EndsWhole env name c us = close-ends env name e us j.ends in
       record {
-        opens = subst (λ (ts : List Symbol). Opens env name (draft.Either c.formula ∷ c.pending) (ts ++ Word (codes "or") ∷ [])) (sym h.parts) (Chooses h.base h.opens h.spells);
+        opens = subst (λ (ts : List Symbol). Opens env name (stack.Either c.formula ∷ c.pending) (ts ++ Word (codes "or") ∷ [])) (sym h.parts) (Chooses h.base h.opens h.spells);
         parens_are = j.parens_are ∙ sym (groups-close e.pending e.formula);
         joins_are = omega (arith, j.joins_are, joins-last us (Word (codes "or")));
         few = few;

@@ -2,14 +2,14 @@
 use Rattle.std.proofs.Common.{◌≡◌, ℕ, suc, ◌+◌, ◌<◌, List, [], ◌∷◌, ◌++◌, codes, refl, ap, sym, subst, ◌∙◌, arith, append_assoc}
 use Rattle.st_grammar.proofs.Common.{And, Both, Close, close_either, close_group, Conjunction, Disjunction, Either, Env, FilterName, Formula, Grouped, Negated, Not, OneConjunction, OneOperand, Open, Operand, PendingOperand, Reduced, settle, Spells, Symbol, Word}
 use Rattle.st_grammar.specs.Expression.{reduced, Negation, Group}
-use Rattle.st_grammar.specs.Expression as draft
+use Rattle.st_grammar.specs.Expression as stack
 use Rattle.st_grammar.proofs.Expressions.{IsBase, Outermost, Inside}
 
 -- neither `not` nor `and` waits for the operand that is read
 pub data IsSettled : List PendingOperand → Type 0 where
   NoneWaits : IsSettled []
   GroupWaits : {s : List PendingOperand} → IsSettled (Group ∷ s)
-  EitherWaits : {f : Formula} {s : List PendingOperand} → IsSettled (draft.Either f ∷ s)
+  EitherWaits : {f : Formula} {s : List PendingOperand} → IsSettled (stack.Either f ∷ s)
 
 -- the symbols before an operand, as they left the stack
 pub data Opens (env : Env) (name : FilterName) : List PendingOperand → List Symbol → Type 0 where
@@ -17,9 +17,9 @@ pub data Opens (env : Env) (name : FilterName) : List PendingOperand → List Sy
   Negates : {s : List PendingOperand} {us : List Symbol} → Opens env name s us → Opens env name (Negation ∷ s) (us ++ Word (codes "not") ∷ [])
   Groups : {s : List PendingOperand} {us : List Symbol} → Opens env name s us → Opens env name (Group ∷ s) (us ++ Open ∷ [])
   Joins : {s : List PendingOperand} {us vs : List Symbol} {f : Formula} → IsSettled s → Opens env name s us → Spells env name Conjunction vs f →
-      Opens env name (draft.Both f ∷ s) ((us ++ vs) ++ Word (codes "and") ∷ [])
+      Opens env name (stack.Both f ∷ s) ((us ++ vs) ++ Word (codes "and") ∷ [])
   Chooses : {s : List PendingOperand} {us vs : List Symbol} {f : Formula} → IsBase s → Opens env name s us → Spells env name Disjunction vs f →
-      Opens env name (draft.Either f ∷ s) ((us ++ vs) ++ Word (codes "or") ∷ [])
+      Opens env name (stack.Either f ∷ s) ((us ++ vs) ++ Word (codes "or") ∷ [])
 
 -- the symbols up to the end of an operand: those before a conjunction, and the conjunction
 pub record Ends (env : Env) (name : FilterName) (e : Reduced) (us : List Symbol) : Type 0 where
@@ -74,22 +74,22 @@ abbrev pub groups : List PendingOperand → ℕ
 groups [] = 0
 groups (Negation ∷ s) = groups s
 groups (Group ∷ s) = suc (groups s)
-groups (draft.Both f ∷ s) = groups s
-groups (draft.Either f ∷ s) = groups s
+groups (stack.Both f ∷ s) = groups s
+groups (stack.Either f ∷ s) = groups s
 
 pub groups-settle : (s : List PendingOperand) (f : Formula) → groups (settle s f).pending ≡ groups s
 groups-settle [] f = refl
 groups-settle (Negation ∷ s) f = groups-settle s (Not f)
 groups-settle (Group ∷ s) f = refl
-groups-settle (draft.Both g ∷ s) f = groups-settle s (And g f)
-groups-settle (draft.Either g ∷ s) f = refl
+groups-settle (stack.Both g ∷ s) f = groups-settle s (And g f)
+groups-settle (stack.Either g ∷ s) f = refl
 
 pub groups-close : (s : List PendingOperand) (f : Formula) → groups (close_either s f).pending ≡ groups s
 groups-close [] f = refl
 groups-close (Negation ∷ s) f = refl
 groups-close (Group ∷ s) f = refl
-groups-close (draft.Both g ∷ s) f = refl
-groups-close (draft.Either g ∷ s) f = refl
+groups-close (stack.Both g ∷ s) f = refl
+groups-close (stack.Either g ∷ s) f = refl
 
 module _ (env : Env) (name : FilterName) where
   -- an expression in parentheses that is closed is an operand
