@@ -217,32 +217,8 @@ fn read_text(
     read_all(&mut reader, alloc, text, env, set, &mut lexer)
 }
 
-// Reads a text, or gives the set back as it was.
-fn read_or_restore(
-    alloc: Global,
-    text: &[u8],
-    env: &Env,
-    set: &mut PolicySet,
-) -> Result<(), PolicyRefusal>
-    requires { length text.now < 2 ^ 32 }
-    ensures ok { OnOk result (policies_in text.now env.now set.old ≡ Ok set.new) }
-    ensures fault { IfErr result (λ r. r.fault ≢ PolicyFault.NoMemory → policies_in text.now env.now set.old ≡ Err r) }
-    ensures same { OnErr result (set.new ≡ set.old) }
-    ensures few { OnOk result (filters_in set.old ≤ MOST_FILTERS) }
-{
-    let len = set.len();
-    match read_text(alloc, text, env, set) {
-        Ok(()) => Ok(()),
-        Err(refused) => {
-            set.truncate(len);
-            Err(refused)
-        }
-    }
-}
-
 /// Reads the policies of a text, as in systrace(1), behind those that the set has: exactly where the grammar has a reading of the
 /// text, and then that one. Else the fault is the leftmost, at its token, with its place in the grammar, and the set is as it was.
-#[tactic(auto, using(crate::proofs::Cited::refusal_found))]
 pub fn read_policies(
     alloc: Global,
     text: &[u8],
@@ -254,6 +230,12 @@ pub fn read_policies(
     ensures fault { IfErr result (λ r. r.fault ≢ PolicyFault.NoMemory → refusal_in text.now env.now set.old ≡ Some r) }
     ensures same { OnErr result (set.new ≡ set.old) }
 {
-    read_or_restore(alloc, text, env, set)?;
-    Ok(())
+    let len = set.len();
+    match read_text(alloc, text, env, set) {
+        Ok(()) => Ok(()),
+        Err(refused) => {
+            set.truncate(len);
+            Err(refused)
+        }
+    }
 }

@@ -1,7 +1,10 @@
-use Rattle.st_grammar.proofs.Results.{policies_read}
+use Rattle.st_grammar.proofs.Results.{policies_read, refusal_found}
 use Rattle.st_policy.proofs.reader.read_policies.Goals as goal
 
-pub returns-clause-ok : goal.returns-clause-ok
-returns-clause-ok c =
-    policies_read c.args.text.now c.args.env.now c.args.set.now c.read_or_restore.new.set
-    c.in_ok-read_or_restore.ensures.few c.in_ok-read_or_restore.ensures.ok
+pub returns-in-Ok-clause-ok : goal.returns-in-Ok-clause-ok
+returns-in-Ok-clause-ok c =
+    policies_read c.args.text.now c.args.env.now c.args.set.now c.read_text.new.set
+    c.in-Ok.ensures.few c.in-Ok.ensures.ok
+
+pub returns-in-Err-clause-fault : goal.returns-in-Err-clause-fault
+returns-in-Err-clause-fault c memory = refusal_found c.args.text.now c.args.env.now c.args.set.now c.in-Err.refused (c.in-Err.ensures.fault memory)
