@@ -2,11 +2,10 @@
 use Rattle.std.specs.Prelude.{ℕ, Bool, false, List, [], ◌∷◌}
 use Rattle.st_model.specs.Descriptors.{Table}
 use Rattle.st_law.specs.declared.input.Input.{Input}
-use Rattle.st_law.specs.Machine.{table_after}
 use Rattle.st_law.specs.Messages.{head_at, posted_at, is_claimed_at, words_at, lookups_at, fault_at, is_answered_at, is_closed_at, turn_at}
 use Rattle.st_law.specs.Processes.{first_descriptors, process_at, next_process_at, next_space_at, byte_at, tree_at}
 use Rattle.st_law.specs.Sessions.{SessionFilter, session_after, replied_after}
-use Rattle.st_law.specs.State.{ThreadState, Message, State, snapshot_of_message}
+use Rattle.st_law.specs.State.{ThreadState, Message, State, snapshot_of_message, table_after}
 use Rattle.st_law.specs.Threads.{History, owner_at, left_at, pending_at, number_at, is_dying_at, has_ended_at}
 
 -- a thread, as looking back sees it

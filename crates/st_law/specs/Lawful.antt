@@ -31,8 +31,7 @@ use Rattle.st_trace.specs.declared.start.Instr.TheVariants.{Store}
 use Rattle.st_law.specs.declared.input.Input.{Input}
 use Rattle.st_law.specs.declared.input.Mode.TheVariants.{Learn, AskText}
 use Rattle.st_law.specs.History.{looking_back}
-use Rattle.st_law.specs.Machine.{word_for}
-use Rattle.st_law.specs.State.{State, process_in, is_live, progress_in, snapshot_in, is_worker, worker_at, read_for, decision_in, answer_in, filter_count, is_reply_left, is_question, system_of, request_of, arguments_now, link_now}
+use Rattle.st_law.specs.State.{State, process_in, is_live, progress_in, snapshot_in, is_worker, worker_at, read_for, decision_in, answer_in, filter_count, is_reply_left, is_question, system_of, request_of, arguments_now, link_now, word_for}
 use Rattle.st_law.specs.Threads.{History}
 
 -- ---- entries of threads

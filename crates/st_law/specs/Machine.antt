@@ -12,9 +12,6 @@ use Rattle.st_calls.specs.declared.judged.Verdict.TheVariants.{Permit, Refuse, U
 use Rattle.st_calls.specs.declared.rule.FastAnswer.{FastAnswer}
 use Rattle.st_calls.specs.declared.rule.FastAnswer.TheVariants as answer
 use Rattle.st_filter.specs.Judging.{verdict}
-use Rattle.st_model.specs.DescriptorCalls.{table_after_close_all}
-use Rattle.st_model.specs.Descriptors.{Table}
-use Rattle.st_model.specs.Memory.{word_of}
 use Rattle.st_model.specs.Tree.{look}
 use Rattle.st_names.specs.Name.{Components}
 use Rattle.st_effects.specs.Changes.{owner_after, dying_after, tree_after, process_after, next_process_after, next_space_after}
@@ -22,7 +19,7 @@ use Rattle.st_effects.specs.Effect.{effect}
 use Rattle.st_effects.specs.Progress.{Progress, Word, Look, Stuck, Ready}
 use Rattle.st_effects.specs.System.{Outcome}
 use Rattle.st_trace.specs.Instructions.{no_registers}
-use Rattle.st_trace.specs.declared.entry.CallResult.TheVariants.{Value, Failed}
+use Rattle.st_trace.specs.declared.entry.CallResult.TheVariants.{Failed}
 use Rattle.st_trace.specs.declared.entry.Cause.TheVariants.{Filter, NoFilter, Fault, Link}
 use Rattle.st_trace.specs.declared.entry.Choice.{Choice}
 use Rattle.st_trace.specs.declared.entry.Choice.TheVariants as choice
@@ -38,7 +35,7 @@ use Rattle.st_law.specs.declared.input.Mode.TheVariants.{Enforce, Learn, AskText
 use Rattle.st_law.specs.Messages.{Head, head_after, posted_after, claimed_after, words_after, lookups_after, fault_after, answered_after, closed_after, turn_after}
 use Rattle.st_law.specs.Processes.{first_process, first_tree, first_descriptors, process_count, memory_after_entry}
 use Rattle.st_law.specs.Sessions.{session_after, replied_after, least_from}
-use Rattle.st_law.specs.State.{ThreadState, Message, State, is_last_thread, process_in, is_live, progress_in, snapshot_in, snapshot_of_message, snapshot_of_progress, is_worker, worker_at, is_waiting, read_for, decision_in, answer_in, filter_count, next_reply, is_question, system_of, request_of, arguments_now, link_now}
+use Rattle.st_law.specs.State.{ThreadState, Message, State, process_in, is_live, progress_in, snapshot_in, snapshot_of_message, snapshot_of_progress, is_worker, worker_at, is_waiting, read_for, decision_in, answer_in, filter_count, next_reply, is_question, system_of, request_of, arguments_now, link_now, word_for, table_after}
 use Rattle.st_law.specs.Threads.{History, PendingCall, changes_of, thread_of, first_owner, body_of, pending_after, left_after, ended_after, number_after}
 
 -- ---- the state
@@ -90,12 +87,6 @@ message_after i st e q = record {
   answered = answered_after e q (st.messages q).answered;
   closed = closed_after e q (st.messages q).closed;
 }
-
--- the descriptors after an entry: a call that goes well may change them, and those of a process are closed when its last thread ends
-abbrev pub table_after : Input → State → Entry → Table
-table_after i st (Used t seq call regs args ids (Value n) changes) = (effect (system_of i st) call (request_of i st t regs args ids)).descriptors
-table_after i st (Ended t) = if is_last_thread i st t then table_after_close_all st.descriptors (st.threads t).owner else st.descriptors
-table_after i st _ = st.descriptors
 
 -- what an entry makes of the state
 abbrev pub state_after : Input → State → Entry → State
@@ -215,15 +206,6 @@ least_waiting st = least_from (is_waiting st) 1 st.posted
 abbrev pub claimed_entry : ℕ → Option ℕ → Option Entry
 claimed_entry w None = None
 claimed_entry w (Some q) = Some (Claimed w q)
-
--- the number of the memory of a message's process
-abbrev pub space_of_head : State → Option Head → ℕ
-space_of_head st None = 0
-space_of_head st (Some head) = (st.processes head.pid).space
-
--- the word at a place of the memory of a number's process
-abbrev pub word_for : State → ℕ → ℕ → ℕ
-word_for st q place = word_of (st.memory (space_of_head st (st.messages q).head)) place
 
 -- a worker answers with what the filters that were read say of these copies, if they are there
 abbrev pub answer_entry : Input → State → ℕ → ℕ → Option Snapshot → Option Entry

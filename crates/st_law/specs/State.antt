@@ -14,13 +14,19 @@ use Rattle.st_calls.specs.declared.rule.Rule.{Rule}
 use Rattle.st_filter.specs.Fast.{fast}
 use Rattle.st_filter.specs.Formula.{FilterValue}
 use Rattle.st_filter.specs.Policies.{read_filters}
+use Rattle.st_model.specs.DescriptorCalls.{table_after_close_all}
 use Rattle.st_model.specs.Descriptors.{Table}
+use Rattle.st_model.specs.Memory.{word_of}
 use Rattle.st_model.specs.Process.{Process}
 use Rattle.st_model.specs.Tree.{Tree}
 use Rattle.st_names.specs.Name.{Components}
 use Rattle.st_names.specs.declared.seen.SeenText.{SeenText}
+use Rattle.st_effects.specs.Effect.{effect}
 use Rattle.st_effects.specs.Progress.{Progress, Word, Look, Stuck, Ready, ArgRequest, progress}
 use Rattle.st_effects.specs.System.{System, Request, HeldCall}
+use Rattle.st_trace.specs.declared.entry.CallResult.TheVariants.{Value}
+use Rattle.st_trace.specs.declared.entry.Entry.{Entry}
+use Rattle.st_trace.specs.declared.entry.Entry.TheVariants.{Used, Ended}
 use Rattle.st_trace.specs.declared.start.Instr.{Instr}
 use Rattle.st_trace.specs.declared.entry.Way.{Way}
 use Rattle.st_trace.specs.declared.entry.Way.TheVariants.{Held}
@@ -294,3 +300,20 @@ arguments_now i st t call regs =
 -- the first link that the names of a call meet, its arguments being these
 abbrev pub link_now : Input → State → SysCall → List ℕ → List ArgText → Option Components
 link_now i st call regs args = link_met st.tree (rule_of call regs i.options.aliasing) call regs args
+
+-- ---- memory and descriptors
+
+-- the number of the memory of a message's process
+abbrev pub space_of_head : State → Option Head → ℕ
+space_of_head st None = 0
+space_of_head st (Some head) = (st.processes head.pid).space
+
+-- the word at a place of the memory of a number's process
+abbrev pub word_for : State → ℕ → ℕ → ℕ
+word_for st q place = word_of (st.memory (space_of_head st (st.messages q).head)) place
+
+-- the descriptors after an entry: a call that goes well may change them, and those of a process are closed when its last thread ends
+abbrev pub table_after : Input → State → Entry → Table
+table_after i st (Used t seq call regs args ids (Value n) changes) = (effect (system_of i st) call (request_of i st t regs args ids)).descriptors
+table_after i st (Ended t) = if is_last_thread i st t then table_after_close_all st.descriptors (st.threads t).owner else st.descriptors
+table_after i st _ = st.descriptors

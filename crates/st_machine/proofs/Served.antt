@@ -20,10 +20,10 @@ use Rattle.st_trace.specs.declared.entry.Choice.TheVariants as choice
 use Rattle.st_trace.specs.declared.entry.Entry.{Entry}
 use Rattle.st_trace.specs.declared.entry.Entry.TheVariants as entry
 use Rattle.st_law.specs.declared.input.Input.{Input}
-use Rattle.st_law.specs.Machine.{space_of_head, state_after, word_for, worker_entry}
+use Rattle.st_law.specs.Machine.{state_after, worker_entry}
 use Rattle.st_law.specs.Messages.{Head}
 use Rattle.st_law.specs.State as law
-use Rattle.st_law.specs.State.{State, ThreadState}
+use Rattle.st_law.specs.State.{State, ThreadState, space_of_head, word_for}
 use Rattle.st_base.specs.declared.errno.Errno.{Errno}
 use Rattle.st_model.specs.Processes.{StartedThread, thread_at as started_at}
 use Rattle.st_system.specs.System.{IsSystem, IsThread, Parts}

@@ -20,9 +20,9 @@ use Rattle.st_trace.specs.declared.entry.Entry.TheVariants.{Used}
 use Rattle.st_request.specs.Outcome.{outcome_of, system_of}
 use Rattle.st_request.specs.declared.outcome.Outcome.{Outcome}
 use Rattle.st_law.specs.declared.input.Input.{Input}
-use Rattle.st_law.specs.Machine.{state_after, table_after}
+use Rattle.st_law.specs.Machine.{state_after}
 use Rattle.st_law.specs.State as law
-use Rattle.st_law.specs.State.{State, ThreadState, request_of, thread_count}
+use Rattle.st_law.specs.State.{State, ThreadState, request_of, thread_count, table_after}
 use Rattle.st_system.specs.Steps.{HasChild, IsMade, IsRequest, unheld_system, with_renewals}
 use Rattle.st_system.specs.System.{IsAmong, IsSystem, IsThread, Parts, is_given_up}
 use Rattle.st_system.proofs.Alike.{HasSameHeld, alike}

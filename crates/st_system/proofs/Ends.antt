@@ -10,8 +10,8 @@ use Rattle.st_model.specs.Processes.{Processes, StartedThread, has_not_ended, is
 use Rattle.st_procs.specs.Laws.{IsLast, ThreadEnds}
 use Rattle.st_trace.specs.declared.entry.Entry.TheVariants.{Ended}
 use Rattle.st_law.specs.declared.input.Input.{Input}
-use Rattle.st_law.specs.Machine.{state_after, table_after}
-use Rattle.st_law.specs.State.{State, ThreadState, is_last_thread, is_running_in, thread_count}
+use Rattle.st_law.specs.Machine.{state_after}
+use Rattle.st_law.specs.State.{State, ThreadState, is_last_thread, is_running_in, thread_count, table_after}
 use Rattle.st_law.proofs.Least.{least, NoneOf}
 use Rattle.st_system.specs.System.{IsAmong, IsSystem, IsThread, Parts}
 

@@ -11,9 +11,9 @@ use Rattle.st_model.specs.Tree.{look}
 use Rattle.st_names.specs.Name.{Components}
 use Rattle.st_trace.specs.declared.entry.Entry.TheVariants as entry
 use Rattle.st_law.specs.declared.input.Input.{Input}
-use Rattle.st_law.specs.Machine.{word_for, worker_entry}
+use Rattle.st_law.specs.Machine.{worker_entry}
 use Rattle.st_law.specs.Messages.{Head}
-use Rattle.st_law.specs.State.{State, is_live, read_for}
+use Rattle.st_law.specs.State.{State, is_live, read_for, word_for}
 use Rattle.st_workers.specs.UnderWay.{UnderWay, turn_at}
 use Rattle.st_workers.specs.declared.task.Task.{Task}
 use Rattle.st_workers.specs.declared.task.Task.TheVariants.{Rest, Claim, Copy, Look as LookAt, Fault, Answer}
