@@ -1,7 +1,7 @@
 -- The least number of its kind.
 use native.Mathlib.Omega.{arith}
-use Rattle.std.proofs.Common.{◌≡◌, ◌≤◌, ◌<◌, ℕ, suc, zero, ◌+◌, Bool, true, false, cond, ◌==◌, Option, Some, None, refl, sym, subst}
-use Rattle.std.proofs.lemmas.Bool.{eqb-true, eqb-false}
+use Rattle.std.proofs.Common.{◌≡◌, ◌≤◌, ◌<◌, ◌⊎◌, ℕ, suc, zero, ◌+◌, Bool, true, false, cond, ◌==◌, Option, Some, None, refl, sym, ap, subst, ◌∙◌, inl, inr}
+use Rattle.std.proofs.lemmas.Bool.{cases_lt, eqb-true, eqb-false, true≢false}
 use Rattle.st_law.specs.Sessions.{least_from}
 
 -- no number from a to b is of this kind
@@ -36,3 +36,13 @@ least_of P is a n (suc count) low none found missing =
 -- the search of the numbers from a on
 pub least : (P : Option ℕ → Type 0) (is : ℕ → Bool) (a count : ℕ) → ((q : ℕ) → IsLeast is a (a + count) q → P (Some q)) → (NoneOf is a (a + count) → P None) → P (least_from is a count)
 least P is a count found missing = least_of P is a a count (omega arith) (λ p at below. absurd (omega (arith, at, below))) found missing
+
+-- the search finds the least number of the kind
+pub least_is : (is : ℕ → Bool) (a count q : ℕ) → IsLeast is a (a + count) q → least_from is a count ≡ Some q
+least_is is a count q x = least (λ o. o ≡ Some q) is a count
+    (λ p y. ap Some (same p y (cases_lt p q) (cases_lt q p)))
+    (λ none. absurd (true≢false (sym x.holds ∙ none q x.low x.high))) where
+      same : (p : ℕ) → IsLeast is a (a + count) p → (p < q) ⊎ (q ≤ p) → (q < p) ⊎ (p ≤ q) → p ≡ q
+      same p y (inl below) other = absurd (true≢false (sym y.holds ∙ x.least p y.low below))
+      same p y (inr high) (inl below) = absurd (true≢false (sym x.holds ∙ y.least q x.low below))
+      same p y (inr high) (inr low) = omega (arith, high, low)

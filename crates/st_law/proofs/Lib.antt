@@ -32,6 +32,7 @@ pub mod MessageHistory
 pub mod Moves
 pub mod Numbering
 pub mod OneStepTaken
+pub mod OperatorTold
 pub mod Playing
 pub mod Potential
 pub mod Preserved
@@ -60,7 +61,9 @@ pub mod Steps
 pub mod Sums
 pub mod ThreadHistory
 pub mod ThreadSteps
+pub mod ThreadsTold
 pub mod Ties
+pub mod Told
 pub mod Turns
 pub mod TurnsKept
 pub mod UsedKept
@@ -69,5 +72,6 @@ pub mod UsedShapes
 pub mod Whole
 pub mod Words
 pub mod WorkerSteps
+pub mod WorkersTold
 pub mod Writing
 pub mod WrongRuns

@@ -1,8 +1,8 @@
 -- Each lawful entry leaves less to do: what threads, messages and replies have left.
 use native.Mathlib.Omega.{arith}
 use Rattle.std.proofs.Common.{◌≡◌, ◌≢◌, ◌⊎◌, ◌≤◌, ℕ, ◌+◌, ◌*◌, Bool, true, false, cond, not, ◌==◌, List, ◌++◌, drop, Option, Some, None, refl, sym, ap, subst, ◌∙◌, inl, inr}
-use Rattle.std.specs.Prelude.{is_some, nat_lt, nat_le}
-use Rattle.std.proofs.lemmas.Bool.{eqb-true, eqb-false, eq-eqb, and_parts, ltb-true, leb-true}
+use Rattle.std.specs.Prelude.{is_some}
+use Rattle.std.proofs.lemmas.Bool.{eqb-true, eqb-false, eq-eqb}
 use Rattle.st_calls.specs.declared.call.SysCall.{SysCall}
 use Rattle.st_calls.specs.declared.call.SysCall.TheVariants as calls
 use Rattle.st_calls.specs.declared.judged.Snapshot.{Snapshot}
@@ -19,25 +19,18 @@ use Rattle.st_law.specs.State.{State, thread_count, is_worker, snapshot_in, read
 use Rattle.st_law.proofs.Copies.{Copies}
 use Rattle.st_law.proofs.Growth.{session_append}
 use Rattle.st_law.proofs.Least.{least}
+use Rattle.st_law.proofs.MessageHistory.{number_only}
 use Rattle.st_law.proofs.Potential.{weight, call_cost, step_unless, thread_cost, taken, is_turn, may_be_learnt, remaining, message_cost, threads_cost, messages_cost, message_most, remaining_low}
 use Rattle.st_law.proofs.Standing.{decision_append}
 use Rattle.st_law.proofs.Sums.{total, total_low, total_drop, total_more, total_most}
-use Rattle.st_law.proofs.Turns.{unlike}
+use Rattle.st_law.proofs.Turns.{unlike, worker_range}
 
 -- ---- turns
-
-number_is : (q : ℕ) (o : Option ℕ) → is_number q o ≡ true → o ≡ Some q
-number_is q None e = cc
-number_is q (Some p) e = ap Some (eqb-true p q e)
-
-worker_range : (i : Input) (w : ℕ) → is_worker i w ≡ true → (1 ≤ w) × (w ≤ i.options.workers)
-worker_range i w e = let parts = and_parts (nat_lt 0 w) (nat_le w i.options.workers) e in
-    let low = ltb-true 0 w parts.0 in (omega (arith, low), leb-true w i.options.workers parts.1)
 
 -- a number is somebody's turn exactly where some worker has it
 pub turn_found : (i : Input) (st : State) (q : ℕ) → is_turn i st q ≡ true → (w : ℕ) × (st.turns w ≡ Some q)
 turn_found i st q = least (λ o. is_some o ≡ true → (w : ℕ) × (st.turns w ≡ Some q)) (λ w. is_number q (st.turns w)) 1 i.options.workers
-    (λ w x e. (w, number_is q (st.turns w) x.holds)) (λ none e. cc)
+    (λ w x e. (w, number_only q (st.turns w) x.holds)) (λ none e. cc)
 
 pub turn_there : (i : Input) (st : State) (w q : ℕ) → is_worker i w ≡ true → st.turns w ≡ Some q → is_turn i st q ≡ true
 turn_there i st w q worker turn = least (λ o. is_some o ≡ true) (λ v. is_number q (st.turns v)) 1 i.options.workers

@@ -62,10 +62,10 @@ answered q = true_behind (λ h. is_answered_at h q) (AnswersTo q) refl (answer_u
 
 -- ---- closed numbers
 
-number_is : (q : ℕ) (o : Option ℕ) → o ≡ Some q → is_number q o ≡ true
+pub number_is : (q : ℕ) (o : Option ℕ) → o ≡ Some q → is_number q o ≡ true
 number_is q o e = ap (is_number q) e ∙ eq-eqb q q refl
 
-number_only : (q : ℕ) (o : Option ℕ) → is_number q o ≡ true → o ≡ Some q
+pub number_only : (q : ℕ) (o : Option ℕ) → is_number q o ≡ true → o ≡ Some q
 number_only q None e = cc
 number_only q (Some p) e = ap Some (eqb-true p q e)
 

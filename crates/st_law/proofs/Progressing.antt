@@ -38,7 +38,7 @@ use Rattle.st_law.specs.Lawful.{IsRunning}
 use Rattle.st_law.specs.Machine.{next_instruction_entry, unheld_entry, barred_entry, decided_entry, answered_entry, held_entry, pending_entry, running_entry, claimed_entry, least_waiting, answer_entry, working_entry, turn_entry, reply_entry, question_entry, asked_entry, operator_entry, least_question, entry_of, history, state_of_run, IsEnabled}
 use Rattle.st_law.specs.Messages.{Head}
 use Rattle.st_law.specs.Sessions.{least_from}
-use Rattle.st_law.specs.State.{State, process_in, is_live_by, is_live, is_waiting, progress_in, snapshot_of_progress, snapshot_in, is_worker, worker_at, arguments_now, decision_in, is_question, is_open_question, is_undecided, is_asked, next_reply}
+use Rattle.st_law.specs.State.{State, process_in, is_live, is_waiting, progress_in, snapshot_of_progress, snapshot_in, is_worker, worker_at, arguments_now, decision_in, is_question, is_open_question, is_undecided, is_asked, next_reply}
 use Rattle.st_law.specs.Threads.{PendingCall, owner_at, has_ended_at}
 use Rattle.st_law.proofs.Invariant.{IsFine, Fine, IfPending}
 use Rattle.st_law.proofs.Least.{least}
@@ -46,7 +46,7 @@ use Rattle.st_law.proofs.ThreadSteps.{live_of_open}
 use Rattle.st_law.proofs.Turns.{turn_of, at_live, live_low, unlike}
 use Rattle.st_law.proofs.Laws.{lawful_history}
 use Rattle.st_law.proofs.Ties.{state-is}
-use Rattle.st_law.proofs.Whole.{Whole, whole_of}
+use Rattle.st_law.proofs.Whole.{Whole, live_number, whole_of}
 use Rattle.st_law.specs.History.{looking_back}
 use Rattle.st_law.specs.Inputs.{IsStartable}
 use Rattle.st_law.proofs.Words.{asks_word, ends_in}
@@ -148,19 +148,13 @@ module _ (i : Input) (st : State) (whole : Whole i st) (some_worker : 1 ≤ i.op
   found : (is : ℕ → Bool) (q : ℕ) → is q ≡ true → 1 ≤ q → q ≤ st.posted → Found is (least_from is 1 st.posted)
   found is q e low high = least (Found is) is 1 st.posted (λ m x. (m, refl, x.holds)) (λ none. absurd (unlike (is q) e (none q low (omega (arith, high)))))
 
-  -- a number that lives isn't 0, and was posted
-  live_number : (q : ℕ) → is_live st q ≡ true → 1 ≤ q
-  live_number q live = omega (arith, not_zero) where
-    not_zero : q ≢ 0
-    not_zero same = unlike (is_live st 0) (subst (λ n. is_live st n ≡ true) same live) (ap (λ o. is_live_by o (st.messages 0).closed (λ t. (st.threads t).dying)) whole.posted.zero)
-
   first_worker : is_worker i 1 ≡ true
   first_worker = and_from (nat_lt 0 1) (nat_le 1 i.options.workers) refl (le-leb 1 i.options.workers some_worker)
 
   waiting_enabled : (q : ℕ) → is_waiting st q ≡ true → is_live st q ≡ true → Enabled
   waiting_enabled q waits live = by (worker_at st 1) refl where
     by : (o : Option ℕ) → worker_at st 1 ≡ o → Enabled
-    by None at = let x : Found (is_waiting st) (least_waiting st) = found (is_waiting st) q waits (live_number q live) (live_low i st whole.calls q live) in
+    by None at = let x : Found (is_waiting st) (least_waiting st) = found (is_waiting st) q waits (live_number st whole.posted q live) (live_low i st whole.calls q live) in
         turn_is 1 first_worker (_, ap (turn_entry i st 1) at ∙ ap (claimed_entry 1) x.1)
     by (Some p) at = at_number 1 p (turn_of st (st.turns 1) p at) at
 
@@ -201,7 +195,7 @@ module _ (i : Input) (st : State) (whole : Whole i st) (some_worker : 1 ≤ i.op
     held_is x entered e first way = thread_is (x.0, ap (running_entry i st t) e ∙ ap (pending_entry i st t entered.call entered.regs) way ∙ x.1)
 
     unsettled : (q : ℕ) (s : Snapshot) (b : Bool) → is_question i st q ≡ b → is_live st q ≡ true → (Is (decided_entry i st t q s Unmatched) → Enabled) → Enabled
-    unsettled q s true e live go = operator_enabled q e (live_number q live) (live_low i st whole.calls q live)
+    unsettled q s true e live go = operator_enabled q e (live_number st whole.posted q live) (live_low i st whole.calls q live)
     unsettled q s false e live go = go (_, ap (λ b. cond b None (Some (Denied t (Some q) EPERM NoFilter))) e)
 
     decided_enabled : (q : ℕ) (s : Snapshot) (v : Verdict) → is_live st q ≡ true → (Is (decided_entry i st t q s v) → Enabled) → Enabled

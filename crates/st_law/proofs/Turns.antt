@@ -2,7 +2,8 @@
 -- somebody's, and what was answered keeps its copies.
 use native.Mathlib.Omega.{arith}
 use Rattle.std.proofs.Common.{◌≡◌, ◌⊎◌, ◌≤◌, ◌<◌, ℕ, Bool, true, false, cond, ◌||◌, [], Option, Some, None, refl, sym, ap, ◌∙◌, inl, inr}
-use Rattle.std.proofs.lemmas.Bool.{or_left, cases_lt}
+use Rattle.std.specs.Prelude.{nat_lt, nat_le}
+use Rattle.std.proofs.lemmas.Bool.{and_parts, cases_lt, leb-true, ltb-true, or_left}
 use Rattle.st_calls.specs.declared.judged.Snapshot.{Snapshot}
 use Rattle.st_law.specs.declared.input.Input.{Input}
 use Rattle.st_law.specs.State.{State, Message, is_live_by, is_live, progress_of_head, snapshot_of_progress, snapshot_in, is_worker, seq_at_work, worker_at, progress_in, is_ready}
@@ -30,6 +31,11 @@ pub record Turns (i : Input) (st : State) : Type 0 where
 
 pub unlike : (b : Bool) → b ≡ true → b ≡ false → ⊥
 unlike b x y = cc
+
+-- the numbers of workers are 1 and so on, to how many there are
+pub worker_range : (i : Input) (w : ℕ) → is_worker i w ≡ true → (1 ≤ w) × (w ≤ i.options.workers)
+worker_range i w e = let parts = and_parts (nat_lt 0 w) (nat_le w i.options.workers) e in
+    let low = ltb-true 0 w parts.0 in (omega (arith, low), leb-true w i.options.workers parts.1)
 
 -- ---- what a worker is at
 

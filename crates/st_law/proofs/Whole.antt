@@ -1,6 +1,6 @@
 -- All that holds of the record of a lawful run, together.
 use native.Mathlib.Omega.{arith}
-use Rattle.std.proofs.Common.{◌≡◌, ℕ, Bool, true, false, ◌||◌, ◌==◌, [], ◌∷◌, Option, Some, None, refl, subst, ◌∙◌}
+use Rattle.std.proofs.Common.{◌≡◌, ◌≤◌, ℕ, zero, suc, Bool, true, false, ◌||◌, ◌==◌, [], ◌∷◌, Option, Some, None, refl, ap, subst, ◌∙◌}
 use Rattle.std.proofs.lemmas.Bool.{eqb-true}
 use Rattle.st_trace.specs.declared.entry.Entry.{Entry}
 use Rattle.st_trace.specs.declared.entry.Entry.TheVariants.{Stored, Entered, Claimed, Copied, Looked, Faulted, Answered, Used, Denied, Ended, Replied, Learned}
@@ -16,7 +16,7 @@ use Rattle.st_law.proofs.Invariant.{Invariant}
 use Rattle.st_law.proofs.Laws.{at_first}
 use Rattle.st_law.proofs.Moves.{Moves, moves}
 use Rattle.st_law.proofs.Preserved.{behind}
-use Rattle.st_law.proofs.Turns.{Turns}
+use Rattle.st_law.proofs.Turns.{Turns, unlike}
 use Rattle.st_law.proofs.TurnsKept.{turns_behind}
 
 -- no message has the number 0, and one that was claimed has a head
@@ -30,6 +30,11 @@ live_head st q live = by (st.messages q).head refl live where
   by : (o : Option Head) → (st.messages q).head ≡ o → is_live_by o (st.messages q).closed (λ t. (st.threads t).dying) ≡ true → (head : Head) × ((st.messages q).head ≡ Some head)
   by None e x = cc
   by (Some head) e x = (head, e)
+
+-- so a number that lives isn't 0
+pub live_number : (st : State) → Posted st → (q : ℕ) → is_live st q ≡ true → 1 ≤ q
+live_number st posted zero live = absurd (unlike (is_live st 0) live (ap (λ o. is_live_by o (st.messages 0).closed (λ t. (st.threads t).dying)) posted.zero))
+live_number st posted (suc q) live = omega arith
 
 pub record Whole (i : Input) (st : State) : Type 0 where
   pub calls : Invariant i st

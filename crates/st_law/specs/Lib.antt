@@ -14,3 +14,4 @@ pub mod Sessions
 pub mod Splits
 pub mod State
 pub mod Threads
+pub mod Told

@@ -32,7 +32,7 @@ use Rattle.st_trace.specs.declared.start.Instr.TheVariants.{Store, Call, Fork}
 use Rattle.st_law.specs.declared.input.Input.{Input}
 use Rattle.st_law.specs.declared.input.Mode.{Mode}
 use Rattle.st_law.specs.declared.input.Mode.TheVariants.{Enforce, Learn, AskText}
-use Rattle.st_law.specs.Messages.{Head, head_after, posted_after, claimed_after, words_after, lookups_after, fault_after, answered_after, closed_after, turn_after}
+use Rattle.st_law.specs.Messages.{head_after, posted_after, claimed_after, words_after, lookups_after, fault_after, answered_after, closed_after, turn_after}
 use Rattle.st_law.specs.Processes.{first_process, first_tree, first_descriptors, process_count, memory_after_entry}
 use Rattle.st_law.specs.Sessions.{session_after, replied_after, least_from}
 use Rattle.st_law.specs.State.{ThreadState, Message, State, process_in, is_live, progress_in, snapshot_in, snapshot_of_message, snapshot_of_progress, is_worker, worker_at, is_waiting, read_for, decision_in, answer_in, filter_count, next_reply, is_question, system_of, request_of, arguments_now, link_now, word_for, table_after}

@@ -25,19 +25,30 @@ ghost use Rattle.st_law.specs.declared.input.ReadSchedule.{ReadSchedule};
 ghost use Rattle.st_law.specs.Arguments.{Surroundings, link_met, link_on_way};
 ghost use Rattle.st_law.specs.History.{looking_back, session_at};
 ghost use Rattle.st_law.specs.Inputs.{IsStartable};
-ghost use Rattle.st_law.specs.Lawful.{IsLawfulBack, Lawful};
+ghost use Rattle.st_law.specs.Lawful.{IsLawful, IsLawfulBack, Lawful};
 ghost use Rattle.st_law.specs.Laws.{AllStandAmong, AreHeld, HasBegun, IsRested, IsStale, IsThere, IsUsedAsAnswered};
 ghost use Rattle.st_law.specs.Links.{IsFound, IsMet};
-ghost use Rattle.st_law.specs.Machine.{history, run, state_of_run, IsEnabled};
+ghost use Rattle.st_law.specs.Machine.{entry_of, history, run, state_of_run, IsEnabled};
 ghost use Rattle.st_law.specs.OneStep.{AreTaken};
 ghost use Rattle.st_law.specs.Schedules.{Choices, most_steps, played, rest_from, steps_for};
 ghost use Rattle.st_law.specs.Sessions.{SessionFilter, decision, learnt_filter};
 ghost use Rattle.st_law.specs.State.{State, decision_in, snapshot_in, system_of};
 ghost use Rattle.st_law.specs.Threads.{History, body_of, has_ended_at, left_at, owner_at};
+ghost use Rattle.st_law.specs.Told.{choice_of, choices_told};
 
 /// Every run of the machine is lawful, for every input that a run can start with and whatever the choices are.
 pub fn every_run_is_lawful()
     ensures { (input : Input) → IsStartable input → (choices : List Choice) → Lawful input (run input choices) }
+{}
+
+/// The law is the machine, both ways: a trace is lawful exactly where it is the run of the choices that it tells, and so exactly where it
+/// is a run. Each choice that a lawful trace tells is enabled at its turn, and adds this entry. An entry after a lawful history is
+/// lawful exactly where the choice that it tells adds it.
+pub fn the_law_is_the_machine()
+    ensures both { (input : Input) → IsStartable input → (trace : List Entry) → Lawful input trace ↔ (run input (choices_told input trace) ≡ trace) }
+    ensures runs { (input : Input) → IsStartable input → (trace : List Entry) → Lawful input trace ↔ ((choices : List Choice) × (run input choices ≡ trace)) }
+    ensures enabled { (input : Input) → IsStartable input → (front rest : List Entry) (e : Entry) → Lawful input (front ++ e ∷ rest) → entry_of input (state_of_run input (choices_told input front)) (choice_of input (looking_back input (reverse front)) e) ≡ Some e }
+    ensures one { (input : Input) → IsStartable input → (h : History) → IsLawfulBack input h → (e : Entry) → IsLawful input (looking_back input h) e ↔ (entry_of input (looking_back input h) (choice_of input (looking_back input h) e) ≡ Some e) }
 {}
 
 /// Every prefix of a lawful trace is lawful: a run that was cut short is a run.

@@ -1,0 +1,80 @@
+-- The law and the machine say the same: an entry after a lawful history is lawful exactly where the choice that it tells adds it, and so a
+-- trace is lawful exactly where it is the run of the choices that it tells.
+use Rattle.std.proofs.Common.{◌≡◌, ◌↔◌, List, [], ◌∷◌, ◌++◌, reverse, Some, refl, sym, ap, subst, ◌∙◌}
+use Rattle.std.proofs.lemmas.List.{append_assoc, reverse-append, reverse-reverse}
+use Rattle.st_trace.specs.declared.entry.Choice.{Choice}
+use Rattle.st_trace.specs.declared.entry.Entry.{Entry}
+use Rattle.st_trace.specs.declared.entry.Entry.TheVariants.{Stored, Entered, Claimed, Copied, Looked, Faulted, Answered, Used, Denied, Ended, Replied, Learned}
+use Rattle.st_law.specs.declared.input.Input.{Input}
+use Rattle.st_law.specs.History.{looking_back}
+use Rattle.st_law.specs.Inputs.{IsStartable}
+use Rattle.st_law.specs.Lawful.{IsLawful, IsLawfulBack, Lawful}
+use Rattle.st_law.specs.Machine.{entry_of, history, history_with, run, state_at, state_of_run}
+use Rattle.st_law.specs.State.{State}
+use Rattle.st_law.specs.Threads.{History}
+use Rattle.st_law.specs.Told.{choice_of, choices_back, choices_told}
+use Rattle.st_law.proofs.Laws.{lawful_step, prefix_lawful, run_lawful}
+use Rattle.st_law.proofs.OperatorTold.{learned_told, replied_told}
+use Rattle.st_law.proofs.Steps.{Says}
+use Rattle.st_law.proofs.ThreadsTold.{denied_told, ended_told, entered_told, stored_told, used_told}
+use Rattle.st_law.proofs.Ties.{state-is}
+use Rattle.st_law.proofs.Whole.{Whole, whole_of}
+use Rattle.st_law.proofs.WorkersTold.{answered_told, claimed_told, copied_told, faulted_told, looked_told}
+
+-- ---- one entry
+
+-- a lawful entry is added by the choice that it tells
+entry_told : (i : Input) (st : State) → Whole i st → (e : Entry) → IsLawful i st e → entry_of i st (choice_of i st e) ≡ Some e
+entry_told i st whole (Stored t place word) x = stored_told i st t place word x
+entry_told i st whole (Entered t call regs way) x = entered_told i st t call regs way x
+entry_told i st whole (Claimed w q) x = claimed_told i st whole w q x
+entry_told i st whole (Copied q part place word) x = copied_told i st q part place word x
+entry_told i st whole (Looked q part name seen) x = looked_told i st q part name seen x
+entry_told i st whole (Faulted q errno) x = faulted_told i st q errno x
+entry_told i st whole (Answered w s v applied) x = answered_told i st w s v applied x
+entry_told i st whole (Used t seq call regs args ids result changes) x = used_told i st t seq call regs args ids result changes x
+entry_told i st whole (Denied t seq errno cause) x = denied_told i st t whole.calls seq errno cause x
+entry_told i st whole (Ended t) x = ended_told i st t x
+entry_told i st whole (Replied q reply n) x = replied_told i st whole q reply n x
+entry_told i st whole (Learned q n) x = learned_told i st whole q n x
+
+module _ (i : Input) (startable : IsStartable i) where
+  told_back : (h : History) → IsLawfulBack i h → (e : Entry) → IsLawful i (looking_back i h) e → entry_of i (looking_back i h) (choice_of i (looking_back i h) e) ≡ Some e
+  told_back h lawful e x = entry_told i (looking_back i h) (whole_of i startable h lawful) e x
+
+  -- an entry after a lawful history is lawful exactly where the choice that it tells adds it
+  pub law_of_entry : (h : History) → IsLawfulBack i h → (e : Entry) → IsLawful i (looking_back i h) e ↔ (entry_of i (looking_back i h) (choice_of i (looking_back i h) e) ≡ Some e)
+  law_of_entry h lawful e = (told_back h lawful e, added) where
+    added : entry_of i (looking_back i h) (choice_of i (looking_back i h) e) ≡ Some e → IsLawful i (looking_back i h) e
+    added x = subst (Says (IsLawful i (looking_back i h))) (ap (λ st. entry_of i st (choice_of i (looking_back i h) e)) (state-is i h) ∙ x) (lawful_step i startable h (choice_of i (looking_back i h) e) lawful)
+
+  -- ---- traces
+
+  -- a lawful history is that of the choices that it tells
+  history_told : (h : History) → IsLawfulBack i h → history i (choices_back i h) ≡ h
+  history_told [] lawful = refl
+  history_told (e ∷ h) lawful =
+      (λ k. history_with (history_told h lawful.1 k) (entry_of i (state_at i (history_told h lawful.1 k)) (choice_of i (looking_back i h) e)))
+      ∙ ap (history_with h) (ap (λ st. entry_of i st (choice_of i (looking_back i h) e)) (state-is i h) ∙ told_back h lawful.1 e lawful.0)
+
+  history_of_trace : (trace : List Entry) → Lawful i trace → history i (reverse (choices_told i trace)) ≡ reverse trace
+  history_of_trace trace lawful = ap (history i) (reverse-reverse (choices_back i (reverse trace))) ∙ history_told (reverse trace) lawful
+
+  run_told : (trace : List Entry) → Lawful i trace → run i (choices_told i trace) ≡ trace
+  run_told trace lawful = ap reverse (history_of_trace trace lawful) ∙ reverse-reverse trace
+
+  -- a trace is lawful exactly where it is the run of the choices that it tells
+  pub law_of_trace : (trace : List Entry) → Lawful i trace ↔ (run i (choices_told i trace) ≡ trace)
+  law_of_trace trace = (run_told trace, λ same. subst (Lawful i) same (run_lawful i startable (choices_told i trace)))
+
+  -- and so exactly where it is a run
+  pub lawful_is_run : (trace : List Entry) → Lawful i trace ↔ ((choices : List Choice) × (run i choices ≡ trace))
+  lawful_is_run trace = (λ lawful. (choices_told i trace, run_told trace lawful), λ x. subst (Lawful i) x.1 (run_lawful i startable x.0))
+
+  -- each choice that a lawful trace tells adds its entry at its turn
+  pub told_at_its_turn : (front rest : List Entry) (e : Entry) → Lawful i (front ++ e ∷ rest) → entry_of i (state_of_run i (choices_told i front)) (choice_of i (looking_back i (reverse front)) e) ≡ Some e
+  told_at_its_turn front rest e lawful =
+      let so_far : Lawful i ((front ++ e ∷ []) ++ rest) = subst (Lawful i) (sym (append_assoc front (e ∷ []) rest)) lawful in
+      let last : IsLawfulBack i (e ∷ reverse front) = subst (IsLawfulBack i) (reverse-append front (e ∷ [])) (prefix_lawful i (front ++ e ∷ []) rest so_far) in
+      ap (λ st. entry_of i st (choice_of i (looking_back i (reverse front)) e)) (ap (state_at i) (history_of_trace front last.1) ∙ state-is i (reverse front))
+      ∙ told_back (reverse front) last.1 e last.0
