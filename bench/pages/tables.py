@@ -1,0 +1,132 @@
+"""The parts of pages that are made and not written: each stands between marks, `<!-- NAME: .. -->` and `<!-- end -->`."""
+
+import re
+
+from . import markdown, tree
+
+MEASURED = tree.TOP / "bench/measured"
+# The rows of README's short table of costs: kind and text of the row of bench/README.md, and what the run does.
+SHORT_COSTS = (
+    ("held", "audit", "eight threads hold opens, eight workers serve them"),
+    ("held", "trace", "the same"),
+    ("filters", "audit", "500 calls that the last of 4,096 filters permits"),
+    ("fast", "audit", "4,076 calls that no worker is asked for"),
+    ("fast", "trace", "the same"),
+    ("forks", "audit", "63 forks, and 20 held calls of each child"),
+    ("threads", "audit", "64 threads, and 60 held calls of each"),
+    ("short", "audit", "3,900 held calls on a name of two components"),
+    ("deep", "audit", "3,900 held calls on a name of 16 components"),
+    ("long", "audit", "3,900 held calls on a name of 960 bytes"),
+    ("names", "audit", "a file made, renamed and taken away, 1,000 times"),
+    ("questions", "audit", "500 questions, each with a reply"),
+    ("learn", "audit", "1,000 calls that are learnt from, and made again"),
+)
+SHORT_HEAD = "| what the run does | text | time, quotient | million instructions, proved | unverified | quotient | MiB, proved | unverified |"
+# The columns of what bench/run_step prints that the short table has: the quotient of times, instructions, and memory.
+SHORT_COLUMNS = (5, 6, 7, 8, 9, 10)
+
+
+def edge(head):
+    return "|" + "---|" * (head.count("|") - 1)
+
+
+def quoted(names):
+    return ", ".join(f"`{name}`" for name in names)
+
+
+def wrapped(text, width=150):
+    """Returns the lines of a paragraph, broken at blanks."""
+    lines = [""]
+    for word in text.split(" "):
+        if len(lines[-1]) + len(word) >= width:
+            lines.append("")
+        lines[-1] = f"{lines[-1]} {word}".strip()
+    return lines
+
+
+def crate_list(crates, _):
+    """The names of the crates, layer by layer."""
+    return [f"- *{layer}*: {quoted(crate.name for crate in each)}" for layer, each in tree.layers(crates).items()]
+
+
+def crate_tables(crates, lines):
+    """A table of each layer. Its last column is written by hand: what the part has for a crate is kept."""
+    by_hand = {cells[0].strip("`"): cells[-1] for cells in map(markdown.cells_of, lines) if len(cells) > 3}
+    head = "| Crate | What it does | Stands on | What its contracts speak of |"
+    made = []
+    for layer, each in tree.layers(crates).items():
+        made += ["", f"### {layer[0].upper()}{layer[1:]}", "", head, edge(head)]
+        for crate in each:
+            below = quoted(name for name in crate.below if name in crates)
+            kit = quoted(name for name in crate.below if name not in crates).replace(", ", " and ")
+            stands = ", ".join(part for part in (below, kit and f"the kit's {kit}") if part) or "-"
+            made.append(f"| `{crate.name}` | {crate.description()} | {stands} | {by_hand.get(crate.name, '')} |")
+    return made[1:]
+
+
+def chain(crates, _):
+    """The longest chain of crates."""
+    return wrapped(f"The longest chain is {quoted(tree.longest_chain(crates))}.")
+
+
+def sizes(crates, _):
+    """The table of sizes."""
+    head = "| Crate | Code | Definitions | Proofs | Wrong bodies in the gate | apart from it |"
+    rows = [(f"`{crate.name}`", crate.sizes()) for crate in crates.values()]
+    rows.append(("all", [sum(column) for column in zip(*(counts for _, counts in rows))]))
+    return [head, edge(head)] + [f"| {name} | {' | '.join(f'{count:,}' for count in counts)} |" for name, counts in rows]
+
+
+def measured(name):
+    """Returns what makes a part that is the output of a script of bench/, as it is kept in bench/measured."""
+    return lambda crates, _: (MEASURED / f"{name}.md").read_text().strip().splitlines()
+
+
+def short_costs(crates, _):
+    """README's table of costs, out of what bench/run_step printed."""
+    rows = {}
+    for line in measured("run_step")(crates, _):
+        cells = markdown.cells_of(line)
+        rows[cells[0], cells[1]] = [cells[column] for column in SHORT_COLUMNS]
+    return [SHORT_HEAD, edge(SHORT_HEAD)] + [
+        f"| {what} | {text} | {' | '.join(rows[kind, text])} |" for kind, text, what in SHORT_COSTS
+    ]
+
+
+# By page, the parts that it has to have.
+PARTS = {
+    "README.md": {"crates": crate_list, "costs": short_costs},
+    "bench/README.md": {name: measured(name) for name in ("run", "run_step", "run_check")},
+    "docs/ARCHITECTURE.md": {"crates": crate_tables, "sizes": sizes, "gate times": measured("gate_times"), "chain": chain},
+}
+
+
+def parts_stand(known, page):
+    """Each part that is made is as it would be made now."""
+    makers, found = PARTS.get(page.name, {}), markdown.marked_parts(page)
+    for name in sorted(set(makers) - {name for name, _, _ in found}):
+        yield 1, f"has no part <!-- {name}: .. -->"
+    for name, begin, end in found:
+        if name not in makers:
+            yield begin, f"nothing makes the part {name}"
+            continue
+        here, made = page.lines[begin:end], makers[name](known.crates, page.lines[begin:end])
+        if here != made:
+            at = next((at for at, pair in enumerate(zip(here, made)) if pair[0] != pair[1]), min(len(here), len(made)))
+            yield begin + at + 1, f"the part {name} isn't what the tree has: bench/check_docs --write"
+        yield from (
+            (begin + at + 1, f"the row of {cells[0]} says nothing in its last column")
+            for at, cells in enumerate(map(markdown.cells_of, made))
+            if len(cells) > 3 and not cells[-1]
+        )
+
+
+def write_parts(known, page):
+    """Makes the parts of a page anew, and returns whether that changed it."""
+    makers, lines = PARTS.get(page.name, {}), list(page.lines)
+    for name, begin, end in reversed(markdown.marked_parts(page)):
+        if name in makers:
+            lines[begin:end] = makers[name](known.crates, lines[begin:end])
+    if lines != page.lines:
+        page.path.write_text("\n".join(lines) + "\n")
+    return lines != page.lines
