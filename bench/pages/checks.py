@@ -11,6 +11,7 @@ WITHIN = re.compile(r"(?<![\\\w$])[A-Za-z_]\w*(?:(?:::|\.)\w+)*")
 SUFFIXES = ("md", "antt", "rt", "rs", "txt", "edit", "sh", "policy", "script", "schedule")
 PATH = re.compile(rf"(?:\.\./)*[\w.*-]+(?:/[\w.*-]+)*(?:/|\.(?:{'|'.join(SUFFIXES)}))|(?:crates|bench|docs|examples|man)(?:/[\w.*-]+)+")
 JOINS = ("", ",", "and", ", and", "or", ", or")
+WRONG_BODIES = "docs/WRONG-BODIES.md"
 # Under these headings clauses are cited without their function.
 CLAUSES_OF = {("README.md", "The theorem"): "systrace_plain", ("docs/PROMISES.md", "End to end"): "systrace_plain"}
 # Under these headings laws are of this crate, but where their row names another.
@@ -128,7 +129,7 @@ def owners_have_names(known, page):
 
 def clauses_stand(known, page):
     """Each clause that is cited stands in the contract of the function, or of a function of the type, that is named before it."""
-    for block in page.text_blocks():
+    for block in page.text_blocks() if page.name != WRONG_BODIES else ():
         default = default_subject(page, block)
         for run in runs_of(block):
             if run.role == "clauses":
@@ -457,7 +458,7 @@ def toolchain_is_named(known, page):
 
 def wrong_bodies_are_listed(known, page):
     """WRONG-BODIES.md has each wrong body once, under its crate, with a function that is there and a clause of that function."""
-    if page.name != "docs/WRONG-BODIES.md":
+    if page.name != WRONG_BODIES:
         return
     listed = set()
     for block in page.text_blocks():
