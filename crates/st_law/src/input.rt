@@ -45,11 +45,14 @@ pub struct ReadSchedule {
     pub bad: Option<u32>,
 }
 
+/// How often a line of a schedule may ask for its choice.
+pub const MOST_TIMES: u32 = 1_000_000;
+
 /// A line of a schedule.
 #[derive(Clone, Copy, Debug, PartialEq, Eq)]
 pub struct ScheduleLine {
     pub what: What,
-    /// How often it is done, at least once.
+    /// How often it is done, 1 to `MOST_TIMES`.
     pub count: u32,
     /// The line's number in its file, counted from 1.
     pub line: u32,

@@ -5,4 +5,4 @@ pub mod input;
 pub mod law;
 pub mod looking_back;
 
-pub use input::{Input, Mode, Options, ReadSchedule, ScheduleLine, What};
+pub use input::{Input, MOST_TIMES, Mode, Options, ReadSchedule, ScheduleLine, What};

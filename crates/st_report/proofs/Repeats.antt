@@ -5,9 +5,9 @@ use Rattle.std.specs.Prelude.{length, nat_lt, slice_index_or, slice_set}
 use Rattle.std.proofs.lemmas.Bool.{and_from, and_parts, eq-eqb, eqb-true, lt-ltb, ltb-true}
 use Rattle.st_trace.specs.declared.entry.Choice.{Choice}
 use Rattle.st_trace.specs.declared.entry.Choice.TheVariants.{Thread, Worker, Operator}
+use Rattle.st_law.specs.declared.input.TheConstants.{MOST_TIMES}
 use Rattle.st_report.specs.ScheduleText.{AreJoined, is_same_choice, joins, repeat_of, repeats_behind, repeats_of, repeats_with, spelled_choices}
 use Rattle.st_report.specs.declared.schedule.Repeat.{Repeat}
-use Rattle.st_report.specs.declared.schedule.TheConstants.{MOST_TIMES}
 
 -- ---- choices
 

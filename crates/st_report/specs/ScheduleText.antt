@@ -5,9 +5,9 @@ use Rattle.st_trace.specs.declared.entry.Choice.{Choice}
 use Rattle.st_trace.specs.declared.entry.Choice.TheVariants.{Thread, Worker, Operator}
 use Rattle.st_law.specs.declared.input.ReadSchedule.{ReadSchedule}
 use Rattle.st_law.specs.declared.input.ScheduleLine.{ScheduleLine}
+use Rattle.st_law.specs.declared.input.TheConstants.{MOST_TIMES}
 use Rattle.st_law.specs.declared.input.What.TheVariants.{Choose}
 use Rattle.st_report.specs.declared.schedule.Repeat.{Repeat}
-use Rattle.st_report.specs.declared.schedule.TheConstants.{MOST_TIMES}
 use Rattle.st_report.specs.Fields.{number_fields}
 
 -- a choice so many times

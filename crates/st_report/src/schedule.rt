@@ -8,11 +8,9 @@ ghost use Rattle.st_trace.specs.declared.entry.Choice.{Choice};
 
 use crate::fields::{append_numbered, append_numbers};
 use st_base::Text;
+use st_law::MOST_TIMES;
 use st_trace::Choice;
 use std::alloc::{AllocError, Global};
-
-/// How often one line of a schedule may have its choice.
-pub const MOST_TIMES: u32 = 1_000_000;
 
 /// A choice that is made so many times in a row.
 #[derive(Clone, Copy, Debug, PartialEq, Eq)]

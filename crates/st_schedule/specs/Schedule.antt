@@ -2,6 +2,7 @@
 use Rattle.std.specs.Prelude.{ℕ, ◌&&◌, if◌then◌else◌, nat_le, List, [], ◌∷◌, codes, Option, Some, None, option_map, option_and_then}
 use Rattle.st_law.specs.declared.input.ReadSchedule.{ReadSchedule}
 use Rattle.st_law.specs.declared.input.ScheduleLine.{ScheduleLine}
+use Rattle.st_law.specs.declared.input.TheConstants.{MOST_TIMES}
 use Rattle.st_law.specs.declared.input.What.{What}
 use Rattle.st_law.specs.declared.input.What.TheVariants.{Choose, Rest}
 use Rattle.st_lex.specs.declared.token.Token.{Token}
@@ -11,7 +12,6 @@ use Rattle.st_lex.specs.Tokens.{lexed_text}
 use Rattle.st_trace.specs.declared.entry.Choice.TheVariants.{Thread, Worker, Operator}
 use Rattle.st_statements.specs.Lines.{saturated, looked_at, line_of_fault, line_of_row}
 use Rattle.st_statements.specs.Values.{number_at}
-use Rattle.st_schedule.specs.declared.schedule.TheConstants.{MOST_TIMES}
 
 -- a number that says how often: 1 to 1,000,000
 abbrev pub times : ℕ → Option ℕ

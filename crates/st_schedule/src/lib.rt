@@ -3,4 +3,4 @@
 
 pub mod schedule;
 
-pub use schedule::{MOST_TIMES, read_schedule, schedule_line};
+pub use schedule::{read_schedule, schedule_line};

@@ -3,20 +3,17 @@ ghost use Rattle.st_lex.specs.Rows.{rows};
 ghost use Rattle.st_schedule.specs.Schedule.{times, count_in, asked, thread_line, worker_line, rest_line, schedule_line, schedule_lines, schedule_in};
 
 use st_base::Sequence;
-use st_law::{ReadSchedule, ScheduleLine, What};
+use st_law::{MOST_TIMES, ReadSchedule, ScheduleLine, What};
 use st_lex::{Token, next_row, tokens};
 use st_statements::lines::{line_of_fault, line_of_row, looked_at, saturated};
 use st_statements::values::number_at;
 use st_trace::Choice;
 use std::alloc::{AllocError, Global};
 
-/// How often a line of a schedule may ask for one choice.
-pub const MOST_TIMES: u64 = 1_000_000;
-
 fn times(number: u64) -> Option<u32>
     ensures { result ≡ times number }
 {
-    if 1 <= number && number <= MOST_TIMES {
+    if 1 <= number && number <= u64::from(MOST_TIMES) {
         Some(number as u32)
     } else {
         None
