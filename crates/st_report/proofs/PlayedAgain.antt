@@ -15,7 +15,7 @@ module _ (i : Input) where
   -- ---- each choice is enabled at its turn
 
   -- each of these choices, which stand newest first, was enabled
-  abbrev AreEnabled : List Choice → Type 0
+  abbrev pub AreEnabled : List Choice → Type 0
   AreEnabled [] = Unit {0}
   AreEnabled (c ∷ cs) = ((e : Entry) × (entry_of i (state_at i (history i cs)) c ≡ Some e)) × AreEnabled cs
 
@@ -39,6 +39,10 @@ module _ (i : Input) where
   all_enabled : (cs : List Choice) → length (history i cs) ≡ length cs → AreEnabled cs
   all_enabled [] e = tt
   all_enabled (c ∷ cs) e = enabled_by c cs (all_enabled cs) e (entry_of i (state_at i (history i cs)) c) refl
+
+  -- those of a run that has an entry for each
+  pub enabled_of_run : (choices : List Choice) → length (run i choices) ≡ length choices → AreEnabled (reverse choices)
+  enabled_of_run choices e = all_enabled (reverse choices) (sym (length-reverse (history i (reverse choices))) ∙ e ∙ sym (length-reverse choices))
 
   enabled_before : (later earlier : List Choice) → AreEnabled (later ++ earlier) → AreEnabled earlier
   enabled_before [] earlier x = x
@@ -78,6 +82,5 @@ module _ (i : Input) where
 
   pub played_again : (choices : List Choice) → length (run i choices) ≡ length choices → played i (printed_schedule choices) ≡ Choices choices
   played_again choices e =
-      let same : length (history i (reverse choices)) ≡ length (reverse choices) = sym (length-reverse (history i (reverse choices))) ∙ e ∙ sym (length-reverse choices) in
-      lines_again 1 (repeats_of choices) [] (subst (λ cs. AreEnabled (reverse cs)) (sym (spelled_again choices)) (all_enabled (reverse choices) same))
+      lines_again 1 (repeats_of choices) [] (subst (λ cs. AreEnabled (reverse cs)) (sym (spelled_again choices)) (enabled_of_run choices e))
       ∙ ap Choices (spelled_again choices)

@@ -32,7 +32,7 @@ no_hexadecimal (c ∷ d ∷ ds) a =
     let e : nat_eq 120 d ≡ false = grind (arith, nat_tests) in
     rw e (first_no (nat_eq 48 c))
 
-number_in-decimal : (n : ℕ) → n < 2 ^ 64 → number_in (decimal n) ≡ Some n
+pub number_in-decimal : (n : ℕ) → n < 2 ^ 64 → number_in (decimal n) ≡ Some n
 number_in-decimal n h =
     let e : is_hexadecimal (decimal n) ≡ false = no_hexadecimal (decimal n) (decimal_is_IsNumeral n h).0.1 in
     rw e (numeral_up_to-decimal (2 ^ 64 - 1) n h h)

@@ -1,0 +1,4 @@
+mod Printed
+mod Reading
+mod ReadAgain
+mod SmallNumbers
