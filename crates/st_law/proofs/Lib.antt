@@ -1,3 +1,5 @@
+pub mod Asked
+pub mod Bars
 pub mod Begun
 pub mod Carried
 pub mod Copies
@@ -10,6 +12,7 @@ pub mod GivenRuns4
 pub mod GivenRuns5
 pub mod GivenRuns6
 pub mod GivenRuns7
+pub mod FirstRows
 pub mod Found
 pub mod Growth
 pub mod HeldCalls

@@ -1,4 +1,5 @@
 pub mod Arguments
+pub mod Bars
 pub mod Entries
 pub mod History
 pub mod Inputs
@@ -6,6 +7,7 @@ pub mod Lawful
 pub mod Laws
 pub mod Links
 pub mod Machine
+pub mod Meaning
 pub mod Messages
 pub mod OneStep
 pub mod Processes

@@ -4,5 +4,6 @@
 pub mod input;
 pub mod law;
 pub mod looking_back;
+pub mod meaning;
 
 pub use input::{Input, MOST_TIMES, Mode, Options, ReadSchedule, ScheduleLine, What};

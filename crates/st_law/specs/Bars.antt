@@ -1,0 +1,38 @@
+-- What a bar is: the kernel's own answer to a barred call, and what ends the call.
+use Rattle.std.specs.Prelude.{◌≡◌, ℕ, List, ◌∷◌, ◌++◌, Option, None}
+use Rattle.st_base.specs.declared.errno.Errno.{Errno}
+use Rattle.st_calls.specs.declared.call.SysCall.{SysCall}
+use Rattle.st_calls.specs.declared.rule.FastAnswer.{FastAnswer}
+use Rattle.st_calls.specs.declared.rule.FastAnswer.TheVariants as answer
+use Rattle.st_trace.specs.declared.entry.Cause.{Cause}
+use Rattle.st_trace.specs.declared.entry.Cause.TheVariants.{Filter}
+use Rattle.st_trace.specs.declared.entry.Entry.{Entry}
+use Rattle.st_trace.specs.declared.entry.Entry.TheVariants.{Entered, Used, Denied}
+use Rattle.st_trace.specs.declared.entry.Way.TheVariants.{Barred}
+use Rattle.st_law.specs.declared.input.Input.{Input}
+use Rattle.st_law.specs.History.{looking_back}
+use Rattle.st_law.specs.Lawful.{IsLawfulBack}
+use Rattle.st_law.specs.Splits.{NoneTouches}
+use Rattle.st_law.specs.State.{process_in, answer_in}
+use Rattle.st_law.specs.Threads.{History}
+
+-- an entry makes or denies the call of thread t
+abbrev pub EndsCallOf : ℕ → Entry → History → Type 0
+EndsCallOf t (Used u seq call regs args ids result changes) h = u ≡ t
+EndsCallOf t (Denied u seq errno cause) h = u ≡ t
+EndsCallOf t _ h = ⊥
+
+-- what the kernel answers by itself to this call of thread t, behind these entries
+abbrev pub answer_at : Input → History → ℕ → SysCall → List ℕ → FastAnswer
+answer_at i h t call regs = answer_in i (looking_back i h) (process_in (looking_back i h) t) call regs
+
+-- thread t enters a call that is barred, and no later entry makes or denies it
+pub record IsBarredSince (i : Input) (t n : ℕ) (call : SysCall) (regs : List ℕ) (later earlier : History) : Type 0 where
+  pub lawful : IsLawfulBack i (later ++ Entered t call regs (Barred n) ∷ earlier)
+  pub waits : NoneTouches (EndsCallOf t) later (Entered t call regs (Barred n) ∷ earlier)
+
+-- a call has no number, and is denied with the error of the kernel's own answer at its entering, by filter 1
+pub record IsDeniedByBar (i : Input) (t : ℕ) (call : SysCall) (regs : List ℕ) (earlier : History) (seq : Option ℕ) (errno : Errno) (cause : Cause) : Type 0 where
+  pub unheld : seq ≡ None
+  pub refused : answer_at i earlier t call regs ≡ answer.Refuse errno
+  pub cause_is : cause ≡ Filter 1
