@@ -58,6 +58,7 @@ pub mod ShortLinks
 pub mod ShortOutcomes
 pub mod ShortTables
 pub mod ShortTrees
+pub mod SmallRuns
 pub mod Splitting
 pub mod Standing
 pub mod Steps

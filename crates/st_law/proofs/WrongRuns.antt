@@ -1,6 +1,7 @@
 -- Wrong rules: for each, a trace that it would give, and that this trace isn't lawful. The wrong entry is the last. What stands before
 -- it is a run, and the right run goes on from there with another entry.
-use Rattle.std.proofs.Common.{◌≡◌, ℕ, true, false, List, [], ◌∷◌, ◌++◌, Some, None, refl, codes, ◌⊎◌, inl, inr, suc, sym, ap, ◌∙◌, ◌==◌}
+use native.Mathlib.Omega.{arith}
+use Rattle.std.proofs.Common.{◌≡◌, ℕ, true, false, List, [], ◌∷◌, ◌++◌, Option, Some, None, refl, codes, ◌⊎◌, inl, inr, suc, sym, ap, ◌∙◌, ◌==◌}
 use Rattle.std.specs.Fmt.{digits}
 use Rattle.std.specs.Prelude.{Bool, map, length, take, reverse, replicate, sum_by, drop}
 use Rattle.std.proofs.lemmas.Option.{same_Some}
@@ -8,38 +9,42 @@ use Rattle.std.proofs.lemmas.Bool.{eq-eqb}
 use Rattle.st_base.specs.declared.errno.Errno.TheVariants.{EPERM, ENOENT, EACCES, ELOOP}
 use Rattle.st_base.specs.declared.ids.Ids.{Ids}
 use Rattle.st_base.specs.declared.errno.Errno.{Errno}
-use Rattle.st_calls.specs.declared.argument.Label.TheVariants.{Uid, Pid, Signum}
+use Rattle.st_calls.specs.declared.argument.Label.TheVariants.{Filename, Uid, Pid, Signum}
 use Rattle.st_calls.specs.declared.call.SysCall.TheVariants.{Open, Exit, Kill, GetPid, GetUid, SetUid, Bind}
 use Rattle.st_calls.specs.declared.judged.Verdict.TheVariants.{Permit, Refuse, Unmatched}
 use Rattle.st_calls.specs.declared.rule.Rule.TheVariants as Rule
+use Rattle.st_calls.specs.declared.rule.Rule.TheVariants.{FsRead}
 use Rattle.st_calls.specs.declared.argument.ArgText.{ArgText}
 use Rattle.st_calls.specs.declared.judged.Snapshot.{Snapshot}
 use Rattle.st_calls.specs.declared.rule.FastAnswer.TheVariants as answer
+use Rattle.st_filter.specs.Formula.{True, Not}
+use Rattle.st_filter.specs.declared.filter.Action.TheVariants as action
 use Rattle.st_filter.specs.declared.filter.Cmp.TheVariants as cmp
 use Rattle.st_filter.specs.declared.filter.Who.TheVariants as who
-use Rattle.st_names.specs.declared.seen.SeenText.TheVariants.{Dir, File}
+use Rattle.st_names.specs.declared.seen.SeenText.TheVariants.{Missing, Dir, File}
 use Rattle.st_names.specs.declared.seen.SeenText.TheVariants as seen
 use Rattle.st_trace.specs.declared.entry.CallResult.TheVariants.{Value, Failed}
 use Rattle.st_trace.specs.declared.entry.Cause.TheVariants.{NoFilter}
 use Rattle.st_trace.specs.declared.entry.Cause.TheVariants as cause
-use Rattle.st_trace.specs.declared.entry.Change.TheVariants.{SetIds, Dying, Renewed}
-use Rattle.st_trace.specs.declared.entry.Entry.TheVariants.{Stored, Entered, Claimed, Copied, Looked, Faulted, Answered, Used, Denied, Ended, Learned}
+use Rattle.st_trace.specs.declared.entry.Change.TheVariants.{Removed, SetIds, Dying, Renewed}
+use Rattle.st_trace.specs.declared.entry.Entry.TheVariants.{Stored, Entered, Claimed, Copied, Looked, Faulted, Answered, Used, Denied, Ended, Learned, Replied}
 use Rattle.st_trace.specs.declared.entry.Way.TheVariants.{Fast, Barred, Held, Untraced}
 use Rattle.st_trace.specs.declared.entry.Entry.{Entry}
 use Rattle.st_trace.specs.declared.entry.CallResult.{CallResult}
 use Rattle.st_trace.specs.declared.entry.Change.{Change}
 use Rattle.st_law.specs.declared.input.Input.{Input}
-use Rattle.st_law.specs.declared.input.Mode.TheVariants.{Learn}
+use Rattle.st_law.specs.declared.input.Mode.TheVariants.{Learn, AskText}
 use Rattle.st_law.specs.History.{looking_back}
 use Rattle.st_law.specs.Lawful.{Lawful}
-use Rattle.st_law.specs.State.{decision_in, filter_count}
+use Rattle.st_law.specs.State.{decision_in, filter_count, is_reply_left}
+use Rattle.st_law.specs.Threads.{PendingCall}
 use Rattle.st_law.proofs.Writing.{name, link, thread_in, regs, call, permits, logged, only_if, granting, thread, worker, operator, trace, ids, arg}
-use Rattle.st_law.proofs.Writing.{copies}
+use Rattle.st_law.proofs.Writing.{copies, reply, when}
 use Rattle.st_law.proofs.HeldRuns.{rewriter, etc_denier, barred, nameless, maker}
 use Rattle.st_law.proofs.LinkRuns.{linker, tmp_permitted, tmp_linked}
 use Rattle.st_law.proofs.ProcessRuns.{killer, setter, set_ids, root_permitted, server, bound, bound_again, www, port}
 use Rattle.st_law.proofs.SessionRuns.{learner}
-use Rattle.st_law.proofs.Scripts.{etc_files, tmp_dir, asking_input, opens, user, root, filename, cat_copies, opened, passwd_copied}
+use Rattle.st_law.proofs.Scripts.{etc_files, tmp_dir, passwd_only, cat_input, asking_input, opens, user, root, filename, cat_copies, opened, passwd_copied}
 
 -- ---- what can't be
 
@@ -394,3 +399,137 @@ is_fast_and_asks_for_ids l = asks l.0.way_is.1
 
 is_fast_and_grants_ids : Lawful granting_ids (Entered 1 GetPid (regs 0 0 0) Fast ∷ []) → ⊥
 is_fast_and_grants_ids l = asks l.0.way_is.1
+
+-- ---- what is seen
+
+abbrev copied_name : List Entry
+copied_name = claimed ++ Copied 1 0 0 8314049735936992559 ∷ Copied 1 0 1 6584179 ∷ []
+
+sees_a_directory : trace rewriter (thread 1 3 ∷ worker 1 4 ∷ []) ≡ Some (copied_name ++ Looked 1 0 (name "/etc") Dir ∷ [])
+sees_a_directory = refl
+
+not_file : File ≡ Dir → ⊥
+not_file e = cc
+
+not_missing : Missing ≡ Dir → ⊥
+not_missing e = cc
+
+-- a file or nothing is seen in its place
+sees_a_file : Lawful rewriter (copied_name ++ Looked 1 0 (name "/etc") File ∷ []) → ⊥
+sees_a_file l = not_file l.0.seen_is
+
+sees_nothing : Lawful rewriter (copied_name ++ Looked 1 0 (name "/etc") Missing ∷ []) → ⊥
+sees_nothing l = not_missing l.0.seen_is
+
+-- ---- what a call shows
+
+abbrev value_of : CallResult → ℕ
+value_of (Value n) = n
+value_of (Failed errno) = 0
+
+abbrev plain : Input
+plain = maker GetPid (permits (Rule.Call GetPid))
+
+shows_its_process : trace plain (thread 1 2 ∷ []) ≡ Some (Entered 1 GetPid (regs 0 0 0) Fast ∷ Used 1 None GetPid (regs 0 0 0) [] root (Value 1) [] ∷ [])
+shows_its_process = refl
+
+-- a fast call is made under other ids, or gives another number
+made_under_other_ids : Lawful plain (Entered 1 GetPid (regs 0 0 0) Fast ∷ Used 1 None GetPid (regs 0 0 0) [] user (Value 1) [] ∷ []) → ⊥
+made_under_other_ids l = unequal 1000 0 refl (ap (λ x. x.euid) l.0.identity)
+
+gives_another_number : Lawful plain (Entered 1 GetPid (regs 0 0 0) Fast ∷ Used 1 None GetPid (regs 0 0 0) [] root (Value 2) [] ∷ []) → ⊥
+gives_another_number l = unequal 2 1 refl (ap value_of l.0.outcome.1.result_is)
+
+-- a held call gives another descriptor, or changes what it doesn't change
+gives_another_descriptor : Lawful rewriter (rewritten_late ++ opened 1 "/etc/passwd" user 4 ∷ []) → ⊥
+gives_another_descriptor l = unequal 4 3 refl (ap value_of l.0.outcome.result_is)
+
+removes_what_it_opens : Lawful rewriter (
+    rewritten_late ++ Used 1 (Some 1) Open (regs 0 0 0) (filename "/etc/passwd") user (Value 3) (Removed (name "/etc/passwd") ∷ []) ∷ []) → ⊥
+removes_what_it_opens l = not_empty (Removed (name "/etc/passwd")) [] (sym l.0.outcome.changes_are)
+
+-- a call whose name is faulty shows it
+abbrev fast_nameless : Input
+fast_nameless = cat_input (permits FsRead ∷ []) etc_files (thread_in 1 (call Open 0 0 0 ∷ []) ∷ [])
+
+shows_no_faulty_name : trace fast_nameless (thread 1 2 ∷ []) ≡ Some (Entered 1 Open (regs 0 0 0) Fast ∷ Used 1 None Open (regs 0 0 0) [] user (Failed ENOENT) [] ∷ [])
+shows_no_faulty_name = refl
+
+shows_a_faulty_name : Lawful fast_nameless (Entered 1 Open (regs 0 0 0) Fast ∷ Used 1 None Open (regs 0 0 0) (filename "/x") user (Failed ENOENT) [] ∷ []) → ⊥
+shows_a_faulty_name l = not_empty (arg Filename 0 "/x") [] (sym l.0.outcome.args_are)
+
+-- ---- denials with other errors
+
+not_eacces : EACCES ≡ EPERM → ⊥
+not_eacces e = cc
+
+not_eperm : EPERM ≡ ELOOP → ⊥
+not_eperm e = cc
+
+abbrev undecided : Input
+undecided = maker GetPid (when (Rule.Call GetPid) (Not True) action.Permit)
+
+abbrev unmatched : List Entry
+unmatched = Entered 1 GetPid (regs 0 0 0) (Held 1) ∷ Claimed 1 1 ∷ Answered 1 (copies 1 1 root "/bin/a" (Rule.Call GetPid) GetPid (regs 0 0 0) []) Unmatched true ∷ []
+
+denies_with_eperm : trace undecided (thread 1 1 ∷ worker 1 2 ∷ thread 1 1 ∷ []) ≡ Some (unmatched ++ Denied 1 (Some 1) EPERM NoFilter ∷ [])
+denies_with_eperm = refl
+
+denies_with_another_error : Lawful undecided (unmatched ++ Denied 1 (Some 1) EACCES NoFilter ∷ []) → ⊥
+denies_with_another_error l = not_eacces l.0.cause_is.4
+
+denies_a_link_with_another_error : Lawful linker (linked_late ++ Denied 1 (Some 1) EPERM (cause.Link (name "/tmp/f")) ∷ []) → ⊥
+denies_a_link_with_another_error l = not_eperm l.0.cause_is.4
+
+-- ---- ends
+
+-- neither of two things that a pending call keeps from holding
+unended : {A : Type 0} {P : Type 0} (dying : Bool) → dying ≡ false → (a : A) (pending : Option A) → pending ≡ Some a → (dying ≡ true) ⊎ (P × (pending ≡ None)) → ⊥
+unended dying d a pending e (inl x) = cc
+unended dying d a pending e (inr x) = let none = x.1 in cc
+
+-- a thread ends while its last call waits for an answer
+ends_with_a_call_pending : Lawful nameless (Entered 1 Open (regs 0 0 0) (Held 1) ∷ Ended 1 ∷ []) → ⊥
+ends_with_a_call_pending l =
+    let waiting : PendingCall = record { call = Open; regs = regs 0 0 0; way = Held 1; child = 0 } in unended false refl waiting (Some waiting) refl l.0.over
+
+-- ---- the operator
+
+-- the script has two replies for one question
+abbrev two_replies : Input
+two_replies = asking_input AskText etc_files (thread_in 1 (opens "/etc/passwd") ∷ []) (reply "/bin/cat" passwd_only ∷ reply "/bin/cat" passwd_only ∷ [])
+
+gives_the_first_reply : trace two_replies (thread 1 3 ∷ worker 1 6 ∷ operator 1 ∷ []) ≡ Some (asked ++ Replied 1 1 1 ∷ [])
+gives_the_first_reply = refl
+
+abbrev left_in : Input → ℕ → Snapshot → Bool
+left_in i r s = is_reply_left i (looking_back i (reverse asked)) s.policy s.rule r
+
+-- the second is given first
+gives_a_later_reply : Lawful two_replies (asked ++ Replied 1 2 1 ∷ []) → ⊥
+gives_a_later_reply l = not_false (said_of (left_in two_replies 1) (cat_copies 1 user "/etc/passwd") l.0.copies true false
+    l.0.asked.copies refl (l.0.first 1 (omega arith) (omega arith)))
+
+-- or one for another binary
+abbrev other_reply : Input
+other_reply = asking_input AskText etc_files (thread_in 1 (opens "/etc/passwd") ∷ []) (reply "/bin/sh" passwd_only ∷ reply "/bin/cat" passwd_only ∷ [])
+
+gives_the_reply_of_its_binary : trace other_reply (thread 1 3 ∷ worker 1 6 ∷ operator 1 ∷ []) ≡ Some (asked ++ Replied 1 2 1 ∷ [])
+gives_the_reply_of_its_binary = refl
+
+gives_a_reply_of_another_binary : Lawful other_reply (asked ++ Replied 1 1 1 ∷ []) → ⊥
+gives_a_reply_of_another_binary l = not_true (said_of (left_in other_reply 1) (cat_copies 1 user "/etc/passwd") l.0.copies false true
+    l.0.asked.copies refl l.0.there)
+
+-- it learns where it has to reply, and replies where it has to learn
+not_learning : AskText ≡ Learn → ⊥
+not_learning e = cc
+
+not_asking : Learn ≡ AskText → ⊥
+not_asking e = cc
+
+learns_where_it_replies : Lawful two_replies (asked ++ Learned 1 1 ∷ []) → ⊥
+learns_where_it_replies l = not_learning l.0.mode
+
+replies_where_it_learns : Lawful learner (asked ++ Replied 1 1 1 ∷ []) → ⊥
+replies_where_it_learns l = not_asking l.0.mode
