@@ -7,11 +7,6 @@ pub mod EndOfRuns
 pub mod FileRuns
 pub mod GivenRuns1
 pub mod GivenRuns2
-pub mod GivenRuns3
-pub mod GivenRuns4
-pub mod GivenRuns5
-pub mod GivenRuns6
-pub mod GivenRuns7
 pub mod FirstRows
 pub mod Found
 pub mod Growth

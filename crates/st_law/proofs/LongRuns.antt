@@ -1,38 +1,46 @@
--- Runs over long names and many links: how they are judged and end, and how many entries they have, was worked out from the rules.
+-- Runs over long names and many links. The calls are made in one step, which takes what a worker would have come to; how they end was
+-- worked out from the rules.
 use Prim.Native.String as text
-use Rattle.std.proofs.Common.{◌≡◌, ℕ, true, List, [], ◌∷◌, ◌++◌, Some, refl, codes, ◌+◌}
+use Rattle.std.proofs.Common.{◌≡◌, ℕ, List, [], ◌∷◌, ◌++◌, None, refl, codes}
 use Rattle.std.specs.Prelude.{replicate}
 use Rattle.st_base.specs.declared.errno.Errno.TheVariants.{ELOOP, ENAMETOOLONG}
-use Rattle.st_calls.specs.declared.call.SysCall.TheVariants.{Open}
-use Rattle.st_calls.specs.declared.judged.Verdict.TheVariants.{Permit}
-use Rattle.st_trace.specs.declared.entry.Cause.TheVariants as cause
-use Rattle.st_trace.specs.declared.entry.Entry.TheVariants.{Faulted, Answered, Denied}
+use Rattle.st_calls.specs.declared.call.SysCall.TheVariants.{Open, Read}
+use Rattle.st_trace.specs.declared.entry.CallResult.TheVariants.{Value, Failed}
+use Rattle.st_trace.specs.declared.entry.Change.TheVariants.{Put}
+use Rattle.st_trace.specs.declared.entry.Entry.TheVariants.{Used}
+use Rattle.st_trace.specs.declared.start.Instr.{Instr}
 use Rattle.st_trace.specs.declared.start.TreeRow.{TreeRow}
 use Rattle.st_law.specs.declared.input.Input.{Input}
-use Rattle.st_law.proofs.Writing.{link, thread_in, put_bytes, call, rest, trace}
-use Rattle.st_law.proofs.Scripts.{etc_files, passwd_only, cat_input, opens, user, cat_copies, opened, told_of}
+use Rattle.st_law.specs.declared.input.Mode.TheVariants.{Enforce}
+use Rattle.st_law.proofs.Writing.{file, link, untraced, thread_in, regs, call, input, plainly, rest, trace}
+use Rattle.st_law.proofs.Scripts.{etc_files, opens, user, filename, calls_of}
+
+-- one untraced process
+abbrev opener : List TreeRow → List Instr → Input
+opener objects body = input (plainly Enforce) [] objects (untraced "/bin/cat" 1000 1000 "/" ∷ []) (thread_in 1 body ∷ []) []
 
 -- ---- long names
 
--- cat opens /etc/passwd by a name with so many slashes in front
-abbrev slashed : ℕ → Input
-slashed count = cat_input (passwd_only ∷ []) etc_files
-    (thread_in 1 (put_bytes 0 (replicate count 47 ++ codes "etc/passwd") ++ call Open 0 0 0 ∷ []) ∷ [])
+-- a name with so many slashes in front
+abbrev slashed : ℕ → List ℕ
+slashed count = replicate count 47 ++ codes "etc/passwd"
 
--- a name of 1,024 bytes: 129 words are stored, and as many copied
-the_longest_name : told_of (trace (slashed 1014) (rest ∷ [])) ≡ (
-  Answered 1 (cat_copies 1 user "/etc/passwd") (Permit 1 user) true ∷
-      opened 1 "/etc/passwd" user 3 ∷ [],
-  129 + 2 + 129 + 2 + 3,
-)
+-- cat reads it from a file into its memory, and opens it
+abbrev name_reader : ℕ → Input
+name_reader count = opener (etc_files ++ file "/n" 0 0 420 (slashed count) ∷ []) (opens "/n" ++ call Read 3 64 1025 ∷ call Open 64 0 0 ∷ [])
+
+-- a name of 1,024 bytes
+the_longest_name : calls_of (trace (name_reader 1014) (rest ∷ [])) ≡
+    Used 1 None Open (regs 0 0 0) (filename "/n") user (Value 3) [] ∷
+    Used 1 None Read (regs 3 64 1025) [] user (Value 1024) (Put 1 64 (slashed 1014) ∷ []) ∷
+    Used 1 None Open (regs 64 0 0) (filename "/etc/passwd") user (Value 4) [] ∷ []
 the_longest_name = refl
 
--- the last word has a byte too many
-a_name_too_long : told_of (trace (slashed 1015) (rest ∷ [])) ≡ (
-  Faulted 1 ENAMETOOLONG ∷
-      Denied 1 (Some 1) ENAMETOOLONG cause.Fault ∷ [],
-  129 + 2 + 129 + 3,
-)
+-- and one with a byte too many
+a_name_too_long : calls_of (trace (name_reader 1015) (rest ∷ [])) ≡
+    Used 1 None Open (regs 0 0 0) (filename "/n") user (Value 3) [] ∷
+    Used 1 None Read (regs 3 64 1025) [] user (Value 1025) (Put 1 64 (slashed 1015) ∷ []) ∷
+    Used 1 None Open (regs 64 0 0) [] user (Failed ENAMETOOLONG) [] ∷ []
 a_name_too_long = refl
 
 -- ---- many links
@@ -49,20 +57,12 @@ links =
     link "/l31" 0 0 "/l32" ∷ link "/l32" 0 0 "/l33" ∷ link "/l33" 0 0 "/etc/passwd" ∷ []
 
 abbrev linked : text.String → Input
-linked text = cat_input (passwd_only ∷ []) (etc_files ++ links) (thread_in 1 (opens text) ∷ [])
+linked text = opener (etc_files ++ links) (opens text)
 
--- 32 links are looked at, and the two components that they lead to
-thirty_two_links : told_of (trace (linked "/l2") (rest ∷ [])) ≡ (
-  Answered 1 (cat_copies 1 user "/etc/passwd") (Permit 1 user) true ∷
-      opened 1 "/etc/passwd" user 3 ∷ [],
-  4 + 32 + 2 + 3,
-)
+-- 32 links are looked at
+thirty_two_links : calls_of (trace (linked "/l2") (rest ∷ [])) ≡ Used 1 None Open (regs 0 0 0) (filename "/etc/passwd") user (Value 3) [] ∷ []
 thirty_two_links = refl
 
 -- the look at the 33rd is the last
-thirty_three_links : told_of (trace (linked "/l1") (rest ∷ [])) ≡ (
-  Faulted 1 ELOOP ∷
-      Denied 1 (Some 1) ELOOP cause.Fault ∷ [],
-  4 + 33 + 3,
-)
+thirty_three_links : calls_of (trace (linked "/l1") (rest ∷ [])) ≡ Used 1 None Open (regs 0 0 0) [] user (Failed ELOOP) [] ∷ []
 thirty_three_links = refl

@@ -1,4 +1,4 @@
--- What several computed runs share: a reader of /etc/passwd with its files and its policy, and what is told of long runs.
+-- What several computed runs share: a reader of /etc/passwd with its files and its policy, and what is told of runs.
 use Prim.Native.String.{String}
 use Rattle.std.proofs.Common.{ℕ, true, false, List, [], ◌∷◌, ◌++◌, Some, None, codes}
 use Rattle.std.specs.Prelude.{Bool, Option, filter, length}
@@ -24,7 +24,7 @@ use Rattle.st_trace.specs.declared.start.TreeRow.{TreeRow}
 use Rattle.st_law.specs.declared.input.Input.{Input}
 use Rattle.st_law.specs.declared.input.Mode.TheVariants.{Enforce}
 use Rattle.st_law.specs.declared.input.Mode.{Mode}
-use Rattle.st_law.proofs.Writing.{name, dir, file, traced, put, regs, call, policy, when, test, reply, input, plainly, ids, arg, copies}
+use Rattle.st_law.proofs.Writing.{name, dir, file, link, traced, put, regs, call, policy, when, test, reply, input, plainly, ids, arg, copies}
 
 -- ---- scripts
 
@@ -33,6 +33,22 @@ etc_files = dir "/etc" 0 0 493 ∷ file "/etc/passwd" 0 0 420 (codes "root") ∷
 
 abbrev pub tmp_dir : TreeRow
 tmp_dir = dir "/tmp" 0 0 511
+
+-- directories, files and links of several owners and modes
+abbrev pub many_files : List TreeRow
+many_files =
+    dir "/d" 0 0 493 ∷ dir "/d/sub" 0 0 493 ∷ dir "/d/sub/deep" 1000 1000 493 ∷ file "/d/f" 0 0 420 (codes "hello") ∷
+    file "/d/sub/g" 1000 1000 384 (codes "gg") ∷ file "/d/secret" 0 0 384 (codes "s") ∷ dir "/tmp" 0 0 511 ∷ dir "/priv" 0 0 448 ∷
+    file "/priv/x" 0 0 420 (codes "x") ∷ dir "/w" 1000 1000 493 ∷ file "/w/own" 1000 1000 420 (109 ∷ 105 ∷ 110 ∷ 101 ∷ 1 ∷ 255 ∷ 36 ∷ []) ∷
+    dir "/w/empty" 1000 1000 493 ∷ dir "/w/full" 1000 5 509 ∷ file "/w/full/k" 1000 1000 420 (codes "k") ∷ dir "/nox" 0 0 420 ∷
+    file "/nox/y" 0 0 420 (codes "y") ∷ dir "/ro" 1000 5 365 ∷ file "/ro/z" 1000 5 292 (codes "z") ∷ dir "/bin" 0 0 493 ∷
+    file "/bin/a" 0 0 493 (codes "a") ∷ file "/bin/sh" 0 0 4 (codes "sh") ∷ file "/bin/cat" 5 5 73 (codes "c") ∷
+    file "/bin/noexec" 0 0 420 (codes "n") ∷ file "/bin/empty" 0 0 493 [] ∷ link "/l" 0 0 "/d" ∷ link "/lf" 0 0 "/d/f" ∷ link "/ld" 0 0 "/nowhere" ∷
+    link "/loop" 0 0 "/loop" ∷ link "/d/rel" 0 0 "sub/../f" ∷ link "/d/up" 0 0 ".." ∷ link "/tmp/l" 1000 1000 "/d/sub" ∷ link "/lroot" 0 0 "/" ∷
+    link "/lfile" 0 0 "/d/f/" ∷ []
+
+abbrev pub more_files : List TreeRow
+more_files = many_files ++ dir "/tmp/e" 0 0 511 ∷ file "/tmp/f" 0 0 420 (codes "f") ∷ file "/tmp/e/f" 0 0 493 (codes "ef") ∷ []
 
 -- a file is read only by this name
 abbrev pub reads_only : String → FilterValue
@@ -81,7 +97,7 @@ passwd_copied =
     Copied 1 0 0 8314049735936992559 ∷ Copied 1 0 1 6584179 ∷
     Looked 1 0 (name "/etc") Dir ∷ Looked 1 0 (name "/etc/passwd") File ∷ []
 
--- ---- what is told of long runs
+-- ---- what is told of runs
 
 abbrev pub is_call_end : Entry → Bool
 is_call_end (Used t seq call regs args ids result changes) = true
@@ -109,7 +125,3 @@ judgements_of (Some entries) = filter is_ending entries
 abbrev pub entry_count : Option (List Entry) → ℕ
 entry_count None = 0
 entry_count (Some entries) = length entries
-
--- both
-abbrev pub told_of : Option (List Entry) → List Entry × ℕ
-told_of run = (judgements_of run, entry_count run)
