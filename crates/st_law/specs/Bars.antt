@@ -22,7 +22,7 @@ EndsCallOf t (Used u seq call regs args ids result changes) h = u ≡ t
 EndsCallOf t (Denied u seq errno cause) h = u ≡ t
 EndsCallOf t _ h = ⊥
 
--- what the kernel answers by itself to this call of thread t, behind these entries
+-- what the kernel answers by itself to this call of thread t, after these entries
 abbrev pub answer_at : Input → History → ℕ → SysCall → List ℕ → FastAnswer
 answer_at i h t call regs = answer_in i (looking_back i h) (process_in (looking_back i h) t) call regs
 
