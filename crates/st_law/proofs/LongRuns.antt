@@ -1,23 +1,20 @@
--- Runs over long names and many links. The calls are made in one step, which takes what a worker would have come to; how they end was
--- worked out from the rules.
+-- The longest name that words spell, and runs over many links. Their calls are made in one step, which takes what a worker would have
+-- come to; how they end was worked out from the rules.
 use Prim.Native.String as text
-use Rattle.std.proofs.Common.{◌≡◌, ℕ, List, [], ◌∷◌, ◌++◌, None, refl, codes}
-use Rattle.std.specs.Prelude.{replicate}
+use Rattle.std.proofs.Common.{◌≡◌, ℕ, zero, suc, List, [], ◌∷◌, ◌++◌, None, refl, codes}
+use Rattle.std.specs.Int.{w64, from_le_bytes}
+use Rattle.std.specs.Prelude.{drop, replicate, take}
 use Rattle.st_base.specs.declared.errno.Errno.TheVariants.{ELOOP, ENAMETOOLONG}
-use Rattle.st_calls.specs.declared.call.SysCall.TheVariants.{Open, Read}
+use Rattle.st_calls.specs.declared.call.SysCall.TheVariants.{Open}
+use Rattle.st_model.specs.Spelling.{Fault, Text, spell_name}
 use Rattle.st_trace.specs.declared.entry.CallResult.TheVariants.{Value, Failed}
-use Rattle.st_trace.specs.declared.entry.Change.TheVariants.{Put}
 use Rattle.st_trace.specs.declared.entry.Entry.TheVariants.{Used}
 use Rattle.st_trace.specs.declared.start.Instr.{Instr}
 use Rattle.st_trace.specs.declared.start.TreeRow.{TreeRow}
 use Rattle.st_law.specs.declared.input.Input.{Input}
 use Rattle.st_law.specs.declared.input.Mode.TheVariants.{Enforce}
-use Rattle.st_law.proofs.Writing.{file, link, untraced, thread_in, regs, call, input, plainly, rest, trace}
+use Rattle.st_law.proofs.Writing.{link, untraced, thread_in, regs, input, plainly, rest, trace}
 use Rattle.st_law.proofs.Scripts.{etc_files, opens, user, filename, calls_of}
-
--- one untraced process
-abbrev opener : List TreeRow → List Instr → Input
-opener objects body = input (plainly Enforce) [] objects (untraced "/bin/cat" 1000 1000 "/" ∷ []) (thread_in 1 body ∷ []) []
 
 -- ---- long names
 
@@ -25,25 +22,24 @@ opener objects body = input (plainly Enforce) [] objects (untraced "/bin/cat" 10
 abbrev slashed : ℕ → List ℕ
 slashed count = replicate count 47 ++ codes "etc/passwd"
 
--- cat reads it from a file into its memory, and opens it
-abbrev name_reader : ℕ → Input
-name_reader count = opener (etc_files ++ file "/n" 0 0 420 (slashed count) ∷ []) (opens "/n" ++ call Read 3 64 1025 ∷ call Open 64 0 0 ∷ [])
+-- its words in memory, with a zero byte behind it
+abbrev words : ℕ → List ℕ → List ℕ
+words zero bytes = []
+words (suc count) bytes = from_le_bytes w64 (take 8 (bytes ++ replicate 8 0)) ∷ words count (drop 8 bytes)
 
 -- a name of 1,024 bytes
-the_longest_name : calls_of (trace (name_reader 1014) (rest ∷ [])) ≡
-    Used 1 None Open (regs 0 0 0) (filename "/n") user (Value 3) [] ∷
-    Used 1 None Read (regs 3 64 1025) [] user (Value 1024) (Put 1 64 (slashed 1014) ∷ []) ∷
-    Used 1 None Open (regs 64 0 0) (filename "/etc/passwd") user (Value 4) [] ∷ []
+the_longest_name : spell_name 0 (words 129 (slashed 1014)) ≡ Text (slashed 1014)
 the_longest_name = refl
 
 -- and one with a byte too many
-a_name_too_long : calls_of (trace (name_reader 1015) (rest ∷ [])) ≡
-    Used 1 None Open (regs 0 0 0) (filename "/n") user (Value 3) [] ∷
-    Used 1 None Read (regs 3 64 1025) [] user (Value 1025) (Put 1 64 (slashed 1015) ∷ []) ∷
-    Used 1 None Open (regs 64 0 0) [] user (Failed ENAMETOOLONG) [] ∷ []
+a_name_too_long : spell_name 0 (words 129 (slashed 1015)) ≡ Fault ENAMETOOLONG
 a_name_too_long = refl
 
 -- ---- many links
+
+-- one untraced process
+abbrev opener : List TreeRow → List Instr → Input
+opener objects body = input (plainly Enforce) [] objects (untraced "/bin/cat" 1000 1000 "/" ∷ []) (thread_in 1 body ∷ []) []
 
 -- each leads to the next, and the last to /etc/passwd
 abbrev links : List TreeRow

@@ -1,2 +1,3 @@
 mod Enforced
+mod PlayedAgain
 mod ReadAgain

@@ -1,15 +1,20 @@
--- A text of policies that `step` has written, read again.
+-- A text of policies or of a schedule that `step` has written, read again.
 use Rattle.std.specs.Prelude.{◌≡◌, ℕ, false, List, [], Ok}
 use Rattle.st_command.specs.Command.{StepWords}
 use Rattle.st_command.specs.Words.{Word}
+use Rattle.st_command.specs.declared.command.Command.TheVariants.{Step}
 use Rattle.st_filter.specs.declared.set.BinaryPolicy.{BinaryPolicy}
 use Rattle.st_outside.specs.Files.{FileView, Unknown, Absent, FileBytes, CanHold}
 use Rattle.st_grammar.specs.Grammar.{Reads}
 use Rattle.st_reread.specs.Readable.{AreTextBytes}
 use Rattle.st_grammar.specs.declared.env.Env.{Env}
-use Rattle.st_reading.specs.Meaning.{Held}
+use Rattle.st_law.specs.Schedules.{Choices, played}
+use Rattle.st_law.specs.declared.input.Input.{Input}
+use Rattle.st_law.specs.declared.input.ReadSchedule.{ReadSchedule}
+use Rattle.st_reading.specs.Meaning.{Held, Means, Runs}
 use Rattle.st_script.specs.Reading.{script_in}
 use Rattle.st_script.specs.declared.reading.ReadScript.{ReadScript}
+use Rattle.st_trace.specs.declared.entry.Choice.{Choice}
 
 -- it is told what a name holds, and a file is of bytes
 abbrev pub HoldsBytes : FileView → Type 0
@@ -35,3 +40,13 @@ enforcing env = record { users = env.users; groups = env.groups; dollars = env.d
 pub record IsReadAgain (text : List ℕ) (env : Env) (policies : List BinaryPolicy) : Type 0 where
   pub reads : Reads text env [] policies
   pub alone : (other : List BinaryPolicy) → Reads text env [] other → other ≡ policies
+
+-- the same words, but for the schedule, which is in this file
+abbrev pub with_schedule : StepWords → Word → StepWords
+with_schedule step name = record { policies = step.policies; script = step.script; schedule = name; options = step.options; print = step.print }
+
+-- `step` means to run this input, by a schedule that comes to these choices
+pub record Plays (held : Held) (step : StepWords) (input : Input) (choices : List Choice) : Type 0 where
+  pub schedule : ReadSchedule
+  pub meant : Means held (Step step) (Runs input schedule)
+  pub played_to : played input schedule ≡ Choices choices

@@ -1,4 +1,4 @@
-ghost use Rattle.std.specs.Prelude.{◌≡◌, ◌≤◌, ◌∷◌, List, [], reverse};
+ghost use Rattle.std.specs.Prelude.{◌≡◌, ◌≤◌, ◌∷◌, List, [], length, reverse};
 ghost use Rattle.st_command.specs.Command.{StepWords};
 ghost use Rattle.st_command.specs.Reading.{IsWithinLimits};
 ghost use Rattle.st_command.specs.Words.{Word};
@@ -7,12 +7,14 @@ ghost use Rattle.st_command.specs.declared.given.Print.TheVariants as print;
 ghost use Rattle.st_filter.specs.Policies.{filters_in};
 ghost use Rattle.st_filter.specs.declared.set.TheConstants.{MOST_FILTERS};
 ghost use Rattle.st_law.specs.Machine.{run};
+ghost use Rattle.st_law.specs.Schedules.{Choices, played};
 ghost use Rattle.st_law.specs.declared.input.Input.{Input};
 ghost use Rattle.st_law.specs.declared.input.Mode.TheVariants.{Learn};
 ghost use Rattle.st_law.specs.declared.input.ReadSchedule.{ReadSchedule};
 ghost use Rattle.st_outside.specs.Files.{FileBytes};
+ghost use Rattle.st_outside.specs.declared.files.TheConstants.{FILE_LIMIT};
 ghost use Rattle.st_reading.specs.Meaning.{Held, Means, Runs};
-ghost use Rattle.st_round_trip.specs.RoundTrip.{HoldBytes, IsReadAgain, IsScriptOf, enforcing};
+ghost use Rattle.st_round_trip.specs.RoundTrip.{HoldBytes, IsReadAgain, IsScriptOf, Plays, enforcing, with_schedule};
 ghost use Rattle.st_script.specs.declared.reading.ReadScript.{ReadScript};
 ghost use Rattle.st_top.specs.Learning.{PermitsWhatWasMade, policies_behind};
 ghost use Rattle.st_top.specs.Outcome.{printed};
@@ -24,6 +26,7 @@ use st_relearn::law::{
     learnt_text_is_read_again, what_a_run_adds_can_be_written, what_a_script_says_can_be_written,
     what_was_read_is_what_can_be_written,
 };
+use st_reschedule::law::a_printed_schedule_is_read_again;
 use st_top::law::what_was_made_is_permitted_by_what_is_written;
 
 /// What `step` writes of a run that learns, where policies are asked for, is read again with what the script gives, while filters are
@@ -51,4 +54,14 @@ pub fn what_was_learnt_is_enforced()
 {
     what_is_written_is_read_again();
     what_was_made_is_permitted_by_what_is_written();
+}
+
+/// What `step` writes of a run, where its schedule is asked for, makes the same run again: where a name holds that text, which isn't longer than a
+/// file may be, `step` with it as its schedule, and else the same words, means to run the same input, and its schedule comes to the same choices.
+pub fn what_is_written_is_played_again()
+    ensures { (held : Held) (step : StepWords) (input : Input) (schedule : ReadSchedule) → IsWithinLimits (Step step) → Means held (Step step) (Runs input schedule) → (choices : List Choice) → played input schedule ≡ Choices choices →
+        (name : Word) → held name ≡ FileBytes (printed print.Schedule input choices) → length (printed print.Schedule input choices) ≤ FILE_LIMIT → Plays held (with_schedule step name) input choices }
+{
+    what_is_meant_to_run_can_run();
+    a_printed_schedule_is_read_again();
 }

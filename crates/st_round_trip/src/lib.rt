@@ -1,4 +1,4 @@
-//! What `step` writes of a run that learns, read again by `step`.
+//! What `step` writes of a run, as policies or as a schedule, read again by `step`.
 #![tactic(auto)]
 
 pub mod law;
