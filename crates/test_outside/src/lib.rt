@@ -1,0 +1,7 @@
+//! Tests of files and sinks, over memory and over the host.
+#![tactic(auto)]
+
+#[cfg(test)]
+mod files;
+#[cfg(test)]
+mod sinks;
