@@ -1,0 +1,34 @@
+use st_grammar::{Place, PolicyFault, PolicyRefusal};
+use st_script_faults::ScriptFault;
+use st_top::{Status, Which};
+
+const REFUSAL: PolicyRefusal = PolicyRefusal {
+    fault: PolicyFault::Expected(0),
+    place: Place::Start,
+};
+
+// Why a file is refused, or isn't read.
+fn status_of_file(number: u32) -> Status {
+    match number {
+        5 => Status::Missing(Which::Policy(1)),
+        6 => Status::Missing(Which::Policy(2)),
+        7 => Status::Missing(Which::Script),
+        8 => Status::TooLong(Which::Schedule),
+        9 => Status::Policy(1, REFUSAL),
+        10 => Status::Policy(2, REFUSAL),
+        11 => Status::Script(ScriptFault::Expected(1)),
+        _ => Status::Schedule(1),
+    }
+}
+
+/// The status of a number by which a table names it.
+pub fn status_of(number: u32) -> Status {
+    match number {
+        0 => Status::Done,
+        1 => Status::Usage,
+        2 => Status::ReadFault,
+        3 => Status::WriteFault,
+        4 => Status::NoMemory,
+        _ => status_of_file(number),
+    }
+}

@@ -1,0 +1,238 @@
+//! A table of calls, line by line. The first byte of a line says what the rest is:
+//!
+//! | Byte | Rest |
+//! |---|---|
+//! | `#` | a remark |
+//! | `@` | nothing: no file is held any more, and no read or write fails |
+//! | `=` | a name: a file begins, which is held from the next call on |
+//! | `|` | a line of the file |
+//! | `.` | bytes of the file, without a newline |
+//! | `x` | how many times the next such line or bytes stand in the file |
+//! | `f` | which fetch of a file fails |
+//! | `r`, `s`, `w` | how much room there is for what is written; which write takes one byte; which write fails |
+//! | `n` | the number of a status |
+//! | `$`, `&`, `?`, `!`, `^` | words, each after a blank: a call |
+//! | `:` | words that end with the status of the number, where no file can be read |
+//! | `a` | words that are answered or not |
+//!
+//! Of a call there is written, after its line: by `$` what it writes, the number that it ends with, and what is told; by `&` what it writes,
+//! and its status; by `?` what is told, by `!` the first line of this, and by `^` the other lines.
+
+use crate::call::{Ended, call, tell_status};
+use crate::statuses::status_of;
+use st_base::Text;
+use st_base::number::number_of;
+use st_outside::MemoryFiles;
+use st_telling::answer_of;
+use std::alloc::{AllocError, Global};
+
+/// What the lines have said so far, and what was written of them.
+#[derive(Drop)]
+pub struct Table {
+    alloc: Global,
+    files: MemoryFiles,
+    name: Text,
+    content: Text,
+    times: u32,
+    number: u32,
+    limits: Limits,
+    written: Text,
+}
+
+/// How much room there is for what a call writes, which of its writes takes one byte, and which fails; none is number 0.
+#[derive(Clone, Copy)]
+pub struct Limits {
+    pub room: u32,
+    pub short: u32,
+    pub fail: u32,
+}
+
+const AMPLE: Limits = Limits {
+    room: 8000,
+    short: 0,
+    fail: 0,
+};
+
+// The number that digits write; 0 where they write none.
+fn count_of(digits: &[u8]) -> u32 {
+    match number_of(digits) {
+        Some(number) if number <= u64::from(u32::MAX) => number as u32,
+        _ => 0,
+    }
+}
+
+// The words that a line has, each after a blank.
+fn words_of(alloc: Global, line: &[u8]) -> Result<Vec<Text>, AllocError> {
+    let mut words = Vec::new(alloc);
+    for word in line.split(|byte| *byte == b' ').skip(1) {
+        words.push(Text::of(alloc, word)?)?;
+    }
+    Ok(words)
+}
+
+// The bytes of a text up to its first newline.
+fn first_line(text: &[u8]) -> &[u8] {
+    let len = text.iter().take_while(|byte| **byte != b'\n').count();
+    &text[..len.min(text.len())]
+}
+
+// The bytes of a text after its first newline.
+fn other_lines(text: &[u8]) -> &[u8] {
+    let len = first_line(text).len().saturating_add(1);
+    &text[text.len().min(len)..]
+}
+
+impl Table {
+    /// Before the first line.
+    pub fn new(alloc: Global) -> Self {
+        Table {
+            alloc,
+            files: MemoryFiles::new(alloc),
+            name: Text::new(alloc),
+            content: Text::new(alloc),
+            times: 1,
+            number: 0,
+            limits: AMPLE,
+            written: Text::new(alloc),
+        }
+    }
+
+    /// What was written so far.
+    pub fn written(&self) -> &[u8] {
+        self.written.bytes()
+    }
+
+    /// Writes a line, or lines.
+    pub fn write_line(&mut self, line: &[u8]) -> Result<(), AllocError> {
+        self.written.append(line)?;
+        self.written.push(b'\n')
+    }
+
+    /// Serves a line.
+    pub fn serve_line(&mut self, line: &[u8]) -> Result<(), AllocError> {
+        match line.split_first() {
+            Some((mark, rest)) => self.serve(*mark, line, rest),
+            None => Ok(()),
+        }
+    }
+
+    fn serve(&mut self, mark: u8, line: &[u8], rest: &[u8]) -> Result<(), AllocError> {
+        match mark {
+            b'#' => Ok(()),
+            b'@' => {
+                self.forget();
+                Ok(())
+            }
+            b'=' => self.begin(rest),
+            b'|' => self.add(rest, b"\n"),
+            b'.' => self.add(rest, b""),
+            b'f' => self.files.fail_at(count_of(rest)),
+            b'x' | b'n' | b'r' | b's' | b'w' => {
+                self.set(mark, count_of(rest));
+                Ok(())
+            }
+            _ => {
+                self.write_line(line)?;
+                self.serve_words(mark, rest)
+            }
+        }
+    }
+
+    fn forget(&mut self) {
+        self.files = MemoryFiles::new(self.alloc);
+        self.name.truncate(0);
+        self.limits = AMPLE;
+    }
+
+    fn set(&mut self, mark: u8, count: u32) {
+        match mark {
+            b'x' => self.times = count,
+            b'n' => self.number = count,
+            b'r' => self.limits.room = count,
+            b's' => self.limits.short = count,
+            _ => self.limits.fail = count,
+        }
+    }
+
+    // Holds the file that has begun.
+    fn hold(&mut self) -> Result<(), AllocError> {
+        if self.name.is_empty() {
+            return Ok(());
+        }
+        let name = self.name.copy(self.alloc)?;
+        let content = self.content.copy(self.alloc)?;
+        self.name.truncate(0);
+        self.files.add(name, content)
+    }
+
+    fn begin(&mut self, name: &[u8]) -> Result<(), AllocError> {
+        self.hold()?;
+        self.name.append(name)?;
+        self.content.truncate(0);
+        Ok(())
+    }
+
+    fn add(&mut self, bytes: &[u8], end: &[u8]) -> Result<(), AllocError> {
+        for _ in 0..self.times {
+            self.content.append(bytes)?;
+            self.content.append(end)?;
+        }
+        self.times = 1;
+        Ok(())
+    }
+
+    fn serve_words(&mut self, mark: u8, line: &[u8]) -> Result<(), AllocError> {
+        self.hold()?;
+        let words = words_of(self.alloc, line)?;
+        match mark {
+            b'a' => self.answer(words.as_slice()),
+            b':' => self.tell(words.as_slice()),
+            b'$' | b'&' | b'?' | b'!' | b'^' => self.call(mark, words.as_slice()),
+            _ => self.write_line(b"no such line"),
+        }
+    }
+
+    fn answer(&mut self, words: &[Text]) -> Result<(), AllocError> {
+        match answer_of(words) {
+            Some(answer) => self.written.append(answer.as_bytes()),
+            None => self.write_line(b"no answer"),
+        }
+    }
+
+    // Tells of the words where they end with the status of the number, and no file can be read.
+    fn tell(&mut self, words: &[Text]) -> Result<(), AllocError> {
+        let status = status_of(self.number);
+        self.write_number(status.number())?;
+        let told = tell_status(self.alloc, words, status)?;
+        self.write_line(told.bytes())
+    }
+
+    fn write_number(&mut self, number: u8) -> Result<(), AllocError> {
+        self.written.append(b"= ")?;
+        self.written.append_number(u64::from(number))?;
+        self.written.push(b'\n')
+    }
+
+    fn call(&mut self, mark: u8, words: &[Text]) -> Result<(), AllocError> {
+        let ended = call(self.alloc, words, &mut self.files, self.limits)?;
+        self.show(mark, &ended)
+    }
+
+    // Writes what a call has come to.
+    fn show(&mut self, mark: u8, ended: &Ended) -> Result<(), AllocError> {
+        match mark {
+            b'$' => {
+                self.written.append(ended.written.bytes())?;
+                self.write_number(ended.status.number())?;
+                self.write_line(ended.told.bytes())
+            }
+            b'&' => {
+                self.written.append(ended.written.bytes())?;
+                self.write_line(ended.shown.bytes())
+            }
+            b'!' => self.write_line(first_line(ended.told.bytes())),
+            b'^' => self.write_line(other_lines(ended.told.bytes())),
+            _ => self.write_line(ended.told.bytes()),
+        }
+    }
+}
