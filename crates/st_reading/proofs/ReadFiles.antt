@@ -1,6 +1,7 @@
 -- What has to be read where a command means a run or a text.
-use Rattle.std.proofs.Common.{◌≡◌, ℕ, ◌+◌, inl, inr, List, [], ◌∷◌, Result, Ok, Err, refl, subst}
-use Rattle.st_outside.specs.Files.{CanHold}
+use Rattle.std.proofs.Common.{◌≡◌, ℕ, ◌+◌, ◌≤◌, inl, inr, List, [], ◌∷◌, length, Result, Ok, Err, refl, subst}
+use Rattle.st_outside.specs.Files.{FileView, CanHold}
+use Rattle.st_outside.specs.declared.files.TheConstants.{FILE_LIMIT}
 use Rattle.st_filter.specs.declared.set.BinaryPolicy.{BinaryPolicy}
 use Rattle.st_grammar.specs.Grammar.{Reads}
 use Rattle.st_grammar.specs.declared.env.Env.{Env}
@@ -12,6 +13,7 @@ use Rattle.st_script.specs.Startable.{input_with}
 use Rattle.st_script.specs.declared.reading.ReadScript.{ReadScript}
 use Rattle.st_command.specs.Words.{Word}
 use Rattle.st_command.specs.Command.{StepWords}
+use Rattle.st_reading.specs.Files.{Has}
 use Rattle.st_reading.specs.Meaning.{Held, Meaning, Stops, Refuses, Runs, Prints, Fetches, SaysScript, SaysPolicy, MeansPolicies, MeansSchedule, MeansBehindScript, MeansStep}
 use Rattle.st_reading.specs.declared.refusal.Which.{Which}
 use Rattle.st_reading.specs.declared.refusal.Which.TheVariants as which
@@ -27,17 +29,27 @@ IsRead (Prints text) = Unit {0}
 abbrev pub PolicyProperty : Type 1
 PolicyProperty = Env → List BinaryPolicy → Type 0
 
--- it still holds when one more file of policies is read
-abbrev pub IsKept : PolicyProperty → Held → Type 0
-IsKept P held = (env : Env) (name : Word) (text : List ℕ) (old set : List BinaryPolicy) → CanHold (held name) text → Reads text env old set → P env old → P env set
+-- it still holds when this file of policies is read too
+abbrev pub IsKept : PolicyProperty → FileView → Type 0
+IsKept P view = (env : Env) (text : List ℕ) (old set : List BinaryPolicy) → CanHold view text → Reads text env old set → P env old → P env set
+
+-- and so with the file of each of some names
+abbrev pub AreKept : PolicyProperty → Held → List Word → Type 0
+AreKept P held [] = Unit {0}
+AreKept P held (name ∷ names) = IsKept P (held name) × AreKept P held names
+
+-- what any file keeps is kept with the file of each of some names
+pub each_kept : (P : PolicyProperty) (held : Held) → ((name : Word) → IsKept P (held name)) → (names : List Word) → AreKept P held names
+each_kept P held keeps [] = tt
+each_kept P held keeps (name ∷ names) = (keeps name, each_kept P held keeps names)
 
 module _ (held : Held) (outcome : Meaning) (read : IsRead outcome) where
   -- each file that is come to is fetched
-  pub fetched : (name : Word) (w : Which) (Read : List ℕ → Type 0) → Fetches (held name) w Read outcome → (text : List ℕ) × CanHold (held name) text × Read text
+  pub fetched : (name : Word) (w : Which) (Read : List ℕ → Type 0) → Fetches (held name) w Read outcome → Has (held name) Read
   fetched name w Read (inl is) = absurd (subst IsRead is read)
   fetched name w Read (inr (inl p)) = absurd (subst IsRead p.1 read)
   fetched name w Read (inr (inr (inl p))) = absurd (subst IsRead p.1 read)
-  fetched name w Read (inr (inr (inr p))) = (p.0, p.1, p.3)
+  fetched name w Read (inr (inr (inr p))) = record { text = p.0; content = p.1; within = p.2; says = p.3 }
 
   pub script_read : (said : Result ReadScript ScriptFault) (Read : ReadScript → Type 0) → SaysScript said Read outcome → (script : ReadScript) × (said ≡ Ok script) × Read script
   script_read (Ok script) Read meant = (script, refl, meant)
@@ -49,14 +61,14 @@ module _ (held : Held) (outcome : Meaning) (read : IsRead outcome) where
   text_read text env before n Read (inr p) = absurd (subst IsRead p.2 read)
 
   -- policies are read, of which that holds which is kept
-  pub policies_read : (P : PolicyProperty) → IsKept P held → (env : Env) (Read : List BinaryPolicy → Type 0) (names : List Word) (n : ℕ) (before : List BinaryPolicy) → P env before →
+  pub policies_read : (P : PolicyProperty) (env : Env) (Read : List BinaryPolicy → Type 0) (names : List Word) → AreKept P held names → (n : ℕ) (before : List BinaryPolicy) → P env before →
       MeansPolicies held env n names before Read outcome → (policies : List BinaryPolicy) × P env policies × Read policies
-  policies_read P keeps env Read [] n before kept meant = (before, kept, meant)
-  policies_read P keeps env Read (name ∷ names) n before kept meant =
+  policies_read P env Read [] keeps n before kept meant = (before, kept, meant)
+  policies_read P env Read (name ∷ names) keeps n before kept meant =
       let further : List BinaryPolicy → Type 0 = λ policies. MeansPolicies held env (n + 1) names policies Read outcome in
       let x = fetched name (which.Policy n) (λ text. SaysPolicy text env before n further outcome) meant in
-      let y = text_read x.0 env before n further x.2 in
-      policies_read P keeps env Read names (n + 1) y.0 (keeps env name x.0 before y.0 x.1 y.1 kept) y.2
+      let y = text_read x.text env before n further x.says in
+      policies_read P env Read names keeps.1 (n + 1) y.0 (keeps.0 env x.text before y.0 x.content y.1 kept) y.2
 
 -- ---- `step`
 
@@ -64,6 +76,7 @@ module _ (held : Held) (outcome : Meaning) (read : IsRead outcome) where
 pub record IsStepRead (P : PolicyProperty) (held : Held) (step : StepWords) (outcome : Meaning) : Type 0 where
   pub script_text : List ℕ
   pub script_held : CanHold (held step.script) script_text
+  pub script_within : length script_text ≤ FILE_LIMIT
   pub script : ReadScript
   pub script_is : script_in script_text step.options ≡ Ok script
   pub policies : List BinaryPolicy
@@ -72,13 +85,24 @@ pub record IsStepRead (P : PolicyProperty) (held : Held) (step : StepWords) (out
   pub schedule_held : CanHold (held step.schedule) schedule_text
   pub outcome_is : outcome ≡ Runs (input_with policies step.options script) (schedule_in schedule_text)
 
-pub step_read : (P : PolicyProperty) → ((env : Env) → P env []) → (held : Held) → IsKept P held → (step : StepWords) (outcome : Meaning) → IsRead outcome → MeansStep held step outcome → IsStepRead P held step outcome
-step_read P none held keeps step outcome read meant =
+pub step_read : (P : PolicyProperty) → ((env : Env) → P env []) → (held : Held) (step : StepWords) → AreKept P held step.policies → (outcome : Meaning) → IsRead outcome → MeansStep held step outcome → IsStepRead P held step outcome
+step_read P none held step keeps outcome read meant =
     let x = fetched held outcome read step.script which.Script (λ text. SaysScript (script_in text step.options) (λ script. MeansBehindScript held step script outcome) outcome) meant in
-    let s = script_read held outcome read (script_in x.0 step.options) (λ script. MeansBehindScript held step script outcome) x.2 in
-    let p = policies_read held outcome read P keeps s.0.env (λ policies. MeansSchedule held step s.0 policies outcome) step.policies 1 [] (none s.0.env) s.2 in
+    let s = script_read held outcome read (script_in x.text step.options) (λ script. MeansBehindScript held step script outcome) x.says in
+    let p = policies_read held outcome read P s.0.env (λ policies. MeansSchedule held step s.0 policies outcome) step.policies keeps 1 [] (none s.0.env) s.2 in
     let c = fetched held outcome read step.schedule which.Schedule (λ text. outcome ≡ Runs (input_with p.0 step.options s.0) (schedule_in text)) p.2 in
-    record { script_text = x.0; script_held = x.1; script = s.0; script_is = s.1; policies = p.0; kept = p.1; schedule_text = c.0; schedule_held = c.1; outcome_is = c.2 }
+    record {
+      script_text = x.text;
+      script_held = x.content;
+      script_within = x.within;
+      script = s.0;
+      script_is = s.1;
+      policies = p.0;
+      kept = p.1;
+      schedule_text = c.text;
+      schedule_held = c.content;
+      outcome_is = c.says;
+    }
 
 -- the input of a run, else the other
 abbrev pub input_or : Input → Meaning → Input

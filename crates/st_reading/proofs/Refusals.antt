@@ -121,6 +121,15 @@ module _ (held : Held) (step : StepWords) where
       behind_script script is o (subst (λ ns. MeansPolicies held script.env 1 ns [] (λ ps. MeansSchedule held step script ps o) o) (append_nil step.policies)
       (leads_policies held script.env (λ ps. MeansSchedule held step script ps o) o step.policies [] 1 [] policies are m))
 
+  -- what is read of all its files is what it means to run
+  pub step_means : (script : ReadScript) (policies : List BinaryPolicy) (schedule : ReadSchedule) → IsScript (held step.script) step.options script →
+      ArePolicies held script.env step.policies [] policies → Has (held step.schedule) (λ text. schedule ≡ schedule_in text) → Means held (command.Step step) (Runs (input_with policies step.options script) schedule)
+  step_means script policies schedule is are read =
+      let o : Meaning = Runs (input_with policies step.options script) schedule in
+      behind_policies script policies is are o
+      (leads_has (held step.schedule) which.Schedule (λ text. schedule ≡ schedule_in text) (λ text. o ≡ Runs (input_with policies step.options script) (schedule_in text)) o read
+      (ap (Runs (input_with policies step.options script)) read.says))
+
   module _ (faults faults_after : ℕ) (old new : List Word) where
     pub step_script_refused : new ≡ old ++ step.script ∷ [] → (r : Refusal) → ScriptRefused (held step.script) step.options faults faults_after r →
         Refused held (command.Step step) faults faults_after old new r
@@ -148,13 +157,7 @@ module _ (held : Held) (step : StepWords) where
         ArePolicies held script.env step.policies [] policies → Has (held step.schedule) (λ text. schedule ≡ schedule_in text) →
         new ≡ ((old ++ step.script ∷ []) ++ step.policies) ++ step.schedule ∷ [] →
         Ends held (command.Step step) faults faults_after old new (Ok (reading.Run (input_with policies step.options script) schedule))
-    step_read script policies schedule is are read asked =
-        let o : Meaning = Runs (input_with policies step.options script) schedule in (
-          behind_policies script policies is are o
-              (leads_has (held step.schedule) which.Schedule (λ text. schedule ≡ schedule_in text) (λ text. o ≡ Runs (input_with policies step.options script) (schedule_in text)) o read
-              (ap (Runs (input_with policies step.options script)) read.says)),
-          all_asked asked,
-        )
+    step_read script policies schedule is are read asked = (step_means script policies schedule is are read, all_asked asked)
 
 -- ---- `check`
 

@@ -24,7 +24,7 @@ use Rattle.st_reading.specs.Bare.{bare_env}
 use Rattle.st_reading.specs.Meaning.{Held, Meaning, Runs, Prints, SaysScript, MeansStep, MeansCanon, MeansCheck}
 use Rattle.st_reading.specs.Runnable.{IsRunnable}
 use Rattle.st_reading.specs.declared.refusal.Which.TheVariants as which
-use Rattle.st_reading.proofs.ReadFiles.{IsRead, IsStepRead, fetched, input_or, policies_read, script_read, step_read}
+use Rattle.st_reading.proofs.ReadFiles.{AreKept, IsRead, IsStepRead, each_kept, fetched, input_or, policies_read, script_read, step_read}
 use Rattle.st_reading.proofs.Unasked.{read_asks_nothing}
 
 -- what policies keep to that are read with these names: they grant no ids for setting ids, and ask nothing where filters are learnt
@@ -50,10 +50,13 @@ script_learns text options script is learning =
     let same : script.env.learn ≡ learns options.mode = read_has (λ (other : ReadScript). other.env.learn ≡ learns options.mode) text options (λ uncut none. refl) script is in
     same ∙ ap learns learning
 
+all_clean : (held : Held) (names : List Word) → AreKept AreClean held names
+all_clean held = each_kept AreClean held (λ name env text old set there. read_clean text env old set)
+
 -- ---- `step`
 
 clean_step : (held : Held) (step : StepWords) (outcome : Meaning) → IsRead outcome → MeansStep held step outcome → IsStepRead AreClean held step outcome
-clean_step held step outcome read meant = step_read AreClean none_clean held (λ env name text old set there. read_clean text env old set) step outcome read meant
+clean_step held step outcome read meant = step_read AreClean none_clean held step (all_clean held step.policies) outcome read meant
 
 -- the replies of each script that is read grant no ids for setting ids
 abbrev pub RepliesAreUngranted : Type 0
@@ -85,7 +88,7 @@ step_prints_nothing held step text meant = let x = clean_step held step (Prints 
 
 canon_runs_nothing : (held : Held) (name : Word) (env : Env) (outcome : Meaning) → IsRead outcome → MeansCanon held name env outcome → IsPrinted outcome
 canon_runs_nothing held name env outcome read meant =
-    let p = policies_read held outcome read AreClean (λ other from text old set there. read_clean text other old set) env (λ policies. outcome ≡ Prints (canon policies)) (name ∷ []) 1 [] (none_clean env) meant in
+    let p = policies_read held outcome read AreClean env (λ policies. outcome ≡ Prints (canon policies)) (name ∷ []) (all_clean held (name ∷ [])) 1 [] (none_clean env) meant in
     subst IsPrinted (sym p.2) tt
 
 pub check_runs_nothing : (held : Held) (check : CheckWords) (script : Option Word) (input : Input) (schedule : ReadSchedule) → MeansCheck held check script (Runs input schedule) → ⊥
@@ -93,5 +96,5 @@ check_runs_nothing held check None input schedule meant = canon_runs_nothing hel
 check_runs_nothing held check (Some name) input schedule meant =
     let run : Meaning = Runs input schedule in
     let x = fetched held run tt name which.Script (λ text. SaysScript (script_in text (check_options check)) (λ script. MeansCanon held check.policy script.env run) run) meant in
-    let s = script_read held run tt (script_in x.0 (check_options check)) (λ script. MeansCanon held check.policy script.env run) x.2 in
+    let s = script_read held run tt (script_in x.text (check_options check)) (λ script. MeansCanon held check.policy script.env run) x.says in
     canon_runs_nothing held check.policy s.0.env run tt s.2
