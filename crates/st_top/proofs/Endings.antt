@@ -77,7 +77,7 @@ module _ (words : List Word) (held : Held) (c : Command) (faults faults_after : 
   pub memory_wanting : end ≡ status.NoMemory → WantsMemoryFor held (command_in words) asked asked_after
   memory_wanting is = subst (λ (o : Option Command). WantsMemoryFor held o asked asked_after) (sym spelled) (of status.NoMemory is).0
 
-  pub not_usage : end ≡ status.Usage → command_in words ≡ None
+  pub not_usage : end ≡ status.Usage → (command_in words ≡ None) × (asked_after ≡ asked)
   not_usage is = absurd (of status.Usage is).0
 
   pub all_asked : (end ≡ status.Done) ⊎ (end ≡ status.WriteFault) → asked_after ≡ asked ++ names_asked (command_in words)

@@ -97,7 +97,7 @@ module _ (held : Held) (faults faults_after : ℕ) (old new : List Word) where
   shown_of_step step i schedule startable meant asked (Ok text) x =
       (record { input = i; schedule = schedule; choices = x.0; meant = meant; played_to = x.1; lawful = run_lawful i startable x.0; text_is = x.2 }, asked)
   shown_of_step step i schedule startable meant asked (Err (status.Schedule line)) x = (record { input = i; schedule = schedule; meant = meant; bad = x }, asked)
-  shown_of_step step i schedule startable meant asked (Err status.NoMemory) x = inr asked
+  shown_of_step step i schedule startable meant asked (Err status.NoMemory) x = inr (record { input = i; schedule = schedule; meant = meant }, asked)
   shown_of_step step i schedule startable meant asked (Err status.Done) x = absurd x
   shown_of_step step i schedule startable meant asked (Err (status.Missing w)) x = absurd x
   shown_of_step step i schedule startable meant asked (Err status.Usage) x = absurd x

@@ -51,9 +51,15 @@ pub record HasBadLine (held : Held) (c : Command) (line : ℕ) : Type 0 where
   pub meant : Means held c (Runs input schedule)
   pub bad : played input schedule ≡ BadLine line
 
--- memory was wanting while the command was read, or once all of it was
+-- a command and its files mean a run
+pub record MeansRun (held : Held) (c : Command) : Type 0 where
+  pub input : Input
+  pub schedule : ReadSchedule
+  pub meant : Means held c (Runs input schedule)
+
+-- memory was wanting while the command was read, or for the run that it and its files mean, once all of them were asked for
 abbrev pub WantsMemory : Held → Command → List Word → List Word → Type 0
-WantsMemory held c old new = reading.WantsMemory held c old new ⊎ AskedTo c (last_file c) old new
+WantsMemory held c old new = reading.WantsMemory held c old new ⊎ (MeansRun held c × AskedTo c (last_file c) old new)
 
 -- before anything is written: a status is meant, and the names up to the file that it is of were asked for; or a file that is come to
 -- can't be read and the count of faults rose; or memory is wanting

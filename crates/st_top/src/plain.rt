@@ -97,8 +97,9 @@ pub fn systrace_plain<F: Files, S: Sink>(
     // Where a text was written, whole or not, all names of the command were asked for, in order.
     ensures asked { (result ≡ Status.Done) ⊎ (result ≡ Status.WriteFault) → F.asked files.new ≡ F.asked files.old ++ names_asked (command_in words.now) }
 
-    // Each refusal is the one that is meant, and the names that were asked for are those up to the file that it is of.
-    ensures usage { result ≡ Status.Usage → command_in words.now ≡ None }
+    // Each refusal is the one that is meant, and the names that were asked for are those up to the file that it is of: none where the
+    // words spell no command.
+    ensures usage { result ≡ Status.Usage → (command_in words.now ≡ None) × (F.asked files.new ≡ F.asked files.old) }
     ensures missing { (w : Which) → result ≡ Status.Missing w → Meets words.now (F.held files.old) (Refuses (refusal.Missing w)) w (F.asked files.old) (F.asked files.new) }
     ensures too_long { (w : Which) → result ≡ Status.TooLong w → Meets words.now (F.held files.old) (Refuses (refusal.TooLong w)) w (F.asked files.old) (F.asked files.new) }
     ensures script { (fault : ScriptFault) → result ≡ Status.Script fault → Meets words.now (F.held files.old) (Refuses (refusal.Script fault)) which.Script (F.asked files.old) (F.asked files.new) }
