@@ -1,5 +1,5 @@
 -- What `step` has learnt and written is enforced by `step`.
-use Rattle.std.proofs.Common.{◌≡◌, ◌∙◌, ◌==◌, ◌≤◌, ◌⊎◌, inl, inr, ℕ, Bool, true, false, List, [], ◌∷◌, Option, Some, None, find, is_some, map, Ok, refl, reverse, ap, sym, subst}
+use Rattle.std.proofs.Common.{◌≡◌, ◌∙◌, ◌≤◌, ◌⊎◌, inl, inr, ℕ, List, [], ◌∷◌, Ok, refl, reverse, ap, sym, subst}
 use Rattle.st_command.specs.Command.{StepWords}
 use Rattle.st_command.specs.Reading.{IsWithinLimits}
 use Rattle.st_command.specs.Words.{Word}
@@ -10,72 +10,34 @@ use Rattle.st_filter.specs.declared.set.BinaryPolicy.{BinaryPolicy}
 use Rattle.st_filter.specs.declared.set.TheConstants.{MOST_FILTERS}
 use Rattle.st_law.specs.Machine.{run}
 use Rattle.st_law.specs.declared.input.Input.{Input}
-use Rattle.st_law.specs.declared.input.Mode.{Mode}
-use Rattle.st_law.specs.declared.input.Mode.TheVariants.{Enforce, Learn, AskText}
+use Rattle.st_law.specs.declared.input.Mode.TheVariants.{Learn}
 use Rattle.st_law.specs.declared.input.Options.{Options}
 use Rattle.st_law.specs.declared.input.ReadSchedule.{ReadSchedule}
-use Rattle.st_lex.specs.declared.unquoted.Dollars.{Dollars}
 use Rattle.st_outside.specs.Files.{FileView, FileBytes, CanHold}
 use Rattle.st_grammar.specs.Grammar.{Reads}
 use Rattle.st_grammar.specs.declared.env.Env.{Env}
 use Rattle.st_reading.specs.Meaning.{Held, Meaning, Means, MeansBehindScript, MeansPolicies, MeansSchedule, Runs, SaysPolicy, SaysScript}
 use Rattle.st_reading.specs.declared.refusal.Which.TheVariants as which
-use Rattle.st_reading.proofs.ReadFiles.{fetched, input_or, script_read, text_read}
+use Rattle.st_reading.proofs.ReadFiles.{IsStepRead, fetched, input_or, script_read, text_read}
+use Rattle.st_reread.specs.Readable.{WasRead}
 use Rattle.st_schedule.specs.Schedule.{schedule_in}
 use Rattle.st_script.specs.Reading.{script_in}
 use Rattle.st_script.specs.Startable.{input_with}
 use Rattle.st_script.specs.declared.reading.ReadScript.{ReadScript}
-use Rattle.st_script.proofs.ReadTexts.{read_has}
-use Rattle.st_script_faults.specs.Environment.{dollars_by, dollars_of, environment_of, first_traced, group_id, groups_below, learns, user_id, user_of, users_below}
+use Rattle.st_script_faults.specs.Environment.{environment_of}
 use Rattle.st_statements.specs.Statements.{lines_in}
-use Rattle.st_statements.specs.declared.statement.ScriptLine.{ScriptLine}
-use Rattle.st_statements.specs.declared.statement.ScriptProcess.{ScriptProcess}
 use Rattle.st_trace.specs.declared.entry.Choice.{Choice}
-use Rattle.st_trace.specs.declared.start.UserRow.{UserRow}
 use Rattle.st_top.specs.Learning.{PermitsWhatWasMade, policies_behind}
 use Rattle.st_top.specs.Outcome.{printed}
 use Rattle.st_round_trip.specs.RoundTrip.{HoldBytes, IsReadAgain, IsScriptOf, enforcing}
+use Rattle.st_round_trip.proofs.OtherOptions.{env_by, env_is}
 use Rattle.st_round_trip.proofs.ReadAgain.{held_once, was_read}
-
--- ---- what the same lines give under other options
-
-env_is : (text : List ℕ) (options : Options) (script : ReadScript) → script_in text options ≡ Ok script → script.env ≡ environment_of options (lines_in text)
-env_is text options script is = read_has (λ (other : ReadScript). other.env ≡ environment_of options (lines_in text)) text options (λ uncut none. refl) script is
-
-module _ (options other : Options) (ids : other.ids ≡ options.ids) (lines : List ScriptLine) where
-  abbrev env_with : Dollars → Bool → Bool → Env
-  env_with dollars elevate learn = record { users = map user_id (users_below [] lines); groups = map group_id (groups_below [] lines); dollars = dollars; elevate = elevate; learn = learn }
-
-  same_user : (process : ScriptProcess) → user_of other process ≡ user_of options process
-  same_user process = ap (λ (o : Option (ℕ × ℕ)). elim o [ Some pair ↦ pair.0 | None ↦ process.uid ]) ids
-
-  same_dollars : (users : List UserRow) (o : Option ScriptProcess) → dollars_of other users o ≡ dollars_of options users o
-  same_dollars users None = refl
-  same_dollars users (Some process) = ap (λ (uid : ℕ). dollars_by uid process.cwd (find (λ user. user.uid == uid) users)) (same_user process)
-
-  abbrev dollars : Dollars
-  dollars = dollars_of options (users_below [] lines) (first_traced [] lines)
-
-  same_env : (learn : Bool) → learns other.mode ≡ learn → environment_of other lines ≡ env_with dollars (is_some options.ids) learn
-  same_env learn is =
-      ap (λ (d : Dollars). env_with d (is_some other.ids) (learns other.mode)) (same_dollars (users_below [] lines) (first_traced [] lines))
-      ∙ (ap (λ (o : Option (ℕ × ℕ)). env_with dollars (is_some o) (learns other.mode)) ids ∙ ap (env_with dollars (is_some options.ids)) is)
-
-  enforced_env : learns other.mode ≡ false → environment_of other lines ≡ enforcing (environment_of options lines)
-  enforced_env is = same_env false is
-
-  -- filters are learnt again, or they aren't
-  pub env_by : options.mode ≡ Learn → (m : Mode) → other.mode ≡ m →
-      (environment_of other lines ≡ environment_of options lines) ⊎ (environment_of other lines ≡ enforcing (environment_of options lines))
-  env_by learning Learn is = inl (same_env true (ap learns is) ∙ sym (ap (env_with dollars (is_some options.ids)) (ap learns learning)))
-  env_by learning Enforce is = inr (enforced_env (ap learns is))
-  env_by learning AskText is = inr (enforced_env (ap learns is))
 
 -- ---- the laws that this stands on
 
 abbrev pub WrittenIsReadAgain : Type 0
 WrittenIsReadAgain =
-    (held : Held) (step : StepWords) (input : Input) (schedule : ReadSchedule) → HoldBytes held → IsWithinLimits (Step step) → step.options.mode ≡ Learn → Means held (Step step) (Runs input schedule) →
+    (held : Held) (step : StepWords) (input : Input) (schedule : ReadSchedule) → HoldBytes held (step.script ∷ step.policies) → IsWithinLimits (Step step) → step.options.mode ≡ Learn → Means held (Step step) (Runs input schedule) →
     (script : ReadScript) → IsScriptOf held step script → (choices : List Choice) → filters_in (policies_behind input choices) ≤ MOST_FILTERS →
     IsReadAgain (printed print.Policy input choices) script.env (policies_behind input choices) × IsReadAgain (printed print.Policy input choices) (enforcing script.env) (policies_behind input choices)
 
@@ -101,54 +63,58 @@ read_alone : (held : Held) (step : StepWords) (name : Word) (i : Input) (schedul
 read_alone held step name i schedule alone meant =
     let outcome : Meaning = Runs i schedule in
     let x = fetched held outcome tt step.script which.Script (λ text. SaysScript (script_in text step.options) (λ script. MeansBehindScript held step script outcome) outcome) meant in
-    let s = script_read held outcome tt (script_in x.0 step.options) (λ script. MeansBehindScript held step script outcome) x.2 in
+    let s = script_read held outcome tt (script_in x.text step.options) (λ script. MeansBehindScript held step script outcome) x.says in
     let behind : List BinaryPolicy → Type 0 = λ policies. MeansSchedule held step s.0 policies outcome in
     let p = subst (λ (names : List Word). MeansPolicies held s.0.env 1 names [] behind outcome) alone s.2 in
     let f = fetched held outcome tt name (which.Policy 1) (λ text. SaysPolicy text s.0.env [] 1 behind outcome) p in
-    let y = text_read held outcome tt f.0 s.0.env [] 1 behind f.2 in
+    let y = text_read held outcome tt f.text s.0.env [] 1 behind f.says in
     let z = fetched held outcome tt step.schedule which.Schedule (λ text. outcome ≡ Runs (input_with y.0 step.options s.0) (schedule_in text)) y.2 in
     record {
-      script_text = x.0;
-      script_held = x.1;
+      script_text = x.text;
+      script_held = x.content;
       script = s.0;
       script_is = s.1;
-      text = f.0;
-      text_held = f.1;
+      text = f.text;
+      text_held = f.content;
       policies = y.0;
       reads = y.1;
-      input_is = ap (input_or i) z.2;
+      input_is = ap (input_or i) z.says;
     }
 
 -- ---- what was learnt
 
-module _ (written : WrittenIsReadAgain) (permits : WrittenPermits) (held : Held) (step : StepWords) (i : Input) (schedule : ReadSchedule) (bytes : HoldBytes held) (limits : IsWithinLimits (Step step))
-    (learning : step.options.mode ≡ Learn) (meant : Means held (Step step) (Runs i schedule)) (choices : List Choice) (few : filters_in (policies_behind i choices) ≤ MOST_FILTERS)
-    (name : Word) (holds : held name ≡ FileBytes (printed print.Policy i choices)) (again : StepWords) (script_is : again.script ≡ step.script) (alone : again.policies ≡ name ∷ [])
-    (ids : again.options.ids ≡ step.options.ids) where
-  -- these policies were read, with the names of this script
-  same_policies : (other : Input) (x : IsReadAlone held again name other) → x.policies ≡ policies_behind i choices
-  same_policies other x =
-      let w = was_read held bytes step i schedule meant in
-      let there : CanHold (held step.script) x.script_text = subst (λ (word : Word). CanHold (held word) x.script_text) script_is x.script_held in
-      let same_script : x.script_text ≡ w.script_text = held_once (held step.script) x.script_text w.script_text (bytes step.script) there w.script_held in
-      let text_is : x.text ≡ printed print.Policy i choices = subst (λ (h : FileView). CanHold h x.text) holds x.text_held in
-      let own : x.script.env ≡ environment_of again.options (lines_in w.script_text) =
-      env_is x.script_text again.options x.script x.script_is ∙ ap (λ (text : List ℕ). environment_of again.options (lines_in text)) same_script in
-      let first : w.script.env ≡ environment_of step.options (lines_in w.script_text) = env_is w.script_text step.options w.script w.script_is in
-      let read : Reads (printed print.Policy i choices) (environment_of again.options (lines_in w.script_text)) [] x.policies =
-      subst (λ (env : Env). Reads (printed print.Policy i choices) env [] x.policies) own (subst (λ (text : List ℕ). Reads text x.script.env [] x.policies) text_is x.reads) in
-      let both = written held step i schedule bytes limits learning meant w.script (record { text = w.script_text; there = w.script_held; is = w.script_is }) choices few in
-      by (environment_of again.options (lines_in w.script_text)) (environment_of step.options (lines_in w.script_text)) w.script.env x.policies (sym first)
-      (env_by step.options again.options ids (lines_in w.script_text) learning again.options.mode refl) read both
+module _ (written : WrittenIsReadAgain) (held : Held) (step : StepWords) (i : Input) (schedule : ReadSchedule) (bytes : HoldBytes held (step.script ∷ step.policies)) (limits : IsWithinLimits (Step step))
+    (learning : step.options.mode ≡ Learn) (meant : Means held (Step step) (Runs i schedule)) (choices : List Choice) (few : filters_in (policies_behind i choices) ≤ MOST_FILTERS) where
+  -- the text is read again with what the same script gives under other options
+  pub read_under : (w : IsStepRead WasRead held step (Runs i schedule)) (other : Options) → other.ids ≡ step.options.ids →
+      IsReadAgain (printed print.Policy i choices) (environment_of other (lines_in w.script_text)) (policies_behind i choices)
+  read_under w other ids =
+      by (environment_of other (lines_in w.script_text)) (environment_of step.options (lines_in w.script_text)) w.script.env (env_is w.script_text step.options w.script w.script_is)
+      (env_by step.options other ids (lines_in w.script_text) learning other.mode refl)
+      (written held step i schedule bytes limits learning meant w.script (record { text = w.script_text; there = w.script_held; is = w.script_is }) choices few)
     where
-      by : (env before learnt : Env) (policies : List BinaryPolicy) → before ≡ learnt → (env ≡ before) ⊎ (env ≡ enforcing before) → Reads (printed print.Policy i choices) env [] policies →
-          IsReadAgain (printed print.Policy i choices) learnt (policies_behind i choices) × IsReadAgain (printed print.Policy i choices) (enforcing learnt) (policies_behind i choices) → policies ≡ policies_behind i choices
-      by env before learnt policies same (inl is) read both = both.0.alone policies (subst (λ (e : Env). Reads (printed print.Policy i choices) e [] policies) (is ∙ same) read)
-      by env before learnt policies same (inr is) read both =
-          both.1.alone policies (subst (λ (e : Env). Reads (printed print.Policy i choices) e [] policies) (is ∙ ap enforcing same) read)
+      by : (env before learnt : Env) → learnt ≡ before → (env ≡ before) ⊎ (env ≡ enforcing before) →
+          IsReadAgain (printed print.Policy i choices) learnt (policies_behind i choices) × IsReadAgain (printed print.Policy i choices) (enforcing learnt) (policies_behind i choices) →
+          IsReadAgain (printed print.Policy i choices) env (policies_behind i choices)
+      by env before learnt same (inl is) both = subst (λ (e : Env). IsReadAgain (printed print.Policy i choices) e (policies_behind i choices)) (same ∙ sym is) both.0
+      by env before learnt same (inr is) both = subst (λ (e : Env). IsReadAgain (printed print.Policy i choices) e (policies_behind i choices)) (ap enforcing same ∙ sym is) both.1
 
-  pub is_enforced : (other : Input) (later : ReadSchedule) → Means held (Step again) (Runs other later) → PermitsWhatWasMade i other.policies (reverse (run i choices))
-  is_enforced other later meant_again =
-      let x = read_alone held again name other later alone meant_again in
-      let is : other.policies ≡ policies_behind i choices = ap (λ (input : Input). input.policies) x.input_is ∙ same_policies other x in
-      subst (λ (policies : List BinaryPolicy). PermitsWhatWasMade i policies (reverse (run i choices))) (sym is) (permits held step i schedule limits learning meant choices)
+  module _ (permits : WrittenPermits) (name : Word) (holds : held name ≡ FileBytes (printed print.Policy i choices)) (again : StepWords) (script_is : again.script ≡ step.script) (alone : again.policies ≡ name ∷ [])
+      (ids : again.options.ids ≡ step.options.ids) where
+    -- these policies were read, with the names of this script
+    same_policies : (other : Input) (x : IsReadAlone held again name other) → x.policies ≡ policies_behind i choices
+    same_policies other x =
+        let w = was_read held step bytes i schedule meant in
+        let there : CanHold (held step.script) x.script_text = subst (λ (word : Word). CanHold (held word) x.script_text) script_is x.script_held in
+        let same_script : x.script_text ≡ w.script_text = held_once (held step.script) x.script_text w.script_text bytes.0 there w.script_held in
+        let text_is : x.text ≡ printed print.Policy i choices = subst (λ (h : FileView). CanHold h x.text) holds x.text_held in
+        let own : x.script.env ≡ environment_of again.options (lines_in w.script_text) =
+        env_is x.script_text again.options x.script x.script_is ∙ ap (λ (text : List ℕ). environment_of again.options (lines_in text)) same_script in
+        (read_under w again.options ids).alone x.policies
+        (subst (λ (env : Env). Reads (printed print.Policy i choices) env [] x.policies) own (subst (λ (text : List ℕ). Reads text x.script.env [] x.policies) text_is x.reads))
+
+    pub is_enforced : (other : Input) (later : ReadSchedule) → Means held (Step again) (Runs other later) → PermitsWhatWasMade i other.policies (reverse (run i choices))
+    is_enforced other later meant_again =
+        let x = read_alone held again name other later alone meant_again in
+        let is : other.policies ≡ policies_behind i choices = ap (λ (input : Input). input.policies) x.input_is ∙ same_policies other x in
+        subst (λ (policies : List BinaryPolicy). PermitsWhatWasMade i policies (reverse (run i choices))) (sym is) (permits held step i schedule limits learning meant choices)

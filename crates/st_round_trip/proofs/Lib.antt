@@ -1,3 +1,6 @@
+mod Enforceable
 mod Enforced
 mod PlayedAgain
+mod OtherFilters
+mod OtherOptions
 mod ReadAgain

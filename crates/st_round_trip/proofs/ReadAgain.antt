@@ -1,9 +1,10 @@
 -- What `step` has written of a run that learns is read again.
-use Rattle.std.proofs.Common.{◌≡◌, ◌↔◌, ◌≤◌, ◌∙◌, ℕ, List, [], Option, Some, None, Ok, refl, reverse, ap, sym, subst}
+use Rattle.std.proofs.Common.{◌≡◌, ◌↔◌, ◌≤◌, ◌∙◌, ℕ, List, [], ◌∷◌, Option, Some, None, Ok, refl, reverse, ap, sym, subst}
 use Rattle.std.proofs.lemmas.List.Elements.{All-weaker}
 use Rattle.std.specs.List.{All}
 use Rattle.st_command.specs.Command.{StepWords}
 use Rattle.st_command.specs.Reading.{IsWithinLimits}
+use Rattle.st_command.specs.Words.{Word}
 use Rattle.st_command.specs.declared.command.Command.TheVariants.{Step}
 use Rattle.st_filter.specs.Formula.{FilterValue}
 use Rattle.st_filter.specs.Policies.{filters_in}
@@ -31,7 +32,7 @@ use Rattle.st_reread.specs.Readable.{AreTextBytes, HasPlainDollars, HasSmallIds,
 use Rattle.st_grammar.specs.declared.env.Env.{Env}
 use Rattle.st_reading.specs.Meaning.{Held, Means, Runs}
 use Rattle.st_reading.specs.Runnable.{IsRunnable}
-use Rattle.st_reading.proofs.ReadFiles.{IsStepRead, input_or, step_read}
+use Rattle.st_reading.proofs.ReadFiles.{AreKept, IsStepRead, input_or, step_read}
 use Rattle.st_relearn.specs.Plain.{HasPlainTexts}
 use Rattle.st_relearn.specs.Relearnt.{HasWritableReplies, IsWritableKept, policy_text}
 use Rattle.st_relearn.specs.Scripts.{HasPlainScript}
@@ -106,15 +107,19 @@ ReadsOnce = (text : List ℕ) (env : Env) (old a b : List BinaryPolicy) → Read
 
 -- ---- what `step` has read
 
-module _ (held : Held) (bytes : HoldBytes held) (step : StepWords) where
+-- policies of files of bytes were read from such
+read_kept : (held : Held) (names : List Word) → HoldBytes held names → AreKept WasRead held names
+read_kept held [] bytes = tt
+read_kept held (name ∷ names) bytes = (λ env text old set there reads was. Behind text old set (held_bytes (held name) text bytes.0 there) was reads, read_kept held names bytes.1)
+
+module _ (held : Held) (step : StepWords) (bytes : HoldBytes held (step.script ∷ step.policies)) where
   pub was_read : (i : Input) (schedule : ReadSchedule) → Means held (Step step) (Runs i schedule) → IsStepRead WasRead held step (Runs i schedule)
-  was_read i schedule meant =
-      step_read WasRead (λ env. Nothing) held (λ env name text old set there reads was. Behind text old set (held_bytes (held name) text (bytes name) there) was reads) step (Runs i schedule) tt meant
+  was_read i schedule meant = step_read WasRead (λ env. Nothing) held step (read_kept held step.policies bytes.1) (Runs i schedule) tt meant
 
   -- there is one script
   pub one_script : (script other : ReadScript) → IsScriptOf held step script → IsScriptOf held step other → script ≡ other
   one_script script other a b =
-      let same : a.text ≡ b.text = held_once (held step.script) a.text b.text (bytes step.script) a.there b.there in
+      let same : a.text ≡ b.text = held_once (held step.script) a.text b.text bytes.0 a.there b.there in
       let read : script_in b.text step.options ≡ Ok script = subst (λ (text : List ℕ). script_in text step.options ≡ Ok script) same a.is in
       let both : Ok script ≡ Ok other = sym read ∙ b.is in
       cc
@@ -135,15 +140,15 @@ module _ (runnable : AreRunnable) (exactly : AreExactlyWritable) (plain : Script
         again env i.policies (session_at i h) w (adds env i startable texts (no_replies env i learns) h (run_lawful i startable choices)) few in
         record { reads = reads; alone = λ other twice. once (policy_text i.policies (session_at i h)) env [] other (policies_behind i choices) twice reads }
 
-  module _ (held : Held) (step : StepWords) (i : Input) (schedule : ReadSchedule) (bytes : HoldBytes held) (limits : IsWithinLimits (Step step)) (learns : step.options.mode ≡ Learn)
+  module _ (held : Held) (step : StepWords) (i : Input) (schedule : ReadSchedule) (bytes : HoldBytes held (step.script ∷ step.policies)) (limits : IsWithinLimits (Step step)) (learns : step.options.mode ≡ Learn)
       (meant : Means held (Step step) (Runs i schedule)) (script : ReadScript) (is_script : IsScriptOf held step script) (choices : List Choice) (few : filters_in (policies_behind i choices) ≤ MOST_FILTERS) where
     pub read_again : IsReadAgain (policy_text i.policies (session_at i (reverse (run i choices)))) script.env (policies_behind i choices)
         × IsReadAgain (policy_text i.policies (session_at i (reverse (run i choices)))) (enforcing script.env) (policies_behind i choices)
     read_again =
-        let x = was_read held bytes step i schedule meant in
-        let same : script ≡ x.script = one_script held bytes step script x.script is_script (record { text = x.script_text; there = x.script_held; is = x.script_is }) in
+        let x = was_read held step bytes i schedule meant in
+        let same : script ≡ x.script = one_script held step bytes script x.script is_script (record { text = x.script_text; there = x.script_held; is = x.script_is }) in
         let input_is : i ≡ input_with x.policies step.options x.script = ap (input_or i) x.outcome_is in
-        let said : HasPlainScript x.script = plain x.script_text step.options x.script (held_bytes (held step.script) x.script_text (bytes step.script) x.script_held) x.script_is in
+        let said : HasPlainScript x.script = plain x.script_text step.options x.script (held_bytes (held step.script) x.script_text bytes.0 x.script_held) x.script_is in
         let start : IsStartable i = startable_by (runnable held step i schedule meant) in
         let texts : HasPlainTexts i.start = subst (λ (other : Input). HasPlainTexts other.start) (sym input_is) said.texts in
         let learning : i.options.mode ≡ Learn = subst (λ (other : Input). other.options.mode ≡ Learn) (sym input_is) learns in

@@ -1,5 +1,5 @@
 -- A text of policies or of a schedule that `step` has written, read again.
-use Rattle.std.specs.Prelude.{◌≡◌, ℕ, false, List, [], Ok}
+use Rattle.std.specs.Prelude.{◌≡◌, ℕ, false, List, [], ◌∷◌, Ok}
 use Rattle.st_command.specs.Command.{StepWords}
 use Rattle.st_command.specs.Words.{Word}
 use Rattle.st_command.specs.declared.command.Command.TheVariants.{Step}
@@ -22,9 +22,10 @@ HoldsBytes Unknown = ⊥
 HoldsBytes Absent = Unit {0}
 HoldsBytes (FileBytes text) = AreTextBytes text
 
--- so does each name
-abbrev pub HoldBytes : Held → Type 0
-HoldBytes held = (name : Word) → HoldsBytes (held name)
+-- so with each of some names
+abbrev pub HoldBytes : Held → List Word → Type 0
+HoldBytes held [] = Unit {0}
+HoldBytes held (name ∷ names) = HoldsBytes (held name) × HoldBytes held names
 
 -- the script that `step` reads
 pub record IsScriptOf (held : Held) (step : StepWords) (script : ReadScript) : Type 0 where

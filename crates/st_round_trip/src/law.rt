@@ -1,4 +1,4 @@
-ghost use Rattle.std.specs.Prelude.{◌≡◌, ◌≤◌, ◌∷◌, List, [], length, reverse};
+ghost use Rattle.std.specs.Prelude.{◌≡◌, ◌≤◌, ◌∷◌, ℕ, List, [], length, reverse};
 ghost use Rattle.st_command.specs.Command.{StepWords};
 ghost use Rattle.st_command.specs.Reading.{IsWithinLimits};
 ghost use Rattle.st_command.specs.Words.{Word};
@@ -11,16 +11,18 @@ ghost use Rattle.st_law.specs.Schedules.{Choices, played};
 ghost use Rattle.st_law.specs.declared.input.Input.{Input};
 ghost use Rattle.st_law.specs.declared.input.Mode.TheVariants.{Learn};
 ghost use Rattle.st_law.specs.declared.input.ReadSchedule.{ReadSchedule};
-ghost use Rattle.st_outside.specs.Files.{FileBytes};
+ghost use Rattle.st_outside.specs.Files.{CanHold, FileBytes};
 ghost use Rattle.st_outside.specs.declared.files.TheConstants.{FILE_LIMIT};
 ghost use Rattle.st_reading.specs.Meaning.{Held, Means, Runs};
 ghost use Rattle.st_round_trip.specs.RoundTrip.{HoldBytes, IsReadAgain, IsScriptOf, Plays, enforcing, with_schedule};
+ghost use Rattle.st_schedule.specs.Schedule.{schedule_in};
 ghost use Rattle.st_script.specs.declared.reading.ReadScript.{ReadScript};
 ghost use Rattle.st_top.specs.Learning.{PermitsWhatWasMade, policies_behind};
 ghost use Rattle.st_top.specs.Outcome.{printed};
 ghost use Rattle.st_trace.specs.declared.entry.Choice.{Choice};
 
-use st_grammar::reading_is_one;
+use st_first_fault::what_is_a_filter_is_read;
+use st_grammar::{reading_is_one, what_is_read_is_a_filter};
 use st_reading::law::what_is_meant_to_run_can_run;
 use st_relearn::law::{
     learnt_text_is_read_again, what_a_run_adds_can_be_written, what_a_script_says_can_be_written,
@@ -32,7 +34,7 @@ use st_top::law::what_was_made_is_permitted_by_what_is_written;
 /// What `step` writes of a run that learns, where policies are asked for, is read again with what the script gives, while filters are
 /// learnt and while they aren't: as the policies behind the run, unless these have too many filters, and as no others.
 pub fn what_is_written_is_read_again()
-    ensures { (held : Held) (step : StepWords) (input : Input) (schedule : ReadSchedule) → HoldBytes held → IsWithinLimits (Step step) → step.options.mode ≡ Learn → Means held (Step step) (Runs input schedule) →
+    ensures { (held : Held) (step : StepWords) (input : Input) (schedule : ReadSchedule) → HoldBytes held (step.script ∷ step.policies) → IsWithinLimits (Step step) → step.options.mode ≡ Learn → Means held (Step step) (Runs input schedule) →
         (script : ReadScript) → IsScriptOf held step script → (choices : List Choice) → filters_in (policies_behind input choices) ≤ MOST_FILTERS →
         IsReadAgain (printed print.Policy input choices) script.env (policies_behind input choices) × IsReadAgain (printed print.Policy input choices) (enforcing script.env) (policies_behind input choices) }
 {
@@ -47,7 +49,7 @@ pub fn what_is_written_is_read_again()
 /// Learnt, then enforced: where a name holds what `step` has written of a run that learnt, `step` under that policy alone, with the same
 /// script and the same ids, runs under policies that permit each held call that was made, under the ids that it was made under.
 pub fn what_was_learnt_is_enforced()
-    ensures { (held : Held) (step : StepWords) (input : Input) (schedule : ReadSchedule) → HoldBytes held → IsWithinLimits (Step step) → step.options.mode ≡ Learn → Means held (Step step) (Runs input schedule) →
+    ensures { (held : Held) (step : StepWords) (input : Input) (schedule : ReadSchedule) → HoldBytes held (step.script ∷ step.policies) → IsWithinLimits (Step step) → step.options.mode ≡ Learn → Means held (Step step) (Runs input schedule) →
         (choices : List Choice) → filters_in (policies_behind input choices) ≤ MOST_FILTERS → (name : Word) → held name ≡ FileBytes (printed print.Policy input choices) →
         (again : StepWords) → again.script ≡ step.script → again.policies ≡ name ∷ [] → again.options.ids ≡ step.options.ids → (other : Input) (later : ReadSchedule) → Means held (Step again) (Runs other later) →
         PermitsWhatWasMade input other.policies (reverse (run input choices)) }
@@ -64,4 +66,18 @@ pub fn what_is_written_is_played_again()
 {
     what_is_meant_to_run_can_run();
     a_printed_schedule_is_read_again();
+}
+
+/// What was learnt is not refused: where a name holds what `step` has written of a run that learnt, and that fits into a file, `step` under
+/// that policy alone, with the same script and the same ids, means a run of the same script under exactly the policies behind that run, by
+/// any schedule that can be fetched and with any other options.
+pub fn what_was_learnt_can_be_enforced()
+    ensures { (held : Held) (step : StepWords) (input : Input) (schedule : ReadSchedule) → HoldBytes held (step.script ∷ step.policies) → IsWithinLimits (Step step) → step.options.mode ≡ Learn → Means held (Step step) (Runs input schedule) →
+        (choices : List Choice) → filters_in (policies_behind input choices) ≤ MOST_FILTERS → (name : Word) → held name ≡ FileBytes (printed print.Policy input choices) → length (printed print.Policy input choices) ≤ FILE_LIMIT →
+        (again : StepWords) → again.script ≡ step.script → again.policies ≡ name ∷ [] → again.options.ids ≡ step.options.ids → (text : List ℕ) → CanHold (held again.schedule) text → length text ≤ FILE_LIMIT →
+        Means held (Step again) (Runs (record input { policies = policies_behind input choices; options = again.options }) (schedule_in text)) }
+{
+    what_is_written_is_read_again();
+    what_is_read_is_a_filter();
+    what_is_a_filter_is_read();
 }
