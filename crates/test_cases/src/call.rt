@@ -26,11 +26,10 @@ fn shown(alloc: Global, status: Status) -> Result<Text, AllocError> {
     Text::of(alloc, text.as_bytes())
 }
 
-fn sink_of(alloc: Global, limits: Limits) -> Result<MemorySink, AllocError> {
-    let mut sink = MemorySink::new(alloc, limits.room)?;
+// Lets a sink keep the limits of its writes.
+fn limit(sink: &mut MemorySink, limits: Limits) -> Result<(), AllocError> {
     sink.short_at(limits.short)?;
-    sink.fail_at(limits.fail)?;
-    Ok(sink)
+    sink.fail_at(limits.fail)
 }
 
 /// Calls the program with these words over these files.
@@ -40,7 +39,8 @@ pub fn call(
     files: &mut MemoryFiles,
     limits: Limits,
 ) -> Result<Ended, AllocError> {
-    let mut written = sink_of(alloc, limits)?;
+    let mut written = MemorySink::new(alloc, limits.room)?;
+    limit(&mut written, limits)?;
     let status = systrace_plain(alloc, words, files, &mut written);
     Ok(Ended {
         status,

@@ -2,6 +2,7 @@
 #![tactic(auto)]
 
 mod call;
+mod lines;
 mod statuses;
 mod table;
 

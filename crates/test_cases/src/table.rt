@@ -19,9 +19,9 @@
 //! and its status; by `?` what is told, by `!` the first line of this, and by `^` the other lines.
 
 use crate::call::{Ended, call, tell_status};
+use crate::lines::{count_of, first_line, other_lines, words_of};
 use crate::statuses::status_of;
 use st_base::Text;
-use st_base::number::number_of;
 use st_outside::MemoryFiles;
 use st_telling::answer_of;
 use std::alloc::{AllocError, Global};
@@ -52,35 +52,6 @@ const AMPLE: Limits = Limits {
     short: 0,
     fail: 0,
 };
-
-// The number that digits write; 0 where they write none.
-fn count_of(digits: &[u8]) -> u32 {
-    match number_of(digits) {
-        Some(number) if number <= u64::from(u32::MAX) => number as u32,
-        _ => 0,
-    }
-}
-
-// The words that a line has, each after a blank.
-fn words_of(alloc: Global, line: &[u8]) -> Result<Vec<Text>, AllocError> {
-    let mut words = Vec::new(alloc);
-    for word in line.split(|byte| *byte == b' ').skip(1) {
-        words.push(Text::of(alloc, word)?)?;
-    }
-    Ok(words)
-}
-
-// The bytes of a text up to its first newline.
-fn first_line(text: &[u8]) -> &[u8] {
-    let len = text.iter().take_while(|byte| **byte != b'\n').count();
-    &text[..len.min(text.len())]
-}
-
-// The bytes of a text after its first newline.
-fn other_lines(text: &[u8]) -> &[u8] {
-    let len = first_line(text).len().saturating_add(1);
-    &text[text.len().min(len)..]
-}
 
 impl Table {
     /// Before the first line.

@@ -1,0 +1,34 @@
+use st_base::Text;
+use st_base::number::number_of;
+use std::alloc::{AllocError, Global};
+
+/// The number that digits write; 0 where they write none.
+pub fn count_of(digits: &[u8]) -> u32 {
+    match number_of(digits) {
+        Some(number) if number <= u64::from(u32::MAX) => number as u32,
+        _ => 0,
+    }
+}
+
+/// The words that a line has, each after a blank.
+pub fn words_of(alloc: Global, line: &[u8]) -> Result<Vec<Text>, AllocError> {
+    let mut words = Vec::new(alloc);
+    for word in line.split(|byte| *byte == b' ').skip(1) {
+        words.push(Text::of(alloc, word)?)?;
+    }
+    Ok(words)
+}
+
+/// The bytes of a text up to its first newline.
+pub fn first_line(text: &[u8]) -> &[u8] {
+    match text.split(|byte| *byte == b'\n').next() {
+        Some(line) => line,
+        None => text,
+    }
+}
+
+/// The bytes of a text after its first newline.
+pub fn other_lines(text: &[u8]) -> &[u8] {
+    let len = first_line(text).len().saturating_add(1);
+    &text[text.len().min(len)..]
+}
