@@ -20,7 +20,7 @@ use Rattle.st_law.specs.Messages.{Head}
 use Rattle.st_law.specs.State.{Message, State, is_live, is_ready, is_waiting, is_worker, progress_in, read_for, seq_at_work, snapshot_of_progress, worker_at}
 use Rattle.st_law.proofs.Least.{least}
 use Rattle.st_workers.specs.Kept.{at_work, Agrees, HasCome, IsKept, IsLive, IsState, IsTurn, IsWhole}
-use Rattle.st_workers.specs.Tasks.{idle_task, task_at, task_of, task_of_slot, task_of_turn, IsCopy, IsFault, IsLook, IsOfProcess, IsTask}
+use Rattle.st_workers.specs.Tasks.{idle_task, task_at, task_of, task_of_slot, task_of_turn, IsBusy, IsCopy, IsFault, IsLook, IsOfProcess, IsTask}
 use Rattle.st_workers.specs.UnderWay.{UnderWay, found_in, turn_at}
 use Rattle.st_workers.specs.declared.task.Task.TheVariants as task
 use Rattle.st_workers.specs.declared.turn.Turn.{Turn}
@@ -49,6 +49,17 @@ claims_idle kept None e = cc
 claims_idle kept (Some Idle) e = (refl, idle_claims (first_waiting kept.calls) e)
 claims_idle kept (Some (Working seq)) e = absurd (slot_claims seq (slot_at kept.slots seq) e)
 claims_idle kept (Some (Ready s)) e = cc
+
+idle_idles : (o : Option ℕ) → IsBusy (idle_task o) → ⊥
+idle_idles None x = x
+idle_idles (Some seq) x = x
+
+-- a worker that is busy is at some number
+pub busy_works : (kept : UnderWay) (o : Option Turn) → IsBusy (task_of_turn kept o) → (seq : ℕ) × (o ≡ Some (Working seq))
+busy_works kept None x = absurd x
+busy_works kept (Some Idle) x = absurd (idle_idles (first_waiting kept.calls) x)
+busy_works kept (Some (Working seq)) x = (seq, refl)
+busy_works kept (Some (Ready s)) x = absurd x
 
 idle_rests : (o : Option ℕ) → idle_task o ≡ task.Answer → ⊥
 idle_rests None e = cc

@@ -11,7 +11,7 @@ ghost use Rattle.st_workers.specs.Tasks.{task_at, IsThere};
 ghost use Rattle.st_workers.specs.declared.turn.Turn.TheVariants.{Ready, Working};
 
 use crate::task::Task;
-use crate::turn::Turn;
+use crate::turn::{Turn, put_turn};
 use st_base::{Pid, Seq, Shared};
 use st_calls::Snapshot;
 use st_lookaside::{Next, Slots};
@@ -85,7 +85,7 @@ pub fn take_word(
     ensures stays { OnErr result (turn.new ≡ turn.old) }
 {
     if let Next::Ready = slots.fill(seq, word) {
-        *turn = Turn::Ready(seal_last(slots, alloc, seq)?);
+        put_turn(turn, Turn::Ready(seal_last(slots, alloc, seq)?));
     }
     Ok(())
 }
@@ -108,7 +108,7 @@ pub fn take_look(
     ensures stays { OnErr result (turn.new ≡ turn.old) }
 {
     if let Next::Ready = slots.take_look(alloc, seq, seen)? {
-        *turn = Turn::Ready(seal_last(slots, alloc, seq)?);
+        put_turn(turn, Turn::Ready(seal_last(slots, alloc, seq)?));
     }
     Ok(())
 }

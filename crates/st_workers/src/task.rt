@@ -1,7 +1,7 @@
 use st_base::{Errno, Pid, Seq};
 
 /// What a worker does next. A message's arguments are numbered from 0 in their order.
-#[derive(Clone, Copy, Debug, PartialEq, Eq)]
+#[derive(Clone, Copy)]
 pub enum Task {
     /// Nothing: it is at no number, and none waits.
     Rest,

@@ -26,7 +26,7 @@ ghost use Rattle.st_workers.specs.declared.task.Task.TheVariants.{Answer, Claim,
 
 use crate::filling;
 use crate::task::Task;
-use crate::turn::Turn;
+use crate::turn::{Turn, put_turn};
 use st_base::{Ids, Seq, Shared, Tid, Worker};
 use st_calls::{Snapshot, Verdict};
 use st_lookaside::{Head, Next, Slots};
@@ -74,12 +74,15 @@ fn leave(turns: &mut [Turn], state: Option<MsgState>)
     ensures left { HasLeft turns.old state turns.new }
     ensures count { length turns.new ≡ length turns.old }
 {
-    let Some(MsgState::Claimed(worker)) = state else {
+    let Some(state) = state else {
+        return;
+    };
+    let MsgState::Claimed(worker) = state else {
         return;
     };
     let turn = &mut turns[worker as usize - 1];
     if let Turn::Working(_) = turn {
-        *turn = Turn::Idle;
+        put_turn(turn, Turn::Idle);
     }
 }
 
@@ -214,7 +217,7 @@ impl Workers {
             unreachable!()
         };
         let turn = filling::turn_for(&mut self.slots, alloc, seq)?;
-        self.turns[worker as usize - 1] = turn;
+        put_turn(&mut self.turns[worker as usize - 1], turn);
         self.messages.claim(worker);
         Ok(seq)
     }
@@ -277,7 +280,7 @@ impl Workers {
         let Next::Fault(errno) = self.slots.next(seq) else {
             unreachable!()
         };
-        self.turns[worker as usize - 1] = Turn::Idle;
+        put_turn(&mut self.turns[worker as usize - 1], Turn::Idle);
         self.messages.fault(seq, errno);
     }
 

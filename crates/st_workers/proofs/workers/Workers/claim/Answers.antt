@@ -1,7 +1,8 @@
-use Rattle.std.proofs.Common.{◌≡◌, ◌≤◌, ◌∙◌, ◌-◌, ℕ, List, set, length, Some, ap, refl, sym, subst}
+use Rattle.std.proofs.Common.{◌≡◌, ◌≤◌, ◌∙◌, ◌-◌, ℕ, List, set, length, Option, None, Some, ap, arith, refl, sym, subst}
+use Rattle.std.specs.Prelude.{is_some, Err, IsSome, Ok, OnErr, Result}
 use Rattle.st_lookaside.specs.Slot.{Slot}
 use Rattle.st_lookaside.specs.Slots.{slot_at}
-use Rattle.st_messages.specs.Messages.{with_state}
+use Rattle.st_messages.specs.Messages.{first_waiting, with_state, HeldCalls, IsWorker}
 use Rattle.st_messages.specs.declared.message.MsgState.TheVariants.{Waiting, Claimed}
 use Rattle.st_law.specs.State.{is_live}
 use Rattle.st_trace.specs.declared.entry.Entry.TheVariants as entry
@@ -9,6 +10,7 @@ use Rattle.st_workers.specs.Filling.{IsTurnFor}
 use Rattle.st_workers.specs.Kept.{Follows, IsKept, IsWhole}
 use Rattle.st_workers.specs.Tasks.{task_of}
 use Rattle.st_workers.specs.UnderWay.{turn_at, UnderWay}
+use Rattle.st_workers.specs.declared.task.Task.TheVariants.{Claim}
 use Rattle.st_workers.specs.declared.turn.Turn.TheVariants.{Idle}
 use Rattle.st_workers.proofs.Claims.{claimed_follows, claimed_whole}
 use Rattle.st_workers.proofs.Filled.{told}
@@ -16,11 +18,51 @@ use Rattle.st_workers.proofs.Tasks.{claim_entry, claims_idle, state_slot, worker
 use Rattle.st_workers.proofs.Turns.{number_within}
 use Rattle.st_workers.proofs.workers.Workers.claim.Goals as goal
 
+-- a number that waits
+some_there : (o : Option ℕ) → IsSome o → (seq : ℕ) × (o ≡ Some seq)
+some_there None x = cc
+some_there (Some seq) x = (seq, refl)
+
+pub unreachable-requires : goal.unreachable-requires
+unreachable-requires c =
+    let kept : UnderWay = record { calls = c.self.inside.messages; slots = c.self.inside.slots; turns = c.self.inside.turns.items } in
+    let waits = some_there (first_waiting kept.calls) (claims_idle kept (turn_at kept c.args.worker) (ap (λ (k : UnderWay). task_of k c.args.worker) c.self.view_is ∙ c.requires)).1 in
+    c.in_default.not-Some waits.0 (c.least_waiting.ensures.first ∙ waits.1)
+
+pub turn_for-requires : goal.turn_for-requires
+turn_for-requires c =
+    let kept : UnderWay = record { calls = c.self.inside.messages; slots = c.self.inside.slots; turns = c.self.inside.turns.items } in
+    ap is_some (state_slot kept c.self.invariant c.in-Some.seq Waiting c.in-Some.ensures.least.waiting).1
+
+-- the worker is one
+module _ (kept then : UnderWay) (same : kept ≡ then) (whole : IsWhole kept) (worker : ℕ) (claims : task_of then worker ≡ Claim) where
+  number : (1 ≤ worker) × (worker ≤ length kept.turns)
+  number = number_within kept.turns worker Idle (claims_idle kept (turn_at kept worker) (ap (λ (k : UnderWay). task_of k worker) same ∙ claims)).0
+
+  one_of_them : IsWorker kept.calls worker
+  one_of_them = (number.0, subst (λ (n : ℕ). worker ≤ n) whole.count number.1)
+
+pub overflow_sub-worker : goal.overflow_sub-worker
+overflow_sub-worker c = (number (record { calls = c.self.inside.messages; slots = c.self.inside.slots; turns = c.self.inside.turns.items }) c.args.self.now c.self.view_is c.self.invariant c.args.worker c.requires).0
+
+pub index_mut-requires : goal.index_mut-requires
+index_mut-requires c =
+    let within = number (record { calls = c.self.inside.messages; slots = c.self.inside.slots; turns = c.self.inside.turns.items }) c.args.self.now c.self.view_is c.self.invariant c.args.worker c.requires in
+    let from = within.0 in
+    let to = within.1 in
+    omega (arith, from, to)
+
+pub claim-requires : goal.claim-requires
+claim-requires c = one_of_them (record { calls = c.self.inside.messages; slots = c.self.inside.slots; turns = c.self.inside.turns.items }) c.args.self.now c.self.view_is c.self.invariant c.args.worker c.requires
+
 abbrev old : goal.After-claim → UnderWay
 old c = record { calls = c.self.inside.messages; slots = c.self.inside.slots; turns = c.self.inside.turns.items }
 
 abbrev new : goal.After-claim → UnderWay
-new c = record { calls = c.claim.new.self; slots = c.turn_for.new.slots; turns = set c.self.inside.turns.items (c.args.worker - 1) c.in_ok-turn.turn }
+new c = record { calls = c.claim.new.self; slots = c.turn_for.new.slots; turns = set c.self.inside.turns.items (c.args.worker - 1) c.put_turn.new.place }
+
+put : (c : goal.After-claim) → (new c).turns ≡ set (old c).turns (c.args.worker - 1) c.in_ok-turn.turn
+put c = ap (set (old c).turns (c.args.worker - 1)) c.put_turn.ensures
 
 idle : (c : goal.After-claim) → turn_at (old c) c.args.worker ≡ Some Idle
 idle c = (claims_idle (old c) (turn_at (old c) c.args.worker) (ap (λ (k : UnderWay). task_of k c.args.worker) c.self.view_is ∙ c.requires)).0
@@ -34,17 +76,35 @@ calls c = told c.claim.result (λ seq. c.claim.new.self ≡ with_state (old c).c
 turn : (c : goal.After-claim) → IsTurnFor c.in-Some.seq (slot c).0 c.in_ok-turn.turn
 turn c = told (slot_at (old c).slots c.in-Some.seq) (λ s. IsTurnFor c.in-Some.seq s c.in_ok-turn.turn) (slot c).0 (slot c).1 c.in_ok-turn.ensures.turn
 
+pub returns-clause-calls : goal.returns-clause-calls
+returns-clause-calls c = calls c ∙ ap (λ (k : UnderWay). with_state k.calls c.in-Some.seq (Claimed c.args.worker)) c.self.view_is
+
+pub returns-clause-workers : goal.returns-clause-workers
+returns-clause-workers c = ap (λ (k : HeldCalls). k.workers) (calls c) ∙ ap (λ (k : UnderWay). k.calls.workers) c.self.view_is
+
 -- without memory
 pub invariant_of-self : goal.invariant_of-self
 invariant_of-self c = subst (λ (slots : List Slot). IsWhole (record { calls = c.self.inside.messages; slots = slots; turns = c.self.inside.turns.items })) (sym c.turn_for.ensures.same) c.self.invariant
 
+pub returns-in_err-turn-clause-workers : goal.returns-in_err-turn-clause-workers
+returns-in_err-turn-clause-workers c = ap (λ (k : UnderWay). k.calls.workers) c.self.view_is
+
+-- a result that is an error says what every one says
+on_err : {A E P : Type 0} (result : Result A E) → P → OnErr result P
+on_err (Ok a) x = tt
+on_err (Err e) x = x
+
+pub returns-in_err-turn-clause-err : goal.returns-in_err-turn-clause-err
+returns-in_err-turn-clause-err c =
+    on_err c.from_residual.result (ap (λ (slots : List Slot). record { calls = c.self.inside.messages; slots = slots; turns = c.self.inside.turns.items }) c.turn_for.ensures.same ∙ c.self.view_is)
+
 pub invariant_of-self-2 : goal.invariant_of-self-2
-invariant_of-self-2 c = claimed_whole (old c) (new c) c.args.worker c.in-Some.seq (slot c).0 c.in_ok-turn.turn (idle c) c.in-Some.ensures.least.waiting (slot c).1 (calls c) c.turn_for.ensures.same refl (turn c) c.self.invariant
+invariant_of-self-2 c = claimed_whole (old c) (new c) c.args.worker c.in-Some.seq (slot c).0 c.in_ok-turn.turn (idle c) c.in-Some.ensures.least.waiting (slot c).1 (calls c) c.turn_for.ensures.same (put c) (turn c) c.self.invariant
 
 pub returns-clause-kept : goal.returns-clause-kept
 returns-clause-kept c =
     let follows : Follows (old c) (entry.Claimed c.args.worker c.in-Some.seq) (new c) =
-    claimed_follows (old c) (new c) c.args.worker c.in-Some.seq (slot c).0 c.in_ok-turn.turn (idle c) c.in-Some.ensures.least.waiting (slot c).1 (calls c) c.turn_for.ensures.same refl (turn c) in
+    claimed_follows (old c) (new c) c.args.worker c.in-Some.seq (slot c).0 c.in_ok-turn.turn (idle c) c.in-Some.ensures.least.waiting (slot c).1 (calls c) c.turn_for.ensures.same (put c) (turn c) in
     subst (λ (k : UnderWay). Follows k (entry.Claimed c.args.worker c.in-Some.seq) (new c)) c.self.view_is follows
 
 pub returns-clause-law : goal.returns-clause-law

@@ -1,4 +1,4 @@
-use Rattle.std.proofs.Common.{◌≡◌, ◌-◌, ◌∙◌, ℕ, set, Some, ap, refl, sym, subst}
+use Rattle.std.proofs.Common.{◌≡◌, ◌-◌, ◌∙◌, ℕ, arith, set, Some, ap, refl, sym, subst}
 use Rattle.st_base.specs.declared.errno.Errno.{Errno}
 use Rattle.st_effects.specs.Progress.{Progress, Stuck}
 use Rattle.st_lookaside.specs.Slot.{next_of, progress_of}
@@ -14,7 +14,18 @@ use Rattle.st_workers.specs.declared.turn.Turn.TheVariants.{Idle, Working}
 use Rattle.st_workers.proofs.Ended.{fault_follows, fault_whole, working_claimed}
 use Rattle.st_workers.proofs.Filled.{told}
 use Rattle.st_workers.proofs.Tasks.{fault_is, working_slot}
+use Rattle.st_workers.proofs.Turns.{number_within}
 use Rattle.st_workers.proofs.workers.Workers.fault.Goals as goal
+
+pub overflow_sub-worker : goal.overflow_sub-worker
+overflow_sub-worker c = (number_within c.self.inside.turns.items c.args.worker (Working c.seq_at-seq.result) (ap (λ (k : UnderWay). turn_at k c.args.worker) c.self.view_is ∙ c.seq_at-seq.ensures)).0
+
+pub index_mut-requires : goal.index_mut-requires
+index_mut-requires c =
+    let within = number_within c.self.inside.turns.items c.args.worker (Working c.seq_at-seq.result) (ap (λ (k : UnderWay). turn_at k c.args.worker) c.self.view_is ∙ c.seq_at-seq.ensures) in
+    let from = within.0 in
+    let to = within.1 in
+    omega (arith, from, to)
 
 pub fault-requires : goal.fault-requires
 fault-requires c =
@@ -25,7 +36,10 @@ abbrev old : goal.After-fault → UnderWay
 old c = record { calls = c.self.inside.messages; slots = c.self.inside.slots; turns = c.self.inside.turns.items }
 
 abbrev new : goal.After-fault → UnderWay
-new c = record { calls = c.fault.new.self; slots = c.self.inside.slots; turns = set c.self.inside.turns.items (c.args.worker - 1) Idle }
+new c = record { calls = c.fault.new.self; slots = c.self.inside.slots; turns = set c.self.inside.turns.items (c.args.worker - 1) c.put_turn.new.place }
+
+put : (c : goal.After-fault) → (new c).turns ≡ set (old c).turns (c.args.worker - 1) Idle
+put c = ap (set (old c).turns (c.args.worker - 1)) c.put_turn.ensures
 
 working : (c : goal.After-fault) → turn_at (old c) c.args.worker ≡ Some (Working c.seq_at-seq.result)
 working c = ap (λ (k : UnderWay). turn_at k c.args.worker) c.self.view_is ∙ c.seq_at-seq.ensures
@@ -34,7 +48,7 @@ claimed : (c : goal.After-fault) → (v : ℕ) × (state_at (old c).calls c.seq_
 claimed c = working_claimed (old c) c.self.invariant c.args.worker c.seq_at-seq.result (working c)
 
 pub invariant_of-self : goal.invariant_of-self
-invariant_of-self c = fault_whole (old c) (new c) c.args.worker c.seq_at-seq.result c.in-Fault.errno (working c) (claimed c) c.fault.ensures.calls refl refl c.self.invariant
+invariant_of-self c = fault_whole (old c) (new c) c.args.worker c.seq_at-seq.result c.in-Fault.errno (working c) (claimed c) c.fault.ensures.calls refl (put c) c.self.invariant
 
 told_errno : (p : Progress) (a b : Errno) → next.Fault a ≡ next_of p → p ≡ Stuck b → a ≡ b
 told_errno p a b e is = same a b (e ∙ ap next_of is) where
@@ -48,6 +62,6 @@ returns-clause-kept c = λ seq errno asked i st alive kept.
     let same : c.in-Fault.errno ≡ errno = told_errno (progress_of slot.0) c.in-Fault.errno errno
     (sym c.in-Fault.is ∙ told (slot_at (old c).slots c.seq_at-seq.result) (λ s. c.next.result ≡ next_of (progress_of s)) slot.0 slot.1 c.next.ensures.value) is.1 in
     let follows : Follows (old c) (entry.Faulted c.seq_at-seq.result c.in-Fault.errno) (new c) =
-    fault_follows (old c) (new c) c.args.worker c.seq_at-seq.result c.in-Fault.errno (working c) (claimed c) c.fault.ensures.calls refl refl in
+    fault_follows (old c) (new c) c.args.worker c.seq_at-seq.result c.in-Fault.errno (working c) (claimed c) c.fault.ensures.calls refl (put c) in
     subst (λ (e : Errno). Follows (old c) (entry.Faulted seq e) (new c)) same (subst (λ (n : ℕ). Follows (old c) (entry.Faulted n c.in-Fault.errno) (new c)) is.0 follows) i st alive
     (subst (λ (k : UnderWay). IsKept i st alive k) (sym c.self.view_is) kept)
