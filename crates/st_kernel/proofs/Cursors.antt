@@ -95,4 +95,4 @@ module _ (before after : Course) where
   -- by the operator, if there is a question; or none is
   pub operator_next : (made : Bool) (added : Option Entry) → NoThread i st → NoWorker i st → IsChosen before choice.Operator made added after → IsNext before made added after
   operator_next true added none idle (e, there, adds, on) = (e, choice.Operator, there, nobody_else i st none idle ∙ ap (λ (o : Option Entry). choice_or choice.Operator o None) adds, on)
-  operator_next false added none idle chosen = (nobody_else i st none idle ∙ ap (λ (o : Option Entry). choice_or choice.Operator o None) chosen.0, chosen.1)
+  operator_next false added none idle chosen = (nobody_else i st none idle ∙ ap (λ (o : Option Entry). choice_or choice.Operator o None) chosen.1, chosen.2)

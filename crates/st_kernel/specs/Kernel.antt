@@ -33,10 +33,15 @@ trace_of course = run course.input course.choices
 abbrev pub Continues : Course → Course → Type 0
 Continues old new = (made : List Choice) × (new.choices ≡ old.choices ++ made)
 
--- a choice was made, and this is the entry that it adds; or it adds none, and the run is as before
+-- a choice was made, and this is the entry that it adds; or it adds none, the place for its entry is empty, and the run is as before
 abbrev pub IsChosen : Course → Choice → Bool → Option Entry → Course → Type 0
 IsChosen old c true added new = (e : Entry) × (added ≡ Some e) × (entry_of old.input (state_in old) c ≡ Some e) × (new ≡ with_choice old c)
-IsChosen old c false added new = (entry_of old.input (state_in old) c ≡ None) × (new ≡ old)
+IsChosen old c false added new = (added ≡ None) × (entry_of old.input (state_in old) c ≡ None) × (new ≡ old)
+
+-- the same, but where it adds none anything may stand in the place for its entry
+abbrev pub IsTried : Course → Choice → Bool → Option Entry → Course → Type 0
+IsTried old c true added new = IsChosen old c true added new
+IsTried old c false added new = (entry_of old.input (state_in old) c ≡ None) × (new ≡ old)
 
 -- a run can start with the input, and each of the choices was enabled at its turn
 pub record IsPlayed (course : Course) : Type 0 where

@@ -9,7 +9,7 @@ ghost use Rattle.st_reached.specs.Scripts.{IsBounded};
 ghost use Rattle.st_report.specs.ScheduleText.{repeats_of};
 ghost use Rattle.st_system.specs.Start.{CanStart};
 ghost use Rattle.st_trace.specs.declared.entry.Choice.TheVariants.{Thread, Worker};
-ghost use Rattle.st_kernel.specs.Kernel.{rested, state_in, trace_of, with_choice, Continues, HasMade, IsChosen, IsNext, IsPlayed, NoneMoves};
+ghost use Rattle.st_kernel.specs.Kernel.{rested, state_in, trace_of, with_choice, Continues, HasMade, IsChosen, IsNext, IsPlayed, IsTried, NoneMoves};
 
 use crate::waking::woken_by;
 use st_base::Tid;
@@ -128,7 +128,8 @@ impl<'a> Kernel<'a> {
         }
     }
 
-    // Makes a choice, leaves the entry that it adds, or none, and says whether there is one. Without memory the run is as before.
+    // Makes a choice, leaves the entry that it adds, or none, and says whether there is one. Without memory the run and the place for the
+    // entry are as before.
     fn choose(
         &mut self,
         alloc: Global,
@@ -137,6 +138,7 @@ impl<'a> Kernel<'a> {
     ) -> Result<bool, AllocError>
         ensures chosen { IfOk result (λ made. IsChosen self.old choice made added.new self.new) }
         ensures err { OnErr result (self.new ≡ self.old) }
+        ensures place { OnErr result (added.new ≡ added.old) }
     {
         self.made.reserve(1)?;
         self.machine.choose(alloc, choice, added)?;
@@ -153,7 +155,8 @@ impl<'a> Kernel<'a> {
         }
     }
 
-    /// Makes a choice, and leaves the entry that it adds. One that isn't enabled is refused. After a refusal the run is as before.
+    /// Makes a choice, and leaves the entry that it adds. One that isn't enabled is refused, and then no entry is left; without memory the
+    /// place for the entry is as before. After either the run is as before.
     pub fn advance(
         &mut self,
         alloc: Global,
@@ -164,6 +167,8 @@ impl<'a> Kernel<'a> {
         ensures enabled { OnOk result (IsEnabled self.old.input (state_in self.old) choice) }
         ensures entry { OnOk result (added.new ≡ entry_of self.old.input (state_in self.old) choice) }
         ensures not_enabled { result ≡ Err StepFault.NotEnabled → entry_of self.old.input (state_in self.old) choice ≡ None }
+        ensures no_entry { result ≡ Err StepFault.NotEnabled → added.new ≡ None }
+        ensures same_place { result ≡ Err StepFault.NoMemory → added.new ≡ added.old }
         ensures err { OnErr result (self.new ≡ self.old) }
     {
         if self.choose(alloc, choice, added)? {
@@ -173,8 +178,8 @@ impl<'a> Kernel<'a> {
         }
     }
 
-    // Has a thread move where none before it can, and leaves the entry that this adds; none where it can't, and then it is marked as asleep.
-    // Without memory the run is as before.
+    // Has a thread move where none before it can, leaves the entry that this adds, and says whether there is one. One that can't is marked as
+    // asleep, and isn't asked again until it is woken. Without memory the run is as before.
     fn move_here(
         &mut self,
         alloc: Global,
@@ -184,7 +189,7 @@ impl<'a> Kernel<'a> {
         requires from { 1 ≤ tid }
         requires to { tid ≤ thread_count self.old.input }
         requires before { NoneMoves self.old tid }
-        ensures chosen { IfOk result (λ moved. IsChosen self.old (Thread tid) moved added.new self.new) }
+        ensures tried { IfOk result (λ moved. IsTried self.old (Thread tid) moved added.new self.new) }
         ensures err { OnErr result (self.new ≡ self.old) }
     {
         self.first = tid;
@@ -192,11 +197,11 @@ impl<'a> Kernel<'a> {
         if self.asleep[place] {
             return Ok(false);
         }
-        let moved = self.choose(alloc, Choice::Thread(tid), added)?;
-        if !moved {
-            self.asleep[place] = true;
+        if self.choose(alloc, Choice::Thread(tid), added)? {
+            return Ok(true);
         }
-        Ok(moved)
+        self.asleep[place] = true;
+        Ok(false)
     }
 
     // Has the first thread move that can, leaves the entry that this adds, and says whether there is one. Without memory the run is as before.

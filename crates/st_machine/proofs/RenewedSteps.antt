@@ -1,6 +1,6 @@
 -- The step by which a call is made that sets ids.
 use native.Mathlib.Omega.{arith}
-use Rattle.std.proofs.Common.{◌≡◌, ◌≢◌, ◌≤◌, ◌<◌, ◌+◌, ◌-◌, ◌^◌, ◌∙◌, ℕ, zero, suc, ◌==◌, Bool, true, false, cond, replicate, set, List, [], ◌∷◌, length, Option, Some, None, refl, ap, sym, subst, true≢false}
+use Rattle.std.proofs.Common.{◌≡◌, ◌≢◌, ◌≤◌, ◌<◌, ◌+◌, ◌-◌, ◌^◌, ◌∙◌, ℕ, zero, suc, ◌==◌, Bool, true, false, cond, replicate, set, List, [], ◌∷◌, ◌++◌, length, Option, Some, None, refl, ap, sym, subst, true≢false}
 use Rattle.std.proofs.lemmas.Bool.{eq-eqb, ne_eqb}
 use Rattle.std.proofs.lemmas.List.{length-set}
 use Rattle.std.proofs.lemmas.Option.{none-some}
@@ -31,7 +31,7 @@ use Rattle.st_reached.proofs.LifeByEntry.{life_is}
 use Rattle.st_reached.proofs.NumbersDrawn.{few_drawn}
 use Rattle.st_reached.proofs.Reached.{lawful_entry}
 use Rattle.st_request.specs.declared.outcome.Outcome.{Outcome}
-use Rattle.st_system.specs.Steps.{IsDone, IsMade, with_renewals}
+use Rattle.st_system.specs.Steps.{IsDone, IsMade, renewals_of, sets_ids, with_renewals}
 use Rattle.st_system.specs.System.{IsSystem, Parts}
 use Rattle.st_trace.specs.declared.entry.Change.{Change}
 use Rattle.st_trace.specs.declared.entry.Change.TheVariants.{SetIds}
@@ -84,6 +84,12 @@ module _ (call : SysCall) (sets : schedules.sets_ids call ≡ true) (system : ef
   changes_set : reason ≡ None → (effect system call request).changes ≡ SetIds (ids_after_set call request.ids (slice_index_or request.regs 0 0)) ∷ renewals request.pid request.tid system.next_number system.held
   changes_set well = ap (λ (o : effects.Outcome). o.changes) (effect_sets call sets system request) ∙ ap (λ (o : Option Errno). (unless_error system (first_error (o ∷ [])) done).changes) well
 
+-- where nothing stands behind some changes or in place of them, there are none
+none_before : (b : Bool) (changes more : List Change) → cond b (changes ++ more) changes ≡ [] → changes ≡ []
+none_before true [] more e = refl
+none_before true (c ∷ changes) more e = cc
+none_before false changes more e = e
+
 -- ---- the step, by what it changes
 
 module _ (m : Running) (st : State) (is : IsMachine m st) (t pid : ℕ) (made : Use) (next : IsNext m t (steps.Make made)) (process : pid_of m.system.processes t ≡ Some pid) (row : ThreadRow) (row_is : item_at_number m.threads t ≡ Some row) where
@@ -123,6 +129,10 @@ module _ (m : Running) (st : State) (is : IsMachine m st) (t pid : ℕ) (made : 
 
     full : with_renewals input st made.call (request_with m t pid made) outcome.result outcome.changes ≡ changes
     full = is_made.changes ∙ ap (λ (r : effects.Request). (effect (system_of input st) made.call r).changes) request ∙ effect_is
+
+    -- where the entry tells none, none was made
+    pub none_made : changes ≡ [] → outcome.changes ≡ []
+    none_made none = none_before (sets_ids made.call) outcome.changes (renewals_of input st (request_with m t pid made) outcome.result) (full ∙ none)
 
     pub entry_is : entry_of input st (choice.Thread t) ≡ Some entry
     entry_is =
@@ -314,9 +324,12 @@ module _ (m : Running) (t pid : ℕ) (made : Use) (next : IsNext m t (steps.Make
 
   -- a call is made that is to set ids, and is refused
   pub refusing : IsSome (set_refused made.call made.ids (slice_index_or made.regs 0 0))
-      → IsStep m (choice.Thread t) (Some (Used t made.seq made.call made.regs made.args made.ids outcome.result [])) (with_parts m parts between shut)
+      → IsStep m (choice.Thread t) (Some (Used t made.seq made.call made.regs made.args made.ids outcome.result outcome.changes)) (with_parts m parts between shut)
   refusing refused = λ st is.
       let none = changes_none made.call sets (system_of m.input st) (request_of m.input st t made.regs made.args made.ids) refused in
+      let entry_by : List Change → Entry = λ changes. Used t made.seq made.call made.regs made.args made.ids outcome.result changes in
+      subst (λ (changes : List Change). (entry_of m.input st (choice.Thread t) ≡ Some (entry_by changes)) × IsMachine (with_parts m parts between shut) (state_after m.input st (entry_by changes)))
+      (sym (none_made m st is t pid made next process row row_is outcome parts done_is [] none refl))
       (entry_is m st is t pid made next process row row_is outcome parts done_is [] none, refused_here m st is t pid made next process row row_is outcome parts done_is none between closes)
 
   module _ (given : Ids) (well : set_refused made.call made.ids (slice_index_or made.regs 0 0) ≡ None) (given_is : ids_after_set made.call made.ids (slice_index_or made.regs 0 0) ≡ given) where

@@ -1,6 +1,7 @@
 // The steps of threads: each makes of the machine what its entry says, and leaves the entry in the caller's place for it. An entry has many
-// words, so that it is written once and not handed on.
-ghost use Rattle.std.specs.Prelude.{◌≡◌, ◌≢◌, OnOk, OnErr, Some};
+// words, so that it is written once and not handed on. It is left once nothing can fail any more, so that the place stays as it was where a
+// step fails.
+ghost use Rattle.std.specs.Prelude.{◌≡◌, OnOk, OnErr, Some};
 ghost use Rattle.st_next.specs.Machine.{IsNext, IsStep, Stands};
 ghost use Rattle.st_next.specs.NextSteps.{CanBeDone};
 ghost use Rattle.st_model.specs.Processes.{pid_of, IsPid};
@@ -130,7 +131,7 @@ impl<'a> Machine<'a> {
         }
     }
 
-    // A thread does what comes next, which is more than to wait. Without memory all is as good as before.
+    // A thread does what comes next; to wait adds no entry. Without memory all is as good as before.
     fn act(
         &mut self,
         alloc: Global,
@@ -141,28 +142,42 @@ impl<'a> Machine<'a> {
     ) -> Result<(), AllocError>
         requires next { IsNext self.old tid step }
         requires can { CanBeDone self.old.system step }
-        requires goes_on { step ≢ steps.Wait }
         requires process { pid_of self.old.system.processes tid ≡ Some pid }
         requires there { IsPid self.old.system.processes pid }
         ensures step { OnOk result (IsStep self.old (Thread tid) added.new self.new) }
         ensures err { OnErr result (Stands self.old self.new) }
+        ensures place { OnErr result (added.new ≡ added.old) }
         ensures input { self.new.input ≡ self.old.input }
     {
         match step {
-            Step::Wait => unreachable!(),
-            Step::End => self.end(tid, added),
-            Step::Store { place, word } => self.store(tid, place, word, added),
-            Step::Enter { call, regs } => self.enter(alloc, tid, pid, call, regs, added)?,
-            Step::Make(made) => self.use_call(alloc, tid, pid, made, added)?,
+            Step::Enter { call, regs } => self.enter(alloc, tid, pid, call, regs, added),
+            Step::Make(made) => self.use_call(alloc, tid, pid, made, added),
+            Step::Wait => {
+                leave_none(added);
+                Ok(())
+            }
+            Step::End => {
+                self.end(tid, added);
+                Ok(())
+            }
+            Step::Store { place, word } => {
+                self.store(tid, place, word, added);
+                Ok(())
+            }
             Step::Fail {
                 call,
                 regs,
                 ids,
                 errno,
-            } => self.fail(alloc, tid, call, regs, ids, errno, added),
-            Step::Deny { seq, errno, cause } => self.deny(tid, seq, errno, cause, added),
+            } => {
+                self.fail(alloc, tid, call, regs, ids, errno, added);
+                Ok(())
+            }
+            Step::Deny { seq, errno, cause } => {
+                self.deny(tid, seq, errno, cause, added);
+                Ok(())
+            }
         }
-        Ok(())
     }
 
     /// A thread moves, and leaves the entry that this adds; none where it has nothing to do. Without memory all is as good as before.
@@ -174,17 +189,14 @@ impl<'a> Machine<'a> {
     ) -> Result<(), AllocError>
         ensures step { OnOk result (IsStep self.old (Thread tid) added.new self.new) }
         ensures err { OnErr result (Stands self.old self.new) }
+        ensures place { OnErr result (added.new ≡ added.old) }
         ensures input { self.new.input ≡ self.old.input }
     {
-        let step = self.view().next_step(alloc, tid)?;
-        if let Step::Wait = step {
-            leave_none(added);
-            return Ok(());
-        }
         let Some(pid) = self.system.pid_of(tid) else {
             leave_none(added);
             return Ok(());
         };
+        let step = self.view().next_step(alloc, tid)?;
         self.act(alloc, tid, pid, step, added)
     }
 }

@@ -14,6 +14,7 @@ impl<'a> Machine<'a> {
     pub fn ask(&mut self, alloc: Global, added: &mut Option<Entry>) -> Result<(), AllocError>
         ensures step { OnOk result (IsStep self.old Operator added.new self.new) }
         ensures err { OnErr result (Stands self.old self.new) }
+        ensures place { OnErr result (added.new ≡ added.old) }
         ensures input { self.new.input ≡ self.old.input }
     {
         let Some(copies) = self.view().least_question(alloc)? else {

@@ -19,6 +19,7 @@ impl<'a> Machine<'a> {
     ) -> Result<(), AllocError>
         ensures step { OnOk result (IsStep self.old (choices.Worker worker) added.new self.new) }
         ensures err { OnErr result (Stands self.old self.new) }
+        ensures place { OnErr result (added.new ≡ added.old) }
         ensures input { self.new.input ≡ self.old.input }
     {
         if worker < 1 || worker > self.workers.workers() {
@@ -37,6 +38,7 @@ impl<'a> Machine<'a> {
     ) -> Result<(), AllocError>
         ensures step { OnOk result (IsStep self.old choice added.new self.new) }
         ensures err { OnErr result (Stands self.old self.new) }
+        ensures place { OnErr result (added.new ≡ added.old) }
         ensures input { self.new.input ≡ self.old.input }
     {
         match choice {

@@ -59,6 +59,7 @@ impl<'a> Machine<'a> {
         requires there { IsPid self.old.system.processes pid }
         ensures step { OnOk result (IsStep self.old (Thread tid) added.new self.new) }
         ensures err { OnErr result (Stands self.old self.new) }
+        ensures place { OnErr result (added.new ≡ added.old) }
         ensures input { self.new.input ≡ self.old.input }
     {
         let head = self.view().head_of(seq, pid, call, &regs)?;
@@ -92,6 +93,7 @@ impl<'a> Machine<'a> {
         requires there { IsPid self.old.system.processes pid }
         ensures step { OnOk result (IsStep self.old (Thread tid) added.new self.new) }
         ensures err { OnErr result (Stands self.old self.new) }
+        ensures place { OnErr result (added.new ≡ added.old) }
         ensures input { self.new.input ≡ self.old.input }
     {
         let way = self.view().way_of(tid, pid, call, &regs);

@@ -1,6 +1,7 @@
 // Calls are made, and end what their changes end.
-ghost use Rattle.std.specs.Prelude.{◌≡◌, true, false, Some, OnOk, OnErr};
+ghost use Rattle.std.specs.Prelude.{◌≡◌, true, false, Some, IfOk, OnOk, OnErr};
 ghost use Rattle.st_law.specs.Schedules.{sets_ids};
+ghost use Rattle.st_machine.specs.Making.{MakesCall};
 ghost use Rattle.st_next.specs.Machine.{IsNext, IsStep, Stands};
 ghost use Rattle.st_next.specs.Making.{request_with};
 ghost use Rattle.st_next.specs.NextSteps.{IsFit};
@@ -17,6 +18,7 @@ use crate::placing::leave;
 use st_base::{Pid, Tid};
 use st_calls::SysCall;
 use st_next::Use;
+use st_request::Outcome;
 use st_threads::{end_by_all, end_call};
 use st_trace::Entry;
 use std::alloc::{AllocError, Global};
@@ -33,25 +35,18 @@ fn sets_ids(call: SysCall) -> bool
 
 impl<'a> Machine<'a> {
     // A thread's call is made, which sets no ids. Without memory all is as good as before.
-    pub(crate) fn make(
-        &mut self,
-        alloc: Global,
-        tid: Tid,
-        pid: Pid,
-        made: Use,
-        added: &mut Option<Entry>,
-    ) -> Result<(), AllocError>
-        requires next { IsNext self.old tid (steps.Make made) }
+    fn make(&mut self, alloc: Global, tid: Tid, pid: Pid, made: &Use) -> Result<Outcome, AllocError>
+        requires next { IsNext self.old tid (steps.Make made.now) }
         requires process { pid_of self.old.system.processes tid ≡ Some pid }
         requires there { IsPid self.old.system.processes pid }
-        requires can { CanMake made.call self.old.system (request_with self.old tid pid made) }
-        requires unlinked { follows made.call made.regs 0 ≡ true → IsNoLink self.old.system.tree (first_name made.args) }
-        requires sets_none { sets_ids made.call ≡ false }
-        ensures step { OnOk result (IsStep self.old (Thread tid) added.new self.new) }
+        requires can { CanMake made.now.call self.old.system (request_with self.old tid pid made.now) }
+        requires unlinked { follows made.now.call made.now.regs 0 ≡ true → IsNoLink self.old.system.tree (first_name made.now.args) }
+        requires sets_none { sets_ids made.now.call ≡ false }
+        ensures made { IfOk result (λ outcome. MakesCall self.old tid made.now outcome self.new) }
         ensures err { OnErr result (Stands self.old self.new) }
         ensures input { self.new.input ≡ self.old.input }
     {
-        let request = self.view().request_with(tid, pid, &made);
+        let request = self.view().request_with(tid, pid, made);
         let outcome = self.system.execute(alloc, made.call, &request)?;
         self.threads[tid as usize - 1].close();
         end_call(&mut self.workers, made.seq);
@@ -64,11 +59,35 @@ impl<'a> Machine<'a> {
             pid,
             changes,
         );
-        leave(added, made.entry(tid, outcome.result, outcome.changes));
-        Ok(())
+        Ok(outcome)
     }
 
     // A thread's call is made, whichever it is. Without memory all is as good as before.
+    fn make_any(
+        &mut self,
+        alloc: Global,
+        tid: Tid,
+        pid: Pid,
+        made: &Use,
+    ) -> Result<Outcome, AllocError>
+        requires next { IsNext self.old tid (steps.Make made.now) }
+        requires fit { IsFit self.old.system made.now }
+        requires process { pid_of self.old.system.processes tid ≡ Some pid }
+        requires there { IsPid self.old.system.processes pid }
+        ensures made { IfOk result (λ outcome. MakesCall self.old tid made.now outcome self.new) }
+        ensures err { OnErr result (Stands self.old self.new) }
+        ensures input { self.new.input ≡ self.old.input }
+    {
+        // A thread that has started has a process, and the one that a fork starts has none.
+        let _has_started = self.system.has_started(self.view().child_of(tid));
+        if sets_ids(made.call) {
+            self.make_and_renew(alloc, tid, pid, made)
+        } else {
+            self.make(alloc, tid, pid, made)
+        }
+    }
+
+    // A thread's call is made, and its entry is left. Without memory all is as good as before.
     pub(crate) fn use_call(
         &mut self,
         alloc: Global,
@@ -83,14 +102,11 @@ impl<'a> Machine<'a> {
         requires there { IsPid self.old.system.processes pid }
         ensures step { OnOk result (IsStep self.old (Thread tid) added.new self.new) }
         ensures err { OnErr result (Stands self.old self.new) }
+        ensures place { OnErr result (added.new ≡ added.old) }
         ensures input { self.new.input ≡ self.old.input }
     {
-        // A thread that has started has a process, and the one that a fork starts has none.
-        let _has_started = self.system.has_started(self.view().child_of(tid));
-        if sets_ids(made.call) {
-            self.make_and_renew(alloc, tid, pid, made, added)
-        } else {
-            self.make(alloc, tid, pid, made, added)
-        }
+        let outcome = self.make_any(alloc, tid, pid, &made)?;
+        leave(added, made.entry(tid, outcome.result, outcome.changes));
+        Ok(())
     }
 }

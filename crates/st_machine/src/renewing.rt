@@ -1,7 +1,8 @@
 // Held calls draw new numbers behind a call that sets ids of their process.
-ghost use Rattle.std.specs.Prelude.{◌≡◌, ◌≢◌, ◌<◌, ◌+◌, ◌-◌, ◌^◌, true, [], ◌∷◌, ◌++◌, length, replicate, slice_index_or, Some, None, IsSome, IfSome, IfOk, OnOk, OnErr};
+ghost use Rattle.std.specs.Prelude.{◌≡◌, ◌≢◌, ◌<◌, ◌+◌, ◌-◌, ◌^◌, true, [], ◌∷◌, ◌++◌, length, replicate, slice_index_or, Some, None, IsSome, IfSome, IfOk, OnErr};
 ghost use Rattle.st_law.specs.Schedules.{sets_ids};
-ghost use Rattle.st_next.specs.Machine.{IsNext, IsStep, Stands};
+ghost use Rattle.st_machine.specs.Making.{MakesCall};
+ghost use Rattle.st_next.specs.Machine.{IsNext, Stands};
 ghost use Rattle.st_next.specs.Making.{request_with};
 ghost use Rattle.st_next.specs.declared.step.Step.TheVariants as steps;
 ghost use Rattle.st_calls.specs.Call.{follows};
@@ -10,15 +11,13 @@ ghost use Rattle.st_model.specs.Identity.{ids_after_set, set_refused};
 ghost use Rattle.st_model.specs.Processes.{pid_of, process_at, IsPid};
 ghost use Rattle.st_system.specs.Fit.{first_name};
 ghost use Rattle.st_system.specs.Steps.{CanMake};
-ghost use Rattle.st_trace.specs.declared.entry.Choice.TheVariants.{Thread as Moves};
 
 use crate::machine::Machine;
-use crate::placing::leave;
-use st_base::{Ids, Pid, Sequence, Tid};
+use st_base::{Ids, Pid, Tid};
 use st_next::Use;
 use st_procs::ids_after;
+use st_request::Outcome;
 use st_threads::{end_call, plan_renewals, renew_all};
-use st_trace::Entry;
 use std::alloc::{AllocError, Global};
 
 impl<'a> Machine<'a> {
@@ -28,19 +27,18 @@ impl<'a> Machine<'a> {
         alloc: Global,
         tid: Tid,
         pid: Pid,
-        made: Use,
+        made: &Use,
         set: Ids,
-        added: &mut Option<Entry>,
-    ) -> Result<(), AllocError>
-        requires next { IsNext self.old tid (steps.Make made) }
+    ) -> Result<Outcome, AllocError>
+        requires next { IsNext self.old tid (steps.Make made.now) }
         requires process { pid_of self.old.system.processes tid ≡ Some pid }
         requires there { IsPid self.old.system.processes pid }
-        requires can { CanMake made.call self.old.system (request_with self.old tid pid made) }
-        requires unlinked { follows made.call made.regs 0 ≡ true → IsNoLink self.old.system.tree (first_name made.args) }
-        requires sets { sets_ids made.call ≡ true }
-        requires refused { set_refused made.call made.ids (slice_index_or made.regs 0 0) ≡ None }
-        requires set { ids_after_set made.call made.ids (slice_index_or made.regs 0 0) ≡ set }
-        ensures step { OnOk result (IsStep self.old (Moves tid) added.new self.new) }
+        requires can { CanMake made.now.call self.old.system (request_with self.old tid pid made.now) }
+        requires unlinked { follows made.now.call made.now.regs 0 ≡ true → IsNoLink self.old.system.tree (first_name made.now.args) }
+        requires sets { sets_ids made.now.call ≡ true }
+        requires refused { set_refused made.now.call made.now.ids (slice_index_or made.now.regs 0 0) ≡ None }
+        requires set { ids_after_set made.now.call made.now.ids (slice_index_or made.now.regs 0 0) ≡ set }
+        ensures made { IfOk result (λ outcome. MakesCall self.old tid made.now outcome self.new) }
         ensures err { OnErr result (Stands self.old self.new) }
         ensures input { self.new.input ≡ self.old.input }
     {
@@ -53,7 +51,7 @@ impl<'a> Machine<'a> {
             set,
             self.workers.next_seq(),
         )?;
-        let request = self.view().request_with(tid, pid, &made);
+        let request = self.view().request_with(tid, pid, made);
         let outcome = self.system.execute(alloc, made.call, &request)?;
         self.threads[tid as usize - 1].close();
         end_call(&mut self.workers, made.seq);
@@ -65,8 +63,10 @@ impl<'a> Machine<'a> {
             tid,
             plan.cwds,
         );
-        leave(added, made.entry(tid, outcome.result, plan.changes));
-        Ok(())
+        Ok(Outcome {
+            result: outcome.result,
+            changes: plan.changes,
+        })
     }
 
     // A thread's call is made that is to set ids, which is refused. Without memory all is as good as before.
@@ -75,26 +75,24 @@ impl<'a> Machine<'a> {
         alloc: Global,
         tid: Tid,
         pid: Pid,
-        made: Use,
-        added: &mut Option<Entry>,
-    ) -> Result<(), AllocError>
-        requires next { IsNext self.old tid (steps.Make made) }
+        made: &Use,
+    ) -> Result<Outcome, AllocError>
+        requires next { IsNext self.old tid (steps.Make made.now) }
         requires process { pid_of self.old.system.processes tid ≡ Some pid }
         requires there { IsPid self.old.system.processes pid }
-        requires can { CanMake made.call self.old.system (request_with self.old tid pid made) }
-        requires unlinked { follows made.call made.regs 0 ≡ true → IsNoLink self.old.system.tree (first_name made.args) }
-        requires sets { sets_ids made.call ≡ true }
-        requires refused { IsSome (set_refused made.call made.ids (slice_index_or made.regs 0 0)) }
-        ensures step { OnOk result (IsStep self.old (Moves tid) added.new self.new) }
+        requires can { CanMake made.now.call self.old.system (request_with self.old tid pid made.now) }
+        requires unlinked { follows made.now.call made.now.regs 0 ≡ true → IsNoLink self.old.system.tree (first_name made.now.args) }
+        requires sets { sets_ids made.now.call ≡ true }
+        requires refused { IsSome (set_refused made.now.call made.now.ids (slice_index_or made.now.regs 0 0)) }
+        ensures made { IfOk result (λ outcome. MakesCall self.old tid made.now outcome self.new) }
         ensures err { OnErr result (Stands self.old self.new) }
         ensures input { self.new.input ≡ self.old.input }
     {
-        let request = self.view().request_with(tid, pid, &made);
+        let request = self.view().request_with(tid, pid, made);
         let outcome = self.system.execute(alloc, made.call, &request)?;
         self.threads[tid as usize - 1].close();
         end_call(&mut self.workers, made.seq);
-        leave(added, made.entry(tid, outcome.result, Sequence::new(alloc)));
-        Ok(())
+        Ok(outcome)
     }
 
     // A thread's call is made that sets ids, and each other held call of its process draws a new number, in the order of threads. Without
@@ -104,22 +102,21 @@ impl<'a> Machine<'a> {
         alloc: Global,
         tid: Tid,
         pid: Pid,
-        made: Use,
-        added: &mut Option<Entry>,
-    ) -> Result<(), AllocError>
-        requires next { IsNext self.old tid (steps.Make made) }
+        made: &Use,
+    ) -> Result<Outcome, AllocError>
+        requires next { IsNext self.old tid (steps.Make made.now) }
         requires process { pid_of self.old.system.processes tid ≡ Some pid }
         requires there { IsPid self.old.system.processes pid }
-        requires can { CanMake made.call self.old.system (request_with self.old tid pid made) }
-        requires unlinked { follows made.call made.regs 0 ≡ true → IsNoLink self.old.system.tree (first_name made.args) }
-        requires sets { sets_ids made.call ≡ true }
-        ensures step { OnOk result (IsStep self.old (Moves tid) added.new self.new) }
+        requires can { CanMake made.now.call self.old.system (request_with self.old tid pid made.now) }
+        requires unlinked { follows made.now.call made.now.regs 0 ≡ true → IsNoLink self.old.system.tree (first_name made.now.args) }
+        requires sets { sets_ids made.now.call ≡ true }
+        ensures made { IfOk result (λ outcome. MakesCall self.old tid made.now outcome self.new) }
         ensures err { OnErr result (Stands self.old self.new) }
         ensures input { self.new.input ≡ self.old.input }
     {
         match ids_after(made.call, made.ids, made.regs[0]) {
-            Ok(set) => self.set_ids(alloc, tid, pid, made, set, added),
-            Err(_) => self.set_no_ids(alloc, tid, pid, made, added),
+            Ok(set) => self.set_ids(alloc, tid, pid, made, set),
+            Err(_) => self.set_no_ids(alloc, tid, pid, made),
         }
     }
 }

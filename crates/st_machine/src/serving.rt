@@ -36,6 +36,7 @@ impl<'a> Machine<'a> {
         requires { IsWorker self.old.workers.calls worker }
         ensures step { OnOk result (IsStep self.old (Worker worker) added.new self.new) }
         ensures err { OnErr result (Stands self.old self.new) }
+        ensures place { OnErr result (added.new ≡ added.old) }
         ensures input { self.new.input ≡ self.old.input }
     {
         match self.workers.task(worker) {
@@ -72,6 +73,7 @@ impl<'a> Machine<'a> {
         requires { HasTask self.old worker tasks.Claim }
         ensures step { OnOk result (IsStep self.old (Worker worker) added.new self.new) }
         ensures err { OnErr result (Stands self.old self.new) }
+        ensures place { OnErr result (added.new ≡ added.old) }
         ensures input { self.new.input ≡ self.old.input }
     {
         let seq = self.workers.claim(alloc, worker)?;
@@ -93,6 +95,7 @@ impl<'a> Machine<'a> {
         requires task { HasTask self.old worker (tasks.Copy seq pid part place) }
         ensures step { OnOk result (IsStep self.old (Worker worker) added.new self.new) }
         ensures err { OnErr result (Stands self.old self.new) }
+        ensures place { OnErr result (added.new ≡ added.old) }
         ensures input { self.new.input ≡ self.old.input }
     {
         let word = self.system.word(pid, place);
@@ -121,6 +124,7 @@ impl<'a> Machine<'a> {
         requires { HasTask self.old worker (tasks.Look seq part) }
         ensures step { OnOk result (IsStep self.old (Worker worker) added.new self.new) }
         ensures err { OnErr result (Stands self.old self.new) }
+        ensures place { OnErr result (added.new ≡ added.old) }
         ensures input { self.new.input ≡ self.old.input }
     {
         let name = self.workers.look_name(alloc, worker)?;

@@ -67,6 +67,7 @@ invariant_of-self-in-None c =
 pub returns-in-None-clause-chosen : goal.returns-in-None-clause-chosen
 returns-in-None-clause-chosen c =
     let step : IsStep c.self.inside.machine c.args.choice None c.choose.new.self = subst (λ (o : Option Entry). IsStep c.self.inside.machine c.args.choice o c.choose.new.self) c.in-None.is c.in_ok-choose.ensures.step in (
+      c.in-None.is,
       subst (λ (course : Course). entry_of course.input (state_in course) c.args.choice ≡ None) c.self.view_is (step _ c.self.invariant.machine).0,
       (λ k. record { input = c.choose.ensures.input k; choices = spelled_choices (c.reserve.ensures.items k) }) ∙ c.self.view_is,
     )

@@ -1,17 +1,17 @@
 use Rattle.std.proofs.Common.{◌≡◌, ◌∙◌, false, None, subst, arith}
 use Rattle.st_law.specs.Machine.{thread_entry}
 use Rattle.st_trace.specs.declared.entry.Choice.TheVariants.{Thread}
-use Rattle.st_kernel.specs.Kernel.{Course, IsChosen, state_in}
+use Rattle.st_kernel.specs.Kernel.{Course, IsTried, state_in}
 use Rattle.st_kernel.proofs.Cursors.{one_more}
 use Rattle.st_kernel.proofs.kernel.Kernel.move_first.Goals as goal
 
 pub loop-tid-preserved : goal.loop-tid-preserved
 loop-tid-preserved c =
-    let chosen : IsChosen c.loop-tid.self (Thread c.loop-tid.tid) false c.move_here.new.added c.move_here.new.self = subst (λ moved. IsChosen c.loop-tid.self (Thread c.loop-tid.tid) moved c.move_here.new.added c.move_here.new.self) c.if-branch.false c.in_ok-move_here.ensures.chosen in
+    let tried : IsTried c.loop-tid.self (Thread c.loop-tid.tid) false c.move_here.new.added c.move_here.new.self = subst (λ moved. IsTried c.loop-tid.self (Thread c.loop-tid.tid) moved c.move_here.new.added c.move_here.new.self) c.if-branch.false c.in_ok-move_here.ensures.tried in
     record {
-      same = chosen.1 ∙ c.loop-tid.invariant.same;
+      same = tried.1 ∙ c.loop-tid.invariant.same;
       from = omega arith;
       end = c.loop-tid.invariant.end;
       before = one_more (λ t. thread_entry c.args.self.now.input (state_in c.args.self.now) t ≡ None) c.loop-tid.tid c.loop-tid.invariant.before
-          (subst (λ (course : Course). thread_entry course.input (state_in course) c.loop-tid.tid ≡ None) c.loop-tid.invariant.same chosen.0);
+          (subst (λ (course : Course). thread_entry course.input (state_in course) c.loop-tid.tid ≡ None) c.loop-tid.invariant.same tried.0);
     }

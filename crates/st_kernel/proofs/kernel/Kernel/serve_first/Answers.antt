@@ -9,9 +9,9 @@ pub loop-worker-preserved : goal.loop-worker-preserved
 loop-worker-preserved c =
     let chosen : IsChosen c.loop-worker.self (Worker c.loop-worker.worker) false c.choose.new.added c.choose.new.self = subst (λ moved. IsChosen c.loop-worker.self (Worker c.loop-worker.worker) moved c.choose.new.added c.choose.new.self) c.if-branch.false c.in_ok-choose.ensures.chosen in
     record {
-      same = chosen.1 ∙ c.loop-worker.invariant.same;
+      same = chosen.2 ∙ c.loop-worker.invariant.same;
       from = omega arith;
       end = c.loop-worker.invariant.end;
       before = one_more (λ n. entry_of c.args.self.now.input (state_in c.args.self.now) (Worker n) ≡ None) c.loop-worker.worker c.loop-worker.invariant.before
-          (subst (λ (course : Course). entry_of course.input (state_in course) (Worker c.loop-worker.worker) ≡ None) c.loop-worker.invariant.same chosen.0);
+          (subst (λ (course : Course). entry_of course.input (state_in course) (Worker c.loop-worker.worker) ≡ None) c.loop-worker.invariant.same chosen.1);
     }

@@ -17,72 +17,71 @@ use Rattle.st_next.specs.declared.step.Step.TheVariants as steps
 use Rattle.st_machine.proofs.After.{with_parts}
 use Rattle.st_machine.proofs.MadeSteps.{calls_closed, making, seq_there}
 use Rattle.st_machine.proofs.Moving.{row_making}
-use Rattle.st_machine.proofs.Served.{left_as, running_step}
+use Rattle.st_machine.proofs.Served.{running_step}
 use Rattle.st_machine.proofs.machine.Machine.make.Goals as goal
 
 pub end_call-requires : goal.end_call-requires
 end_call-requires c =
     let m : Running = record { input = c.self.inside.input.now; system = c.self.inside.system; workers = c.self.inside.workers; threads = c.self.inside.threads.items; answers = c.self.inside.answers; operator = c.self.inside.operator } in
-    let next = subst (λ (k : Running). IsNext k c.args.tid (steps.Make c.args.made)) (sym c.self.view_is) c.requires.next in
+    let next = subst (λ (k : Running). IsNext k c.args.tid (steps.Make c.args.made.now)) (sym c.self.view_is) c.requires.next in
     let process = ap (λ (k : Running). pid_of k.system.processes c.args.tid) c.self.view_is ∙ c.requires.process in
-    let row = row_making m c.self.invariant c.args.tid c.args.made next in
-    seq_there m c.self.invariant.state c.self.invariant.is c.args.tid c.args.pid c.args.made next process row.0 row.1
+    let row = row_making m c.self.invariant c.args.tid c.args.made.now next in
+    seq_there m c.self.invariant.state c.self.invariant.is c.args.tid c.args.pid c.args.made.now next process row.0 row.1
 
 pub end_by_all-requires-clause-calls : goal.end_by_all-requires-clause-calls
 end_by_all-requires-clause-calls c =
     let m : Running = record { input = c.self.inside.input.now; system = c.self.inside.system; workers = c.self.inside.workers; threads = c.self.inside.threads.items; answers = c.self.inside.answers; operator = c.self.inside.operator } in
-    let next = subst (λ (k : Running). IsNext k c.args.tid (steps.Make c.args.made)) (sym c.self.view_is) c.requires.next in
+    let next = subst (λ (k : Running). IsNext k c.args.tid (steps.Make c.args.made.now)) (sym c.self.view_is) c.requires.next in
     let process = ap (λ (k : Running). pid_of k.system.processes c.args.tid) c.self.view_is ∙ c.requires.process in
-    let row = row_making m c.self.invariant c.args.tid c.args.made next in
+    let row = row_making m c.self.invariant c.args.tid c.args.made.now next in
     let put : c.close.new.self ≡ record row.0 { pending = None } = c.close.ensures ∙ ap (λ (r : ThreadRow). record r { pending = None }) (read_is m.threads c.args.tid row.0 c.index_mut.result.now row.1 c.index_mut.ensures.value) in
     subst (λ (rows : List ThreadRow). HaveCalls rows c.end_call.new.workers) (sym (c.deref_mut.ensures.value ∙ ap (set m.threads (c.args.tid - 1)) put))
-    (calls_closed m c.self.invariant.state c.self.invariant.is c.args.tid c.args.pid c.args.made next process row.0 row.1 c.end_call.new.workers c.end_call.ensures)
+    (calls_closed m c.self.invariant.state c.self.invariant.is c.args.tid c.args.pid c.args.made.now next process row.0 row.1 c.end_call.new.workers c.end_call.ensures)
 
 -- ---- behind the call
 
-abbrev old : goal.After-leave → Running
+abbrev old : goal.After-self-2-1 → Running
 old c = record { input = c.self.inside.input.now; system = c.self.inside.system; workers = c.self.inside.workers; threads = c.self.inside.threads.items; answers = c.self.inside.answers; operator = c.self.inside.operator }
 
-next : (c : goal.After-leave) → IsNext (old c) c.args.tid (steps.Make c.args.made)
-next c = subst (λ (k : Running). IsNext k c.args.tid (steps.Make c.args.made)) (sym c.self.view_is) c.requires.next
+next : (c : goal.After-self-2-1) → IsNext (old c) c.args.tid (steps.Make c.args.made.now)
+next c = subst (λ (k : Running). IsNext k c.args.tid (steps.Make c.args.made.now)) (sym c.self.view_is) c.requires.next
 
-row : (c : goal.After-leave) → (row : ThreadRow) × (item_at_number (old c).threads c.args.tid ≡ Some row)
-row c = row_making (old c) c.self.invariant c.args.tid c.args.made (next c)
+row : (c : goal.After-self-2-1) → (row : ThreadRow) × (item_at_number (old c).threads c.args.tid ≡ Some row)
+row c = row_making (old c) c.self.invariant c.args.tid c.args.made.now (next c)
 
-closed : (c : goal.After-leave) → c.deref_mut.result.now ≡ set (old c).threads (c.args.tid - 1) (record (row c).0 { pending = None })
+closed : (c : goal.After-self-2-1) → c.deref_mut.result.now ≡ set (old c).threads (c.args.tid - 1) (record (row c).0 { pending = None })
 closed c = c.deref_mut.ensures.value
     ∙ ap (set (old c).threads (c.args.tid - 1)) (c.close.ensures ∙ ap (λ (r : ThreadRow). record r { pending = None }) (read_is (old c).threads c.args.tid (row c).0 c.index_mut.result.now (row c).1 c.index_mut.ensures.value))
 
-done : (c : goal.After-leave) → IsDone c.args.made.call (request_with (old c) c.args.tid c.args.pid c.args.made) c.in_ok-outcome.outcome (old c).system c.execute.new.self
-done c = subst (λ (request : Request). IsDone c.args.made.call request c.in_ok-outcome.outcome (old c).system c.execute.new.self)
-    (c.request_with-request.ensures ∙ ap (λ (k : Running). request_with k c.args.tid c.args.pid c.args.made) (c.view.ensures ∙ sym c.self.view_is)) c.in_ok-outcome.ensures.done
+done : (c : goal.After-self-2-1) → IsDone c.args.made.now.call (request_with (old c) c.args.tid c.args.pid c.args.made.now) c.in_ok-outcome.outcome (old c).system c.execute.new.self
+done c = subst (λ (request : Request). IsDone c.args.made.now.call request c.in_ok-outcome.outcome (old c).system c.execute.new.self)
+    (c.request_with-request.ensures ∙ ap (λ (k : Running). request_with k c.args.tid c.args.pid c.args.made.now) (c.view.ensures ∙ sym c.self.view_is)) c.in_ok-outcome.ensures.done
 
-over : (c : goal.After-leave) → HaveEnded (is_ended_by c.execute.new.self.processes c.args.tid c.args.pid c.in_ok-outcome.outcome.changes) (set (old c).threads (c.args.tid - 1) (record (row c).0 { pending = None })) c.end_call.new.workers c.end_by_all.new.threads c.end_by_all.new.workers
+over : (c : goal.After-self-2-1) → HaveEnded (is_ended_by c.execute.new.self.processes c.args.tid c.args.pid c.in_ok-outcome.outcome.changes) (set (old c).threads (c.args.tid - 1) (record (row c).0 { pending = None })) c.end_call.new.workers c.end_by_all.new.threads c.end_by_all.new.workers
 over c = subst (λ (rows : List ThreadRow). HaveEnded (is_ended_by c.execute.new.self.processes c.args.tid c.args.pid c.in_ok-outcome.outcome.changes) rows c.end_call.new.workers c.end_by_all.new.threads c.end_by_all.new.workers) (closed c)
     (subst (λ (changes : List Change). HaveEnded (is_ended_by c.execute.new.self.processes c.args.tid c.args.pid changes) c.deref_mut.result.now c.end_call.new.workers c.end_by_all.new.threads c.end_by_all.new.workers) c.as_slice-changes.ensures c.end_by_all.ensures)
 
-abbrev new : (c : goal.After-leave) → List ThreadRow → Running
+abbrev new : (c : goal.After-self-2-1) → List ThreadRow → Running
 new c rows = with_parts (old c) c.execute.new.self c.end_by_all.new.workers rows
 
-abbrev used : goal.After-leave → Entry
-used c = entry.Used c.args.tid c.args.made.seq c.args.made.call c.args.made.regs c.args.made.args c.args.made.ids c.in_ok-outcome.outcome.result c.in_ok-outcome.outcome.changes
+abbrev used : goal.After-self-2-1 → Entry
+used c = entry.Used c.args.tid c.args.made.now.seq c.args.made.now.call c.args.made.now.regs c.args.made.now.args c.args.made.now.ids c.in_ok-outcome.outcome.result c.in_ok-outcome.outcome.changes
 
-step : (c : goal.After-leave) → IsStep (old c) (choice.Thread c.args.tid) (Some (used c)) (new c c.end_by_all.new.threads)
-step c = making (old c) c.args.tid c.args.pid c.args.made (next c) (ap (λ (k : Running). pid_of k.system.processes c.args.tid) c.self.view_is ∙ c.requires.process) (row c).0 (row c).1 c.requires.sets_none
+step : (c : goal.After-self-2-1) → IsStep (old c) (choice.Thread c.args.tid) (Some (used c)) (new c c.end_by_all.new.threads)
+step c = making (old c) c.args.tid c.args.pid c.args.made.now (next c) (ap (λ (k : Running). pid_of k.system.processes c.args.tid) c.self.view_is ∙ c.requires.process) (row c).0 (row c).1 c.requires.sets_none
     c.in_ok-outcome.outcome c.execute.new.self (done c) c.end_call.new.workers c.end_by_all.new.workers c.end_by_all.new.threads c.end_call.ensures (over c)
 
-abbrev rows : goal.After-leave → List ThreadRow
+abbrev rows : goal.After-self-2-1 → List ThreadRow
 rows c = take c.self.inside.threads.len (c.end_by_all.new.threads ++ drop (length c.end_by_all.new.threads) (set (old c).threads (c.args.tid - 1) c.close.new.self))
 
-rows_are : (c : goal.After-leave) → rows c ≡ c.end_by_all.new.threads
+rows_are : (c : goal.After-self-2-1) → rows c ≡ c.end_by_all.new.threads
 rows_are c = whole_again c.end_by_all.new.threads (set (old c).threads (c.args.tid - 1) c.close.new.self) c.self.inside.threads.len (c.self.inside.threads.ok.0 ∙ sym (length-set (old c).threads (c.args.tid - 1) c.close.new.self))
     (c.end_by_all.ensures.count ∙ ap (λ (all : List ThreadRow). length all) c.deref_mut.ensures.value)
 
 pub invariant_of-self-2 : goal.invariant_of-self-2
 invariant_of-self-2 c = subst (λ (all : List ThreadRow). IsRunning (new c all)) (sym (rows_are c)) (running_step (old c) (new c c.end_by_all.new.threads) (choice.Thread c.args.tid) (used c) c.self.invariant (step c))
 
-pub returns-clause-step : goal.returns-clause-step
-returns-clause-step c = left_as _ _ (choice.Thread c.args.tid) _ _ c.leave.ensures
-    (subst (λ (k : Running). IsStep k (choice.Thread c.args.tid) (Some c.entry.result) (new c (rows c))) c.self.view_is
-    (subst (λ (e : Entry). IsStep (old c) (choice.Thread c.args.tid) (Some e) (new c (rows c))) (sym c.entry.ensures)
-    (subst (λ (all : List ThreadRow). IsStep (old c) (choice.Thread c.args.tid) (Some (used c)) (new c all)) (sym (rows_are c)) (step c))))
+pub returns-clause-made : goal.returns-clause-made
+returns-clause-made c =
+    subst (λ (k : Running). IsStep k (choice.Thread c.args.tid) (Some (used c)) (new c (rows c))) c.self.view_is
+    (subst (λ (all : List ThreadRow). IsStep (old c) (choice.Thread c.args.tid) (Some (used c)) (new c all)) (sym (rows_are c)) (step c))
