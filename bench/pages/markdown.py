@@ -103,5 +103,6 @@ def marked_parts(page):
 
 def pages():
     """Returns the pages that are checked."""
-    paths = [tree.TOP / "README.md", tree.TOP / "bench/README.md", *sorted((tree.TOP / "docs").glob("*.md"))]
+    tops = ("README.md", "CONTRIBUTING.md", "bench/README.md")
+    paths = [*(tree.TOP / name for name in tops), *sorted((tree.TOP / "docs").glob("*.md"))]
     return [Page(path) for path in paths]
