@@ -466,7 +466,7 @@ def wrong_bodies_are_listed(known, page):
         if block.kind != "row" or not crate or "Wrong body" not in block.header:
             continue
         cells = dict(zip(block.header, block.cells))
-        name = re.sub(r"[ -]", "_", cells["Wrong body"].replace("`", ""))
+        name = re.sub(r"[ -]", "_", re.sub(r"[`*]", "", cells["Wrong body"]))
         listed.add((crate, name))
         if not any(name in names for names in known.crates[crate].wrong_bodies):
             yield block.line, f"`{crate}` has no wrong body {name}"
@@ -482,7 +482,7 @@ def function_stands(known, block, crate, cells):
         items += known.items(function, crate)
         if not known.items(function, crate):
             yield block.line, f"`{function}` is no function of `{crate}`"
-    clause = re.match(r"clause `(\w+)`$", cells.get("Not proved then", ""))
+    clause = re.fullmatch(r"`(\w+)`", cells.get("Not proved", ""))
     if items and clause and not any(clause[1] in item.clauses for item in items):
         yield block.line, f"no clause `{clause[1]}` in the contract of {cells['Function']}"
 

@@ -51,16 +51,12 @@ def crate_list(crates, _):
 
 def crate_tables(crates, lines):
     """A table of each layer. Its last column is written by hand: what the part has for a crate is kept."""
-    by_hand = {cells[0].strip("`"): cells[-1] for cells in map(markdown.cells_of, lines) if len(cells) > 3}
-    head = "| Crate | What it does | Stands on | What its contracts speak of |"
+    by_hand = {cells[0].strip("`"): cells[-1] for cells in map(markdown.cells_of, lines) if len(cells) > 2}
+    head = "|Crate|What it does|What its contracts speak of|"
     made = []
     for layer, each in tree.layers(crates).items():
         made += ["", f"### {layer[0].upper()}{layer[1:]}", "", head, edge(head)]
-        for crate in each:
-            below = quoted(name for name in crate.below if name in crates)
-            kit = quoted(name for name in crate.below if name not in crates).replace(", ", " and ")
-            stands = ", ".join(part for part in (below, kit and f"the kit's {kit}") if part) or "-"
-            made.append(f"| `{crate.name}` | {crate.description()} | {stands} | {by_hand.get(crate.name, '')} |")
+        made += [f"|`{crate.name}`|{crate.description()}|{by_hand.get(crate.name, '')}|" for crate in each]
     return made[1:]
 
 
@@ -71,10 +67,10 @@ def chain(crates, _):
 
 def sizes(crates, _):
     """The table of sizes."""
-    head = "| Crate | Code | Definitions | Proofs | Wrong bodies in the gate | apart from it |"
+    head = "|Crate|Code|Definitions|Proofs|Wrong bodies in the gate|apart from it|"
     rows = [(f"`{crate.name}`", crate.sizes()) for crate in crates.values()]
     rows.append(("all", [sum(column) for column in zip(*(counts for _, counts in rows))]))
-    return [head, edge(head)] + [f"| {name} | {' | '.join(f'{count:,}' for count in counts)} |" for name, counts in rows]
+    return [head, edge(head)] + [f"|{name}|{'|'.join(f'{count:,}' for count in counts)}|" for name, counts in rows]
 
 
 def measured(name):
@@ -117,7 +113,7 @@ def parts_stand(known, page):
         yield from (
             (begin + at + 1, f"the row of {cells[0]} says nothing in its last column")
             for at, cells in enumerate(map(markdown.cells_of, made))
-            if len(cells) > 3 and not cells[-1]
+            if len(cells) > 2 and not cells[-1]
         )
 
 
