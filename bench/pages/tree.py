@@ -50,14 +50,14 @@ class Crate:
         return lines + [len(names) for names in self.wrong_bodies]
 
     def description(self):
-        """Returns the first sentence of the comment at the head of the crate's root file, without its full stop."""
+        """Returns what the comment at the head of the crate's root file begins with, up to the first full stop or colon."""
         root = next(path for path in self.sources if path.name in ("lib.rt", "main.rt"))
         lines = []
         for line in root.read_text().splitlines():
             if not re.match(r"//! *\S", line):
                 break
             lines.append(line[3:].strip())
-        return re.split(r"\.(?:\s|$)", " ".join(lines))[0]
+        return re.split(r"[.:](?:\s|$)", " ".join(lines))[0]
 
 
 def read_crates():
