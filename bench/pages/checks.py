@@ -463,10 +463,10 @@ def wrong_bodies_are_listed(known, page):
     listed = set()
     for block in page.text_blocks():
         crate = next((name for name in markdown.SPAN.findall(block.titles[-1]) if name in known.crates), None) if block.titles else None
-        if block.kind != "row" or not crate or "Wrong body" not in block.header:
+        if block.kind != "row" or not crate or "Mutant" not in block.header:
             continue
         cells = dict(zip(block.header, block.cells))
-        name = re.sub(r"[ -]", "_", re.sub(r"[`*]", "", cells["Wrong body"]))
+        name = re.sub(r"[ -]", "_", re.sub(r"[`*]", "", cells["Mutant"]))
         listed.add((crate, name))
         if not any(name in names for names in known.crates[crate].wrong_bodies):
             yield block.line, f"`{crate}` has no wrong body {name}"

@@ -67,7 +67,7 @@ def chain(crates, _):
 
 def sizes(crates, _):
     """The table of sizes."""
-    head = "|Crate|Code|Definitions|Proofs|Wrong bodies in the gate|apart from it|"
+    head = "|Crate|Code|Definitions|Proofs|Mutants in the gate|apart from it|"
     rows = [(f"`{crate.name}`", crate.sizes()) for crate in crates.values()]
     rows.append(("all", [sum(column) for column in zip(*(counts for _, counts in rows))]))
     return [head, edge(head)] + [f"|{name}|{'|'.join(f'{count:,}' for count in counts)}|" for name, counts in rows]
