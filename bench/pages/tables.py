@@ -56,7 +56,7 @@ def crate_tables(crates, lines):
     made = []
     for layer, each in tree.layers(crates).items():
         made += ["", f"### {layer[0].upper()}{layer[1:]}", "", head, edge(head)]
-        made += [f"|`{crate.name}`|{crate.description()}|{by_hand.get(crate.name, '')}|" for crate in each]
+        made += [f"|`{crate.name}`|{crate.description()}|{by_hand.get(crate.name) or ' '}|" for crate in each]
     return made[1:]
 
 
