@@ -1,4 +1,4 @@
--- What a bar is: the kernel's own answer to a barred call, and what ends the call.
+-- Barred calls: the kernel's own answer to a barred call, and which entries end the call.
 use Rattle.std.specs.Prelude.{◌≡◌, ℕ, List, ◌∷◌, ◌++◌, Option, None}
 use Rattle.st_base.specs.declared.errno.Errno.{Errno}
 use Rattle.st_calls.specs.declared.call.SysCall.{SysCall}
@@ -22,7 +22,7 @@ EndsCallOf t (Used u seq call regs args ids result changes) h = u ≡ t
 EndsCallOf t (Denied u seq errno cause) h = u ≡ t
 EndsCallOf t _ h = ⊥
 
--- what the kernel answers by itself to this call of thread t, after these entries
+-- the kernel's own answer to this call of thread t, after these entries
 abbrev pub answer_at : Input → History → ℕ → SysCall → List ℕ → FastAnswer
 answer_at i h t call regs = answer_in i (looking_back i h) (process_in (looking_back i h) t) call regs
 
@@ -31,7 +31,7 @@ pub record IsBarredSince (i : Input) (t n : ℕ) (call : SysCall) (regs : List �
   pub lawful : IsLawfulBack i (later ++ Entered t call regs (Barred n) ∷ earlier)
   pub waits : NoneTouches (EndsCallOf t) later (Entered t call regs (Barred n) ∷ earlier)
 
--- a call has no number, and is denied with the error of the kernel's own answer at its entering, by filter 1
+-- the call has no number, and is denied with the error of the kernel's own answer when it was entered, by filter 1
 pub record IsDeniedByBar (i : Input) (t : ℕ) (call : SysCall) (regs : List ℕ) (earlier : History) (seq : Option ℕ) (errno : Errno) (cause : Cause) : Type 0 where
   pub unheld : seq ≡ None
   pub refused : answer_at i earlier t call regs ≡ answer.Refuse errno

@@ -1,4 +1,4 @@
--- Which entries give each part of a run its value, said of the entries alone.
+-- Which entries give each part of the state its value, defined on the entries and on the history before them.
 use Rattle.std.specs.Prelude.{◌≡◌, ◌≢◌, ◌≤◌, ◌<◌, ◌⊎◌, ℕ, suc, ◌+◌, ◌/◌, ◌%◌, Bool, true, List, [], ◌∷◌, ◌++◌, length, slice_index, Option, Some, None}
 use Rattle.std.specs.Int.{w64, to_le_bytes}
 use Rattle.st_base.specs.Numbered.{item_at_number}
@@ -61,12 +61,12 @@ GivesLeft i t (Stored u place word) h v = (first : Instr) × (u ≡ t) × (left_
 GivesLeft i t (Entered u call regs way) h v = (first : Instr) × (u ≡ t) × (left_at i h t ≡ first ∷ v)
 GivesLeft i t _ h v = ⊥
 
--- the instruction that comes next starts this thread, 0 where it starts none
+-- the next instruction starts this thread, 0 if it starts none
 abbrev pub IsChild : List Instr → ℕ → Type 0
 IsChild (Fork child ∷ later) c = c ≡ child
 IsChild _ c = c ≡ 0
 
--- thread t has a call pending from where it enters it until the call is made or denied
+-- thread t has a call pending from the entry that enters it until the call is made or denied
 abbrev pub GivesPending : Input → ℕ → Entry → History → Option PendingCall → Type 0
 GivesPending i t (Entered u call regs way) h v =
     (child : ℕ) × (u ≡ t) × IsChild (left_at i h t) child × (v ≡ Some (record { call = call; regs = regs; way = way; child = child }))
@@ -79,7 +79,7 @@ abbrev pub Renews : ℕ → Change → Type 0
 Renews q (Renewed old new) = old ≡ q
 Renews q _ = ⊥
 
--- these changes renew number q, once, as number p, which none of the later ones renews
+-- these changes renew number q as number p: no change before renews q, and none after renews p
 pub record RenewsAs (q p : ℕ) (changes : List Change) : Type 0 where
   pub before : List Change
   pub after : List Change
@@ -87,25 +87,25 @@ pub record RenewsAs (q p : ℕ) (changes : List Change) : Type 0 where
   pub none_before : NoneIn (Renews q) before
   pub none_after : NoneIn (Renews p) after
 
--- thread t holds its call under this number: the one that it enters it under, or that its number is renewed as
+-- thread t gets this number for its held call: the number that the call is entered with, or the number that its old one is renewed as
 abbrev pub GivesNumber : ℕ → Entry → History → ℕ → Type 0
 GivesNumber t (Entered u call regs (Held q)) h v = (u ≡ t) × (v ≡ q)
 GivesNumber t (Used u seq call regs args ids result changes) h v = RenewsAs (number_at h t) v changes
 GivesNumber t _ h v = ⊥
 
--- an entry gives thread t a number, or renews the one that it has
+-- an entry gives thread t a number, or renews the number that it has
 abbrev pub TouchesNumber : ℕ → Entry → History → Type 0
 TouchesNumber t (Entered u call regs (Held q)) h = u ≡ t
 TouchesNumber t (Used u seq call regs args ids result changes) h = SomeIn (Renews (number_at h t)) changes
 TouchesNumber t _ h = ⊥
 
--- a change that thread u makes leaves thread t nothing but to end: it kills the process of t, or u runs another binary in it
+-- a change made by thread u leaves thread t dying: it kills the process of t, or u executes another binary in it
 abbrev pub Kills : Input → ℕ → ℕ → History → Change → Type 0
 Kills i t u h (Dying pid) = pid ≡ owner_at i h t
 Kills i t u h (Execed binary space) = (owner_at i h u ≡ owner_at i h t) × (u ≢ t)
 Kills i t u h _ = ⊥
 
--- an entry leaves thread t nothing but to end
+-- an entry leaves thread t dying
 abbrev pub LeavesDying : Input → ℕ → Entry → History → Type 0
 LeavesDying i t (Used u seq call regs args ids result changes) h = SomeIn (Kills i t u h) changes
 LeavesDying i t _ h = ⊥
@@ -115,7 +115,7 @@ abbrev pub IsEnd : ℕ → Entry → History → Type 0
 IsEnd t (Ended u) h = u ≡ t
 IsEnd t _ h = ⊥
 
--- ---- processes: a change is made by a thread u, of the process that it has by the entries before; a child is as its parent is then
+-- ---- processes: thread u makes a change, and its process is that of the history before the entry, also as the parent of a child
 
 -- a change sets whether process p is traced
 abbrev pub GivesTraced : Input → ℕ → ℕ → History → Change → Bool → Type 0
@@ -140,7 +140,7 @@ GivesCwd i p u h (Cwd name) v = (owner_at i h u ≡ p) × (v ≡ name)
 GivesCwd i p u h (Forked pid space tid) v = (pid ≡ p) × (v ≡ (process_at i h (owner_at i h u)).cwd)
 GivesCwd i p u h _ v = ⊥
 
--- a change sets the memory of process p, which a child has for itself
+-- a change sets the space of process p; a child gets one of its own
 abbrev pub GivesSpace : Input → ℕ → ℕ → History → Change → ℕ → Type 0
 GivesSpace i p u h (Execed binary space) v = (owner_at i h u ≡ p) × (v ≡ space)
 GivesSpace i p u h (Forked pid space tid) v = (pid ≡ p) × (v ≡ space)
@@ -151,7 +151,7 @@ abbrev pub GivesNextProcess : ℕ → History → Change → ℕ → Type 0
 GivesNextProcess u h (Forked pid space tid) v = v ≡ suc pid
 GivesNextProcess u h _ v = ⊥
 
--- the next memory has the number after that of the last one
+-- the next space has the number after that of the last one made
 abbrev pub GivesNextSpace : ℕ → History → Change → ℕ → Type 0
 GivesNextSpace u h (Forked pid space tid) v = v ≡ suc space
 GivesNextSpace u h (Execed binary space) v = v ≡ suc space
@@ -159,7 +159,7 @@ GivesNextSpace u h _ v = ⊥
 
 -- ---- memory
 
--- the number of the memory of thread u's process
+-- the number of the space of thread u's process
 abbrev pub memory_of : Input → History → ℕ → ℕ
 memory_of i h u = (process_at i h (owner_at i h u)).space
 
@@ -169,20 +169,20 @@ Covers s b (Put space at bytes) = (space ≡ s) × (at ≤ b) × (b < at + lengt
 Covers s b (Forked pid space tid) = space ≡ s
 Covers s b _ = ⊥
 
--- the byte of these bytes, which lie from this place on, that lies at place b
+-- v is the byte at address b of bytes that begin at address `at`
 pub record LiesAt (b at : ℕ) (bytes : List ℕ) (v : ℕ) : Type 0 where
   pub first : List ℕ
   pub rest : List ℕ
   pub split : bytes ≡ first ++ v ∷ rest
   pub place : b ≡ at + length first
 
--- a change that thread u makes gives byte b of space s; a child's memory has the bytes of its parent's, which no change before wrote
+-- a change made by thread u gives byte b of space s its value; a child's space has the bytes of its parent's, if no change before wrote it
 abbrev pub GivesByteIn : Input → ℕ → ℕ → ℕ → History → List Change → Change → ℕ → Type 0
 GivesByteIn i s b u h before (Put space at bytes) v = (space ≡ s) × LiesAt b at bytes v
 GivesByteIn i s b u h before (Forked pid space tid) v = (space ≡ s) × NoneIn (Covers (memory_of i h u) b) before × (v ≡ byte_at i h (memory_of i h u) b)
 GivesByteIn i s b u h before _ v = ⊥
 
--- an entry gives byte b of space s: a store of its thread's process does, or the last change that writes it
+-- an entry gives byte b of space s its value: a store by a thread of its process, or the last change that writes the byte
 abbrev pub GivesByte : Input → ℕ → ℕ → Entry → History → ℕ → Type 0
 GivesByte i s b (Stored u place word) h v = (memory_of i h u ≡ s) × (b / 8 ≡ place) × (v ≡ slice_index (to_le_bytes w64 word) (b % 8))
 GivesByte i s b (Used u seq call regs args ids result changes) h v = LastGives (Covers s b) (GivesByteIn i s b u h) changes v
@@ -222,7 +222,7 @@ abbrev pub RenewsTo : ℕ → Change → Type 0
 RenewsTo q (Renewed old new) = new ≡ q
 RenewsTo q _ = ⊥
 
--- the head of the old number, but with the ids and the directory that this process has; none where the old one has none
+-- the head of the old number with the ids and the directory of this process; none if the old number has none
 abbrev pub IsRenewedHead : Process → Option Head → Option Head → Type 0
 IsRenewedHead process None v = v ≡ None
 IsRenewedHead process (Some head) v = v ≡ Some (record {
@@ -236,12 +236,12 @@ IsRenewedHead process (Some head) v = v ≡ Some (record {
   regs = head.regs;
 })
 
--- a change gives number q its head, by the heads before the entry and the process as the entry leaves it
+-- a change gives number q its head, by the heads before the entry and the process after the entry
 abbrev pub GivesHeadIn : Input → ℕ → History → Process → List Change → Change → Option Head → Type 0
 GivesHeadIn i q h process before (Renewed old new) v = (new ≡ q) × IsRenewedHead process (head_at i h old) v
 GivesHeadIn i q h process before _ v = ⊥
 
--- an entry gives number q its head: the call that is held under it, as its thread and process are then, or the last renewal as q
+-- an entry gives number q its head: a call that is held under q, with its thread and process as they are then, or the last renewal as q
 abbrev pub GivesHead : Input → ℕ → Entry → History → Option Head → Type 0
 GivesHead i q (Entered t call regs (Held p)) h v = (p ≡ q) × (v ≡ Some (record {
   tid = t;
@@ -268,22 +268,22 @@ abbrev pub Claims : ℕ → Entry → History → Type 0
 Claims q (Claimed w p) h = p ≡ q
 Claims q _ h = ⊥
 
--- an entry copies a word for part j of number q, behind those that were copied
+-- an entry appends a word to those copied for part j of number q
 abbrev pub GivesWords : ℕ → ℕ → Entry → History → List ℕ → Type 0
 GivesWords q j (Copied p part place word) h v = (p ≡ q) × (part ≡ j) × (v ≡ words_at h q j ++ word ∷ [])
 GivesWords q j _ h v = ⊥
 
--- an entry sees something for part j of number q, behind what was seen
+-- an entry appends a lookup's answer to those seen for part j of number q
 abbrev pub GivesLookups : ℕ → ℕ → Entry → History → List SeenText → Type 0
 GivesLookups q j (Looked p part name seen) h v = (p ≡ q) × (part ≡ j) × (v ≡ lookups_at h q j ++ seen ∷ [])
 GivesLookups q j _ h v = ⊥
 
--- an entry is a fault that number q meets
+-- an entry is the fault of number q
 abbrev pub GivesFault : ℕ → Entry → History → Option Errno → Type 0
 GivesFault q (Faulted p errno) h v = (p ≡ q) × (v ≡ Some errno)
 GivesFault q _ h v = ⊥
 
--- an entry is an answer to number q that was applied
+-- an entry is an applied answer to number q
 abbrev pub AnswersTo : ℕ → Entry → History → Type 0
 AnswersTo q (Answered w snapshot verdict applied) h = (snapshot.seq ≡ q) × (applied ≡ true)
 AnswersTo q _ h = ⊥
@@ -294,8 +294,8 @@ Closes q (Used t seq call regs args ids result changes) h = (seq ≡ Some q) ⊎
 Closes q (Denied t seq errno cause) h = seq ≡ Some q
 Closes q _ h = ⊥
 
--- number q lives, under this head: some entry posted it so, and none of the later ones makes or denies its call, renews it, or leaves
--- its thread nothing but to end
+-- number q is live, with this head: some entry posted it with this head, and no later entry makes or denies its call, renews it, or leaves
+-- its thread dying
 pub record LivesSince (i : Input) (q : ℕ) (head : Head) (h : History) : Type 0 where
   pub later : History
   pub entry : Entry
@@ -306,7 +306,7 @@ pub record LivesSince (i : Input) (q : ℕ) (head : Head) (h : History) : Type 0
   pub unclosed : NoneTouches (Closes q) later (entry ∷ earlier)
   pub undying : NoneTouches (LeavesDying i head.tid) later (entry ∷ earlier)
 
--- worker w has a turn from a claim until it answers, or the number of its turn meets a fault
+-- worker w has a turn from a claim until it answers, or the number of its turn is faulted
 abbrev pub GivesTurn : ℕ → Entry → History → Option ℕ → Type 0
 GivesTurn w (Claimed v q) h o = (v ≡ w) × (o ≡ Some q)
 GivesTurn w (Answered v snapshot verdict applied) h o = (v ≡ w) × (o ≡ None)
@@ -315,7 +315,7 @@ GivesTurn w _ h o = ⊥
 
 -- ---- the session
 
--- an entry adds one filter to those of the session, for the policy and the rule of the copies of its number
+-- an entry appends one filter to the session, for the policy and the rule of the copies of its number
 abbrev pub GivesSession : Input → Entry → History → List SessionFilter → Type 0
 GivesSession i (Learned q number) h v = (s : Snapshot) × (snapshot_of_message q (message_at i h q) ≡ Some s)
     × (v ≡ session_at i h ++ record { policy = s.policy; rule = s.rule; filter = learnt_filter s } ∷ [])
@@ -334,7 +334,7 @@ Replies n _ h = ⊥
 abbrev pub IsLastOne : Input → History → ℕ → Type 0
 IsLastOne i h t = (u : ℕ) → 1 ≤ u → u ≤ thread_count i → u ≢ t → owner_at i h u ≡ owner_at i h t → has_ended_at h u ≡ true
 
--- an entry gives the descriptors: a call that goes well does by its effect, and the end of a process's last thread closes all that it has
+-- an entry gives the descriptors: a successful call by its effect, or the end of a process's last thread, which closes all that it has
 abbrev pub GivesTable : Input → Entry → History → Table → Type 0
 GivesTable i (Used t seq call regs args ids (Value n) changes) h v = v ≡ (effect (system_of i (looking_back i h)) call (request_of i (looking_back i h) t regs args ids)).descriptors
 GivesTable i (Ended t) h v = IsLastOne i h t × (v ≡ table_after_close_all (descriptors_at i h) (owner_at i h t))

@@ -1,4 +1,4 @@
--- The record of a run, each part of it looked back for by itself.
+-- The state of a run as a function of its history, each part computed by looking back on its own.
 use Rattle.std.specs.Prelude.{ℕ, Bool, false, List, [], ◌∷◌}
 use Rattle.st_model.specs.Descriptors.{Table}
 use Rattle.st_law.specs.declared.input.Input.{Input}
@@ -8,7 +8,7 @@ use Rattle.st_law.specs.Sessions.{SessionFilter, session_after, replied_after}
 use Rattle.st_law.specs.State.{ThreadState, Message, State, snapshot_of_message, table_after}
 use Rattle.st_law.specs.Threads.{History, owner_at, left_at, pending_at, number_at, is_dying_at, has_ended_at}
 
--- a thread, as looking back sees it
+-- the state of a thread after a history
 abbrev pub thread_at : Input → History → ℕ → ThreadState
 thread_at i h t = record {
   owner = owner_at i h t;
@@ -19,7 +19,7 @@ thread_at i h t = record {
   ended = has_ended_at h t;
 }
 
--- the message of a number, as looking back sees it
+-- the message of a number after a history
 abbrev pub message_at : Input → History → ℕ → Message
 message_at i h q = record {
   head = head_at i h q;
@@ -41,7 +41,7 @@ abbrev pub is_replied_at : History → ℕ → Bool
 is_replied_at [] n = false
 is_replied_at (e ∷ h) n = replied_after e n (is_replied_at h n)
 
--- all of it but the descriptors, which are these
+-- the state after a history, with these descriptors
 abbrev pub looking_back_with : Input → History → Table → State
 looking_back_with i h descriptors = record {
   threads = thread_at i h;
@@ -63,6 +63,6 @@ abbrev pub descriptors_at : Input → History → Table
 descriptors_at i [] = first_descriptors i
 descriptors_at i (e ∷ h) = table_after i (looking_back_with i h (descriptors_at i h)) e
 
--- what looking back says
+-- the state after a history
 abbrev pub looking_back : Input → History → State
 looking_back i h = looking_back_with i h (descriptors_at i h)

@@ -1,4 +1,4 @@
--- What has to hold of an input for a run to start, so that the laws hold of it.
+-- What has to hold of an input for a run to start: the laws hold of such inputs.
 use Rattle.std.specs.Prelude.{◌≢◌, ◌≤◌, ℕ, length, Option, Some, None}
 use Rattle.std.specs.List.{All}
 use Rattle.st_calls.specs.declared.call.SysCall.TheVariants as calls
@@ -12,7 +12,7 @@ use Rattle.st_law.specs.declared.input.Input.{Input}
 use Rattle.st_law.specs.Processes.{process_count}
 use Rattle.st_law.specs.State.{thread_count}
 
--- a thread starts in one of so many processes, or by a fork
+-- a thread starts in one of this many processes, or by a fork
 abbrev pub HasProcess : ℕ → Option ℕ → Type 0
 HasProcess count None = Unit {0}
 HasProcess count (Some p) = (1 ≤ p) × (p ≤ count)
@@ -21,13 +21,13 @@ HasProcess count (Some p) = (1 ≤ p) × (p ≤ count)
 abbrev pub IsThread : Input → ℕ → Type 0
 IsThread i t = (1 ≤ t) × (t ≤ thread_count i)
 
--- an instruction that forks names the thread that it starts
+-- an instruction that forks names the thread that it starts, and no call instruction is a fork
 abbrev pub IsInstruction : Input → Instr → Type 0
 IsInstruction i (Store place word) = Unit {0}
 IsInstruction i (Call call regs) = call ≢ calls.Fork
 IsInstruction i (Fork child) = IsThread i child
 
--- what is made is no link, or one whose target isn't too long
+-- a new object is no link, or a link whose target isn't too long
 abbrev pub HasShortTarget : NewKind → Type 0
 HasShortTarget kind.Dir = Unit {0}
 HasShortTarget (kind.File content) = Unit {0}

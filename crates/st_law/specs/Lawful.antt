@@ -1,4 +1,4 @@
--- The law of whole traces, entry by entry: what has to hold of an entry by what the entries before it say.
+-- The law of whole traces, entry by entry: what has to hold of an entry, given the entries before it.
 use Rattle.std.specs.Prelude.{◌≡◌, ◌≢◌, ◌≤◌, ◌<◌, ℕ, suc, Bool, true, false, ◌⊎◌, List, [], ◌∷◌, reverse, Option, Some, None}
 use Rattle.st_base.specs.declared.errno.Errno.{Errno}
 use Rattle.st_base.specs.declared.errno.Errno.TheVariants.{EPERM, ELOOP}
@@ -36,7 +36,7 @@ use Rattle.st_law.specs.Threads.{History}
 
 -- ---- entries of threads
 
--- a thread that has started and not ended, and isn't dying
+-- a thread that has started, hasn't ended and isn't dying
 pub record IsRunning (st : State) (t : ℕ) : Type 0 where
   pub started : (st.threads t).owner ≢ 0
   pub unended : (st.threads t).ended ≡ false
@@ -49,15 +49,15 @@ pub record IsStored (st : State) (t place word : ℕ) : Type 0 where
   pub later : List Instr
   pub next : (st.threads t).left ≡ Store place word ∷ later
 
--- a call is untraced exactly where its process is; else it goes fast exactly where the kernel permits it by itself, is barred
--- exactly where it refuses it, and is held, under the next number, exactly where the filters have to be asked
+-- a call is untraced exactly when its process is. Otherwise it is fast exactly when the kernel permits it by itself, barred exactly when
+-- the kernel refuses it by itself, and held under the next number exactly when the filters have to be tried.
 abbrev pub IsWay : Bool → ℕ → Way → FastAnswer → Type 0
 IsWay traced next Untraced given = traced ≡ false
 IsWay traced next Fast given = (traced ≡ true) × (given ≡ answer.Permit)
 IsWay traced next (Barred n) given = (traced ≡ true) × (n ≡ 1) × (errno : Errno) × (given ≡ answer.Refuse errno)
 IsWay traced next (Held q) given = (traced ≡ true) × (q ≡ next) × (given ≡ answer.Ask)
 
--- a thread enters its next instruction's call, while none is pending, the way that its policy says
+-- a thread enters the call of its next instruction, while no call is pending, on the way that its policy gives
 pub record IsEntered (i : Input) (st : State) (t : ℕ) (call : SysCall) (regs : List ℕ) (way : Way) : Type 0 where
   pub running : IsRunning st t
   pub idle : (st.threads t).pending ≡ None
@@ -67,7 +67,7 @@ pub record IsEntered (i : Input) (st : State) (t : ℕ) (call : SysCall) (regs :
   pub makes : IsCallOf instruction call regs
   pub way_is : IsWay (process_in st t).traced (suc st.posted) way (answer_in i st (process_in st t) call regs)
 
--- a thread ends where it is dying, or where nothing is left of its body and no call is pending
+-- a thread ends if it is dying, or if nothing is left of its body and no call is pending
 pub record IsEnded (st : State) (t : ℕ) : Type 0 where
   pub started : (st.threads t).owner ≢ 0
   pub unended : (st.threads t).ended ≡ false
@@ -75,7 +75,7 @@ pub record IsEnded (st : State) (t : ℕ) : Type 0 where
 
 -- ---- entries of workers
 
--- an idle worker claims the least number that lives and was not claimed
+-- an idle worker claims the least live number that wasn't claimed
 pub record IsClaimed (i : Input) (st : State) (w q : ℕ) : Type 0 where
   pub worker : is_worker i w ≡ true
   pub idle : worker_at st w ≡ None
@@ -89,7 +89,7 @@ pub record IsServed (i : Input) (st : State) (q : ℕ) : Type 0 where
   pub worker : is_worker i number ≡ true
   pub at : worker_at st number ≡ Some q
 
--- the word that the number's arguments need next is copied, as the memory of its process has it at this step
+-- the word that the number's arguments need next is copied, with the value that the memory of its process has at this step
 pub record IsCopied (i : Input) (st : State) (q part place word : ℕ) : Type 0 where
   pub served : IsServed i st q
   pub due : progress_in st q ≡ Word part place
@@ -101,12 +101,13 @@ pub record IsLooked (i : Input) (st : State) (q part : ℕ) (name : Components) 
   pub due : progress_in st q ≡ Look part name
   pub seen_is : seen ≡ look st.tree name
 
--- the number's arguments came to a fault
+-- the number's arguments have a fault
 pub record IsFaulted (i : Input) (st : State) (q : ℕ) (errno : Errno) : Type 0 where
   pub served : IsServed i st q
   pub due : progress_in st q ≡ Stuck errno
 
--- a worker answers with what the filters that were read say of the copies of its number, and the answer counts where the number lives
+-- a worker answers with the verdict of the filters that were read on the copies of its number; the answer is applied exactly if the number
+-- is live
 pub record IsAnswered (i : Input) (st : State) (w : ℕ) (s : Snapshot) (v : Verdict) (applied : Bool) : Type 0 where
   pub worker : is_worker i w ≡ true
   pub at : worker_at st w ≡ Some s.seq
@@ -123,23 +124,23 @@ IsUnheld Untraced = Unit {0}
 IsUnheld (Barred n) = ⊥
 IsUnheld (Held q) = ⊥
 
--- what a call shows that fails before it is made: no arguments, an error, and no changes
+-- the record of a call that fails before its effect: no arguments, an error, and no changes
 pub record IsFailure (errno : Errno) (args : List ArgText) (result : CallResult) (changes : List Change) : Type 0 where
   pub args_are : args ≡ []
   pub result_is : result ≡ Failed errno
   pub changes_are : changes ≡ []
 
--- what a call shows that is made: its arguments, and the result and the changes of its effect
+-- the record of a call that takes effect: the result and the changes are those of its effect
 pub record IsEffect (i : Input) (st : State) (t : ℕ) (call : SysCall) (regs : List ℕ) (ids : Ids) (args : List ArgText) (result : CallResult) (changes : List Change) : Type 0 where
   pub result_is : result ≡ (effect (system_of i st) call (request_of i st t regs args ids)).result
   pub changes_are : changes ≡ (effect (system_of i st) call (request_of i st t regs args ids)).changes
 
--- a call with these arguments fails where one of its names meets a link, and is made where none does
+-- a call with these arguments fails if a link is in its way, otherwise it takes effect
 abbrev pub IsUnlinkedOutcome : Input → State → ℕ → SysCall → List ℕ → Ids → List ArgText → Option Components → List ArgText → CallResult → List Change → Type 0
 IsUnlinkedOutcome i st t call regs ids found (Some name) args result changes = IsFailure ELOOP args result changes
 IsUnlinkedOutcome i st t call regs ids found None args result changes = (args ≡ found) × IsEffect i st t call regs ids args result changes
 
--- a call that copies and looks in one step fails where that meets a fault, and goes on where all arguments are there
+-- a call that copies and looks in one step fails if that gives a fault, and goes on if all arguments are complete
 abbrev pub IsUnheldOutcome : Input → State → ℕ → SysCall → List ℕ → Ids → Progress → List ArgText → CallResult → List Change → Type 0
 IsUnheldOutcome i st t call regs ids (Word part place) args result changes = ⊥
 IsUnheldOutcome i st t call regs ids (Look part name) args result changes = ⊥
@@ -172,28 +173,28 @@ pub record IsDeniedBarred (i : Input) (st : State) (t : ℕ) (errno : Errno) (ca
 
 -- ---- held calls
 
--- the pending call is held, under this number, which lives
+-- the pending call is held, under this live number
 pub record IsHeld (st : State) (t q : ℕ) (call : SysCall) (regs : List ℕ) : Type 0 where
   pub first : ℕ
   pub entered : IsPending st t call regs (Held first)
   pub number : (st.threads t).number ≡ q
   pub live : is_live st q ≡ true
 
--- a number was answered, it met no fault, and these are its copies
+-- a number was answered, it has no fault, and these are its copies
 pub record IsJudged (st : State) (q : ℕ) (s : Snapshot) : Type 0 where
   pub answered : (st.messages q).answered ≡ true
   pub unfaulted : (st.messages q).fault ≡ None
   pub copies : snapshot_in st q ≡ Some s
 
--- the first filter that holds of its copies permits a number under these ids, and its copies have the ids of its process
+-- the first filter that holds of a number's copies permits them under these ids, and the copies have the current ids of its process
 pub record IsPermitted (i : Input) (st : State) (t q : ℕ) (s : Snapshot) (ids : Ids) : Type 0 where
   pub judged : IsJudged st q s
   pub filter : ℕ
   pub permitted : decision_in i st s ≡ Permit filter ids
   pub identity : s.ids ≡ (process_in st t).ids
 
--- the pending call, which is held, is made with exactly the copies that its filters permitted, under the ids that they grant, and no
--- name of it meets a link
+-- the pending call, which is held, is made with exactly the copies that its filters permitted, under the ids that they granted, and no link
+-- is in its way
 pub record IsUsedHeld (i : Input) (st : State) (t q : ℕ) (call : SysCall) (regs : List ℕ) (args : List ArgText) (ids : Ids) (result : CallResult) (changes : List Change) : Type 0 where
   pub running : IsRunning st t
   pub held : IsHeld st t q call regs
@@ -205,13 +206,13 @@ pub record IsUsedHeld (i : Input) (st : State) (t q : ℕ) (call : SysCall) (reg
   pub unlinked : link_now i st call regs args ≡ None
   pub outcome : IsEffect i st t call regs ids args result changes
 
--- a call is made as the law says, by whether it has a number: held with one, fast or untraced without
+-- a call is made according to the law: held if it has a number, fast or untraced if it has none
 abbrev pub IsUsed : Input → State → ℕ → Option ℕ → SysCall → List ℕ → List ArgText → Ids → CallResult → List Change → Type 0
 IsUsed i st t None call regs args ids result changes = IsUsedUnheld i st t call regs args ids result changes
 IsUsed i st t (Some q) call regs args ids result changes = IsUsedHeld i st t q call regs args ids result changes
 
--- why a held call is denied: it met this fault; the first filter that holds of its copies refuses them with this error; none
--- decides, and it is no question; or it is permitted, and this is the first link that its names meet
+-- why a held call is denied: its message has this fault; the first filter that holds of its copies refuses them with this error; no filter
+-- decides and it is no question; or it is permitted, and this is the first link in its way
 abbrev pub IsCause : Input → State → ℕ → ℕ → SysCall → List ℕ → Errno → Cause → Type 0
 IsCause i st t q call regs errno Fault = (st.messages q).fault ≡ Some errno
 IsCause i st t q call regs errno (Filter n) = (s : Snapshot) × IsJudged st q s × (decision_in i st s ≡ Refuse n errno)
@@ -228,27 +229,27 @@ pub record IsDeniedHeld (i : Input) (st : State) (t q : ℕ) (errno : Errno) (ca
   pub held : IsHeld st t q call regs
   pub cause_is : IsCause i st t q call regs errno cause
 
--- a call is denied as the law says, by whether it has a number: held with one, barred without
+-- a call is denied according to the law: held if it has a number, barred if it has none
 abbrev pub IsDenied : Input → State → ℕ → Option ℕ → Errno → Cause → Type 0
 IsDenied i st t None errno cause = IsDeniedBarred i st t errno cause
 IsDenied i st t (Some q) errno cause = IsDeniedHeld i st t q errno cause
 
 -- ---- entries of the operator
 
--- a number is the least question, these are its copies, and the filter that it is answered by has the next number
+-- a number is the least question, these are its copies, and the filter that answers it has the next number
 pub record IsAsked (i : Input) (st : State) (q n : ℕ) (s : Snapshot) : Type 0 where
   pub question : is_question i st q ≡ true
   pub least : (p : ℕ) → 1 ≤ p → p < q → is_question i st p ≡ false
   pub copies : snapshot_in st q ≡ Some s
   pub number : n ≡ suc (filter_count i st s)
 
--- the least question is answered by the filter that its copies teach
+-- the least question is answered by the filter that is learnt from its copies
 pub record IsLearned (i : Input) (st : State) (q n : ℕ) : Type 0 where
   pub copies : Snapshot
   pub asked : IsAsked i st q n copies
   pub mode : i.options.mode ≡ Learn
 
--- the least question is answered by the first reply for its policy and rule that was not given yet
+-- the least question is answered by the first reply for its policy and rule that wasn't given yet
 pub record IsReplied (i : Input) (st : State) (q reply n : ℕ) : Type 0 where
   pub copies : Snapshot
   pub asked : IsAsked i st q n copies
@@ -258,7 +259,7 @@ pub record IsReplied (i : Input) (st : State) (q reply n : ℕ) : Type 0 where
 
 -- ---- the law
 
--- an entry is lawful, by what is kept of the entries before it
+-- an entry is lawful in the state before it
 abbrev pub IsLawful : Input → State → Entry → Type 0
 IsLawful i st (Stored t place word) = IsStored st t place word
 IsLawful i st (Entered t call regs way) = IsEntered i st t call regs way
@@ -273,7 +274,7 @@ IsLawful i st (Ended t) = IsEnded st t
 IsLawful i st (Replied q reply n) = IsReplied i st q reply n
 IsLawful i st (Learned q n) = IsLearned i st q n
 
--- each entry of a history is lawful by what looking back from it says
+-- each entry of a history is lawful in the state after the entries before it
 abbrev pub IsLawfulBack : Input → History → Type 0
 IsLawfulBack i [] = Unit {0}
 IsLawfulBack i (e ∷ h) = IsLawful i (looking_back i h) e × IsLawfulBack i h

@@ -1,4 +1,4 @@
--- What the laws of runs say, beside that each entry is lawful.
+-- The conclusions of the laws of runs, apart from the lawfulness of each entry.
 use Rattle.std.specs.Prelude.{◌≡◌, ◌≢◌, ◌≤◌, ◌<◌, ◌⊎◌, ℕ, suc, false, List, [], ◌∷◌, ◌++◌, length, slice_get, None, Some}
 use Rattle.st_calls.specs.Argument.{name_of_label}
 use Rattle.st_base.specs.declared.ids.Ids.{Ids}
@@ -22,14 +22,14 @@ use Rattle.st_law.specs.Schedules.{Played}
 use Rattle.st_law.specs.State.{State}
 use Rattle.st_law.specs.Threads.{History, PendingCall}
 
--- a call of a number is made with the copies that its answer was for and, where the answer decided, under the ids that it granted
+-- a call of a number is made with the copies that its answer judged and, if the answer decided, under the ids that it granted
 pub record IsUsedAsAnswered (s : Snapshot) (v : Verdict) (call : SysCall) (regs : List ℕ) (args : List ArgText) (ids : Ids) : Type 0 where
   pub call_is : s.call ≡ call
   pub regs_are : s.regs ≡ regs
   pub args_are : args ≡ s.parts
   pub ids_are : v ≢ Unmatched → (n : ℕ) × (v ≡ Permit n ids)
 
--- among these arguments stands this one, by the name of its label, its index and its text
+-- these arguments have one with the label's name, the index and the text of this argument
 pub record StandsAmong (args : List ArgText) (arg : ArgText) : Type 0 where
   pub place : ℕ
   pub same : ArgText
@@ -38,16 +38,16 @@ pub record StandsAmong (args : List ArgText) (arg : ArgText) : Type 0 where
   pub index : same.index ≡ arg.index
   pub text : same.text ≡ arg.text
 
--- among these arguments stands each of those
+-- these arguments have each of the wanted ones
 abbrev pub AllStandAmong : List ArgText → List ArgText → Type 0
 AllStandAmong args wanted = (j : ℕ) (arg : ArgText) → slice_get wanted j ≡ Some arg → StandsAmong args arg
 
--- what was played leads to its state, in which no choice is enabled
+-- the played state is that of the played choices, and no choice is enabled in it
 pub record IsRested (i : Input) (played : Played) : Type 0 where
   pub reached : played.state ≡ state_of_run i played.choices
   pub settled : IsSettled i played.state
 
--- an entry changes nothing but that this worker is idle
+-- an entry changes nothing except that this worker becomes idle
 pub record IsStale (i : Input) (h : History) (w : ℕ) (e : Entry) : Type 0 where
   pub record_stays : looking_back i (e ∷ h) ≡ record (looking_back i h) { turns = turn_at (e ∷ h) }
   pub own : turn_at (e ∷ h) w ≡ None
@@ -55,7 +55,7 @@ pub record IsStale (i : Input) (h : History) (w : ℕ) (e : Entry) : Type 0 wher
 
 -- ---- the instructions that a thread has begun, in order
 
--- a thread's own entry is this instruction, behind those of the entries before it; another thread's is none
+-- an own entry of the thread appends this instruction to those begun before it; an entry of another thread appends none
 abbrev pub IsBegun : ℕ → ℕ → (Instr → Type 0) → (List Instr → Type 0) → List Instr → Type 0
 IsBegun u t Is Before begun =
     ((u ≡ t) × ((earlier : List Instr) × (instruction : Instr) × Is instruction × Before earlier × (begun ≡ earlier ++ instruction ∷ []))) ⊎
@@ -74,7 +74,7 @@ HasBegun t (_ ∷ h) begun = HasBegun t h begun
 abbrev pub IsOneOf : Input → ℕ → Type 0
 IsOneOf i t = (1 ≤ t) × (t ≤ length i.start.threads)
 
--- a process is there and hasn't ended: its number was given, and no thread is of it, or one is that hasn't ended
+-- a process exists and hasn't ended: its number was given, and it has no thread, or one that hasn't ended
 pub record IsThere (i : Input) (st : State) (p : ℕ) : Type 0 where
   pub low : 1 ≤ p
   pub given : p < st.next_process

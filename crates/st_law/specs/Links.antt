@@ -1,4 +1,4 @@
--- Which links a call meets, said of names and kinds alone: the one that the law calls the first is the first on the way.
+-- The first link in the way of a call, defined by names and kinds alone.
 use Rattle.std.specs.Prelude.{◌≡◌, ◌≢◌, ◌<◌, ℕ, Bool, true, List, [], ◌++◌, length, slice_get, Option, Some, None}
 use Rattle.st_calls.specs.Argument.{args_of}
 use Rattle.st_calls.specs.Call.{follows}
@@ -17,7 +17,7 @@ pub record IsLinkName (tree : Tree) (name : Components) : Type 0 where
   pub there : node_of tree name ≡ Some node
   pub kind : node.kind ≡ object_kind.Link
 
--- a name is on the way to this one: one that leads to it, or itself where a link in its place is followed
+-- a name is on the way to this name: a proper prefix that isn't empty, or the name itself if a link in its place is followed
 pub record IsOnWay (follow : Bool) (name on : Components) : Type 0 where
   pub rest : Components
   pub split : name ≡ on ++ rest
@@ -28,13 +28,13 @@ pub record IsOnWay (follow : Bool) (name on : Components) : Type 0 where
 abbrev pub IsUnlinked : Tree → Bool → Components → Type 0
 IsUnlinked tree follow name = (on : Components) → IsOnWay follow name on → IsLinkName tree on → ⊥
 
--- this name on the way is that of a link, and none that leads to it is
+-- this name on the way is that of a link, and no shorter name on the way is
 pub record IsFirstLink (tree : Tree) (follow : Bool) (name link : Components) : Type 0 where
   pub on_way : IsOnWay follow name link
   pub is_link : IsLinkName tree link
   pub first : (on : Components) → IsOnWay follow name on → length on < length link → IsLinkName tree on → ⊥
 
--- what is met on the way
+-- the first link on the way to a name, or none
 abbrev pub IsFound : Tree → Bool → Components → Option Components → Type 0
 IsFound tree follow name None = IsUnlinked tree follow name
 IsFound tree follow name (Some link) = IsFirstLink tree follow name link
@@ -49,12 +49,12 @@ pub record IsNamePart (specs : List ArgSpec) (args : List ArgText) (j register :
   pub register_is : spec.register ≡ register
   pub text_is : arg.text ≡ text
 
--- no name among the parts meets a link
+-- no name among the parts has a link on its way
 abbrev pub NoneMeets : Tree → SysCall → List ℕ → List ArgSpec → List ArgText → Type 0
 NoneMeets tree call regs specs args =
     (j register : ℕ) (text : List ℕ) → IsNamePart specs args j register text → IsUnlinked tree (follows call regs register) (components_of text)
 
--- a name among the parts meets this link first, and none before it meets one
+-- a name among the parts has this first link on its way, and no name before it has one
 pub record FirstMeets (tree : Tree) (call : SysCall) (regs : List ℕ) (specs : List ArgSpec) (args : List ArgText) (link : Components) : Type 0 where
   pub j : ℕ
   pub register : ℕ
@@ -63,11 +63,11 @@ pub record FirstMeets (tree : Tree) (call : SysCall) (regs : List ℕ) (specs : 
   pub meets : IsFirstLink tree (follows call regs register) (components_of text) link
   pub before : (k other : ℕ) (words : List ℕ) → k < j → IsNamePart specs args k other words → IsUnlinked tree (follows call regs other) (components_of words)
 
--- what the names of some parts meet
+-- the first link on the way to the names among some parts, or none
 abbrev pub IsMetAmong : Tree → SysCall → List ℕ → List ArgSpec → List ArgText → Option Components → Type 0
 IsMetAmong tree call regs specs args None = NoneMeets tree call regs specs args
 IsMetAmong tree call regs specs args (Some link) = FirstMeets tree call regs specs args link
 
--- what the names of a call meet
+-- the first link in the way of a call, or none
 abbrev pub IsMet : Tree → Rule → SysCall → List ℕ → List ArgText → Option Components → Type 0
 IsMet tree rule call regs args = IsMetAmong tree call regs (args_of rule) args

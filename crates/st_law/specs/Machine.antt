@@ -1,4 +1,4 @@
--- The machine: from a state and a choice at most one entry, and from a state and an entry the next state.
+-- The machine: a state and a choice give at most one entry, and a state and an entry give the next state.
 use Rattle.std.specs.Prelude.{◌≡◌, ℕ, suc, false, ◌||◌, ◌==◌, if◌then◌else◌, List, [], ◌∷◌, reverse, Option, Some, None}
 use Rattle.st_base.specs.declared.errno.Errno.{Errno}
 use Rattle.st_base.specs.declared.errno.Errno.TheVariants.{EPERM, ELOOP}
@@ -44,7 +44,7 @@ use Rattle.st_law.specs.Threads.{History, PendingCall, changes_of, thread_of, fi
 abbrev pub first_thread : Input → ℕ → ThreadState
 first_thread i t = record { owner = first_owner i t; left = body_of i t; pending = None; number = 0; dying = false; ended = false }
 
--- what stands for a message that was not posted
+-- a message that wasn't posted
 abbrev pub no_message : Message
 no_message = record { head = None; claimed = false; words = λ j. []; lookups = λ j. []; fault = None; answered = false; closed = false }
 
@@ -65,7 +65,7 @@ first_state i = record {
   descriptors = first_descriptors i;
 }
 
--- what an entry makes of a thread
+-- a thread after an entry
 abbrev pub thread_after : State → Entry → ℕ → ThreadState
 thread_after st e t = record {
   owner = owner_after t (st.threads t).owner (changes_of e);
@@ -76,7 +76,7 @@ thread_after st e t = record {
   ended = ended_after e t (st.threads t).ended;
 }
 
--- what an entry makes of the message of a number
+-- the message of a number after an entry
 abbrev pub message_after : Input → State → Entry → ℕ → Message
 message_after i st e q = record {
   head = head_after i st.processes (st.threads (thread_of e)).owner (λ p. (st.messages p).head) e q;
@@ -88,7 +88,7 @@ message_after i st e q = record {
   closed = closed_after e q (st.messages q).closed;
 }
 
--- what an entry makes of the state
+-- the state after an entry
 abbrev pub state_after : Input → State → Entry → State
 state_after i st e = record {
   threads = thread_after st e;
@@ -112,18 +112,18 @@ state_at i (e ∷ h) = state_after i (state_at i h) e
 
 -- ---- the step of a thread
 
--- how a call of a traced process goes on, by the kernel's own answer; one that has to be judged is held under the next number
+-- the way of a call of a traced process, by the kernel's own answer; a call that the filters have to judge is held under the next number
 abbrev pub way_of_answer : ℕ → FastAnswer → Way
 way_of_answer next answer.Permit = Fast
 way_of_answer next (answer.Refuse errno) = Barred 1
 way_of_answer next answer.Ask = Held next
 
--- a call enters
+-- a thread enters a call
 abbrev pub entered_entry : Input → State → ℕ → SysCall → List ℕ → Option Entry
 entered_entry i st t call regs =
     Some (Entered t call regs (if (process_in st t).traced then way_of_answer (suc st.posted) (answer_in i st (process_in st t) call regs) else Untraced))
 
--- a thread without a pending call goes on to its next instruction, and ends after the last
+-- a thread without a pending call goes on to its next instruction, or ends after the last
 abbrev pub next_instruction_entry : Input → State → ℕ → List Instr → Option Entry
 next_instruction_entry i st t [] = Some (Ended t)
 next_instruction_entry i st t (Store place word ∷ later) = Some (Stored t place word)
@@ -134,16 +134,16 @@ next_instruction_entry i st t (Fork child ∷ later) = entered_entry i st t call
 abbrev pub used_entry : ℕ → Option ℕ → SysCall → List ℕ → List ArgText → Ids → Outcome → Entry
 used_entry t seq call regs args ids outcome = Used t seq call regs args ids outcome.result outcome.changes
 
--- a call that isn't held fails before it is made
+-- a call that isn't held fails before its effect
 abbrev pub failed_entry : ℕ → SysCall → List ℕ → Ids → Errno → Entry
 failed_entry t call regs ids errno = Used t None call regs [] ids (Failed errno) []
 
--- a call that isn't held is made with these arguments, unless it meets a link
+-- a call that isn't held takes effect with these arguments, unless a link is in its way
 abbrev pub unlinked_entry : Input → State → ℕ → SysCall → List ℕ → Ids → List ArgText → Option Components → Entry
 unlinked_entry i st t call regs ids args (Some name) = failed_entry t call regs ids ELOOP
 unlinked_entry i st t call regs ids args None = used_entry t None call regs args ids (effect (system_of i st) call (request_of i st t regs args ids))
 
--- a call that isn't held copies, looks and acts in one step, under the process's own ids
+-- a call that isn't held copies, looks and takes effect in one step, under the process's own ids
 abbrev pub unheld_entry : Input → State → ℕ → SysCall → List ℕ → Ids → Progress → Option Entry
 unheld_entry i st t call regs ids (Word part place) = None
 unheld_entry i st t call regs ids (Look part name) = None
@@ -156,18 +156,18 @@ barred_entry t n answer.Permit = None
 barred_entry t n (answer.Refuse errno) = Some (Denied t None errno (Filter n))
 barred_entry t n answer.Ask = None
 
--- a held call that is permitted is made with its copies under these ids, unless it meets a link
+-- a permitted held call is made with its copies under these ids, unless a link is in its way
 abbrev pub permitted_entry : Input → State → ℕ → ℕ → Snapshot → Ids → Option Components → Entry
 permitted_entry i st t q s ids (Some name) = Denied t (Some q) ELOOP (Link name)
 permitted_entry i st t q s ids None = used_entry t (Some q) s.call s.regs s.parts ids (effect (system_of i st) s.call (request_of i st t s.regs s.parts ids))
 
--- a held call that is answered goes on as its filters decide; a question waits for the operator
+-- an answered held call goes on as its filters decide; a question waits for the operator
 abbrev pub decided_entry : Input → State → ℕ → ℕ → Snapshot → Verdict → Option Entry
 decided_entry i st t q s (Permit n ids) = Some (permitted_entry i st t q s ids (link_now i st s.call s.regs s.parts))
 decided_entry i st t q s (Refuse n errno) = Some (Denied t (Some q) errno (Filter n))
 decided_entry i st t q s Unmatched = if is_question i st q then None else Some (Denied t (Some q) EPERM NoFilter)
 
--- the same by the copies, which are there once it is answered
+-- the same by the copies, which are complete once it is answered
 abbrev pub answered_entry : Input → State → ℕ → ℕ → Option Snapshot → Option Entry
 answered_entry i st t q None = None
 answered_entry i st t q (Some s) = decided_entry i st t q s (decision_in i st s)
@@ -177,19 +177,19 @@ abbrev pub held_entry : Input → State → ℕ → ℕ → Option Errno → Opt
 held_entry i st t q (Some errno) = Some (Denied t (Some q) errno Fault)
 held_entry i st t q None = if (st.messages q).answered then answered_entry i st t q (snapshot_in st q) else None
 
--- a call that was entered is made, or denied, or waits
+-- an entered call is made, is denied, or waits
 abbrev pub pending_entry : Input → State → ℕ → SysCall → List ℕ → Way → Option Entry
 pending_entry i st t call regs Fast = unheld_entry i st t call regs (process_in st t).ids (arguments_now i st t call regs)
 pending_entry i st t call regs Untraced = unheld_entry i st t call regs (process_in st t).ids (arguments_now i st t call regs)
 pending_entry i st t call regs (Barred n) = barred_entry t n (answer_in i st (process_in st t) call regs)
 pending_entry i st t call regs (Held first) = held_entry i st t (st.threads t).number (st.messages (st.threads t).number).fault
 
--- a thread goes on, by whether it has a call pending
+-- a thread goes on, by its pending call
 abbrev pub running_entry : Input → State → ℕ → Option PendingCall → Option Entry
 running_entry i st t None = next_instruction_entry i st t (st.threads t).left
 running_entry i st t (Some entered) = pending_entry i st t entered.call entered.regs entered.way
 
--- the step of a thread: none where it hasn't started, has ended, or waits; a dying one only ends
+-- the step of a thread: none if it hasn't started, has ended, or waits; a dying thread only ends
 abbrev pub thread_entry : Input → State → ℕ → Option Entry
 thread_entry i st t =
     if (st.threads t).owner == 0 || (st.threads t).ended then None
@@ -198,7 +198,7 @@ thread_entry i st t =
 
 -- ---- the step of a worker
 
--- the least number that waits
+-- the least waiting number
 abbrev pub least_waiting : State → Option ℕ
 least_waiting st = least_from (is_waiting st) 1 st.posted
 
@@ -207,19 +207,19 @@ abbrev pub claimed_entry : ℕ → Option ℕ → Option Entry
 claimed_entry w None = None
 claimed_entry w (Some q) = Some (Claimed w q)
 
--- a worker answers with what the filters that were read say of these copies, if they are there
+-- a worker answers with the verdict of the filters that were read on these copies, if they are complete
 abbrev pub answer_entry : Input → State → ℕ → ℕ → Option Snapshot → Option Entry
 answer_entry i st w q None = None
 answer_entry i st w q (Some s) = Some (Answered w s (verdict (read_for i s.policy s.rule) s) (is_live st q))
 
--- a worker copies the next word, looks at the next name, finds the fault, or answers
+-- a worker copies the next word, looks up the next name, reports the fault, or answers
 abbrev pub working_entry : Input → State → ℕ → ℕ → Progress → Option Entry
 working_entry i st w q (Word part place) = Some (Copied q part place (word_for st q place))
 working_entry i st w q (Look part name) = Some (Looked q part name (look st.tree name))
 working_entry i st w q (Stuck errno) = Some (Faulted q errno)
 working_entry i st w q (Ready args) = answer_entry i st w q (snapshot_of_progress q (st.messages q).head (Ready args))
 
--- the step of a worker, by the number that it is at: an idle one claims the least number that waits
+-- the step of a worker, by the number that it is at: an idle worker claims the least waiting number
 abbrev pub turn_entry : Input → State → ℕ → Option ℕ → Option Entry
 turn_entry i st w None = claimed_entry w (least_waiting st)
 turn_entry i st w (Some q) = working_entry i st w q (progress_in st q)
@@ -234,7 +234,7 @@ worker_entry i st w = if is_worker i w then turn_entry i st w (worker_at st w) e
 abbrev pub least_question : Input → State → Option ℕ
 least_question i st = least_from (is_question i st) 1 st.posted
 
--- the operator gives a reply, if there is one left
+-- the operator gives a reply, if one is left
 abbrev pub reply_entry : Input → State → ℕ → Snapshot → Option ℕ → Option Entry
 reply_entry i st q s None = None
 reply_entry i st q s (Some reply) = Some (Replied q reply (suc (filter_count i st s)))
@@ -257,7 +257,7 @@ operator_entry i st (Some q) = asked_entry i st q (snapshot_in st q)
 
 -- ---- runs
 
--- the entry that a choice adds; none where it isn't enabled
+-- the entry that a choice adds; none if it isn't enabled
 abbrev pub entry_of : Input → State → Choice → Option Entry
 entry_of i st (choice.Thread t) = thread_entry i st t
 entry_of i st (choice.Worker w) = worker_entry i st w
@@ -273,11 +273,11 @@ abbrev pub history : Input → List Choice → History
 history i [] = []
 history i (c ∷ cs) = history_with (history i cs) (entry_of i (state_at i (history i cs)) c)
 
--- the trace of a list of choices, both in order
+-- the trace of a list of choices, both oldest first
 abbrev pub run : Input → List Choice → List Entry
 run i choices = reverse (history i (reverse choices))
 
--- the state behind a list of choices
+-- the state after a list of choices
 abbrev pub state_of_run : Input → List Choice → State
 state_of_run i choices = state_at i (history i (reverse choices))
 
@@ -285,6 +285,6 @@ state_of_run i choices = state_at i (history i (reverse choices))
 abbrev pub IsEnabled : Input → State → Choice → Type 0
 IsEnabled i st c = (e : Entry) × (entry_of i st c ≡ Some e)
 
--- no choice does
+-- no choice adds an entry in this state
 abbrev pub IsSettled : Input → State → Type 0
 IsSettled i st = (c : Choice) → entry_of i st c ≡ None

@@ -1,4 +1,4 @@
--- What is asked of the record of a run, and how a run begins, said of the script, the filters and the record's parts alone.
+-- What the queries on a state mean, and how a run begins, defined by the script, the filters and the parts of the state alone.
 use Rattle.std.specs.Prelude.{◌≡◌, ◌≢◌, ◌≤◌, ◌<◌, ◌⊎◌, ℕ, suc, ◌+◌, ◌*◌, ◌^◌, true, false, List, [], ◌∷◌, ◌++◌, length, replicate, Option, Some, None}
 use Rattle.std.specs.Int.{sum_through}
 use Rattle.st_base.specs.Numbered.{item_at_number}
@@ -41,16 +41,16 @@ use Rattle.st_law.specs.Threads.{PendingCall, first_owner, body_of}
 abbrev pub IsWorker : Input → ℕ → Type 0
 IsWorker i w = (1 ≤ w) × (w ≤ i.options.workers)
 
--- a worker is at a number: it has claimed it, and the number lives or its arguments are all there
+-- a worker is at a number: it has claimed it, and the number is live or all its arguments are complete
 pub record IsAt (st : State) (w q : ℕ) : Type 0 where
   pub turn : st.turns w ≡ Some q
   pub goes_on : (is_live st q ≡ true) ⊎ ((args : List ArgText) × (progress_in st q ≡ Ready args))
 
--- a word is the eight bytes at a place of a memory, the lowest first
+-- a word is the eight bytes at a word index of a memory, the lowest first
 abbrev pub IsWordAt : (ℕ → ℕ) → ℕ → ℕ → Type 0
 IsWordAt bytes place word = word ≡ sum_through (λ j. bytes (8 * place + j) * 256 ^ j) 7
 
--- these are the copies of a number: they are of its head, and its words and lookups come to their parts
+-- these are the copies of a number: they have the fields of its head, and the arguments that its words and lookups give
 pub record AreCopies (st : State) (q : ℕ) (s : Snapshot) : Type 0 where
   pub head : Head
   pub posted : (st.messages q).head ≡ Some head
@@ -76,19 +76,19 @@ IsFirstKept policy rule [] f = ⊥
 IsFirstKept policy rule (kept ∷ session) f =
     (IsKeptFor policy rule kept × (kept.filter ≡ f)) ⊎ ((IsKeptFor policy rule kept → ⊥) × IsFirstKept policy rule session f)
 
--- so many filters of the session are for this policy and rule
+-- this many filters of the session are for this policy and rule
 abbrev pub AreKeptFor : List ℕ → Rule → List SessionFilter → ℕ → Type 0
 AreKeptFor policy rule [] n = n ≡ 0
 AreKeptFor policy rule (kept ∷ session) n =
     (IsKeptFor policy rule kept × ((m : ℕ) × (n ≡ suc m) × AreKeptFor policy rule session m))
     ⊎ ((IsKeptFor policy rule kept → ⊥) × AreKeptFor policy rule session n)
 
--- the first filter of a policy and a rule: of those that were read, or of the session's where none was read
+-- the first filter of a policy and a rule: the first that was read, or the session's first if none was read
 abbrev pub IsFirstFilter : Input → State → List ℕ → Rule → FilterValue → Type 0
 IsFirstFilter i st policy rule f = ((more : List FilterValue) × (read_filters i.policies policy rule ≡ f ∷ more))
     ⊎ ((read_filters i.policies policy rule ≡ []) × IsFirstKept policy rule st.session f)
 
--- `true then permit`, without ids that it grants, a log or a predicate
+-- `true then permit`, without a grant, a log or a predicate
 pub record IsPlainPermit (f : FilterValue) : Type 0 where
   pub formula_is : f.formula ≡ True
   pub action_is : f.action ≡ action.Permit
@@ -113,13 +113,13 @@ pub record IsLeft (i : Input) (st : State) (policy : List ℕ) (rule : Rule) (r 
   pub rule_is : reply.filter.name ≡ name.Rule rule
   pub ungiven : st.replied r ≡ false
 
--- the reply that is given next, if one is left: the first of them
+-- the reply that is given next: the first that is left, or none
 abbrev pub IsNextReply : Input → State → List ℕ → Rule → Option ℕ → Type 0
 IsNextReply i st policy rule None = (r : ℕ) → IsLeft i st policy rule r → ⊥
 IsNextReply i st policy rule (Some r) = IsLeft i st policy rule r × ((k : ℕ) → k < r → IsLeft i st policy rule k → ⊥)
 
--- a number is a question: it lives and is answered, neither the filters read nor the session's decide its copies, and the operator
--- learns, or has a reply left for it
+-- a number is a question: it is live and answered, neither the filters read nor the session's decide its copies, and the operator learns,
+-- or has a reply left for it
 pub record IsAsking (i : Input) (st : State) (q : ℕ) : Type 0 where
   pub live : is_live st q ≡ true
   pub answered : (st.messages q).answered ≡ true
@@ -141,7 +141,7 @@ pub record IsMadeWith (i : Input) (st : State) (t : ℕ) (regs : List ℕ) (args
   pub child_is : (entered : PendingCall) → (st.threads t).pending ≡ Some entered → request.child ≡ entered.child
   pub inherit_is : request.inherit ≡ i.options.inherit
 
--- a call finds the run's tree, memory, descriptors and processes, and the numbers that come next
+-- a call sees the tree, memory, descriptors and processes of the state, and the numbers that come next
 pub record IsFoundAs (st : State) (system : System) : Type 0 where
   pub tree_is : system.tree ≡ st.tree
   pub memory_is : system.memory ≡ st.memory
@@ -151,8 +151,8 @@ pub record IsFoundAs (st : State) (system : System) : Type 0 where
   pub next_space_is : system.next_space ≡ st.next_space
   pub next_number_is : system.next_number ≡ suc st.posted
 
--- the arguments of a call that thread t makes in one step are those that a worker would have come to, by the memory and the directory
--- of its process and by the tree
+-- the arguments of a call that thread t makes in one step are those that a worker would get, from the memory and the directory of its
+-- process and from the tree
 abbrev pub AreArgumentsOf : Input → State → ℕ → SysCall → List ℕ → Progress → Type 0
 AreArgumentsOf i st t call regs arguments =
     let asked : ArgRequest = record { rule = rule_of call regs i.options.aliasing; call = call; regs = regs; cwd = (st.processes (st.threads t).owner).cwd } in
@@ -168,7 +168,7 @@ pub record ThreadBegins (i : Input) (t : ℕ) (row : ThreadRow) : Type 0 where
   pub in_process : (p : ℕ) → row.process ≡ Some p → first_owner i t ≡ p
   pub by_fork : row.process ≡ None → first_owner i t ≡ 0
 
--- a process begins as its row says, under the ids of the options where it is traced and they give some, else under its row's
+-- a process begins as its row says; its ids are those of the options if it is traced and they give some, otherwise those of its row
 pub record ProcessBegins (i : Input) (p : ℕ) (row : ProcessRow) : Type 0 where
   pub traced_is : (first_process i p).traced ≡ row.traced
   pub policy_is : (first_process i p).policy ≡ row.binary
@@ -179,13 +179,13 @@ pub record ProcessBegins (i : Input) (p : ℕ) (row : ProcessRow) : Type 0 where
   pub own : (i.options.ids ≡ None) ⊎ (row.traced ≡ false)
       → (first_process i p).ids ≡ record { ruid = row.uid; euid = row.uid; rgid = row.gid; egid = row.gid }
 
--- none of these rows is of this name
+-- none of these rows has this name
 abbrev pub NoneNamed : Components → List TreeRow → Type 0
 NoneNamed name [] = Unit {0}
 NoneNamed name (row ∷ rows) = (row.name ≢ name) × NoneNamed name rows
 
--- in a tree that begins with the root and these rows, the root is object 1, row by row the next object has the row's name, its last row
--- where several have it, and no other name is there
+-- the tree begins with the root and these rows: the root is object 1, each row in order is the next object, a name has the object of its
+-- last row, and no other name exists
 pub record TreeBegins (rows : List TreeRow) (tree : Tree) : Type 0 where
   pub root : node_of tree [] ≡ Some root_node
   pub number : (before after : List TreeRow) (row : TreeRow) → rows ≡ before ++ row ∷ after → row.name ≢ [] → NoneNamed row.name after
@@ -194,7 +194,7 @@ pub record TreeBegins (rows : List TreeRow) (tree : Tree) : Type 0 where
       → node_of tree row.name ≡ Some (node_of_new row.new)
   pub no_more : (name : Components) → name ≢ [] → NoneNamed name rows → object_of tree name ≡ None
 
--- so many processes begin with the console open three times, each time as a file of its own, and with nothing else
+-- this many processes begin with the console open three times, each time as an open file of its own, and with nothing else
 pub record ConsolesBegin (count : ℕ) (table : Table) : Type 0 where
   pub three : (p fd : ℕ) → p < count → fd < 3 → file_number_at table (suc p) fd ≡ Some (3 * p + fd)
   pub no_more : (p fd : ℕ) → p < count → 3 ≤ fd → file_number_at table (suc p) fd ≡ None

@@ -1,4 +1,4 @@
--- Messages: a held call is known by its number. What the entries so far say of each number, and of each worker's turn.
+-- Messages: the record of each held call by its number, and each worker's turn, as functions of the history.
 use Rattle.std.specs.Prelude.{ℕ, suc, Bool, false, ◌&&◌, ◌||◌, ◌==◌, if◌then◌else◌, List, [], ◌∷◌, ◌++◌, Option, Some, None, option_map}
 use Rattle.std.specs.List.{fold}
 use Rattle.st_base.specs.declared.errno.Errno.{Errno}
@@ -25,7 +25,7 @@ pub record Head : Type 0 where
   pub tid : ℕ
   pub pid : ℕ
   pub ids : Ids
-  -- where its names begin that aren't absolute
+  -- the directory from which its relative names are resolved
   pub cwd : Components
   -- the binary whose policy judges it
   pub policy : List ℕ
@@ -33,7 +33,7 @@ pub record Head : Type 0 where
   pub call : SysCall
   pub regs : List ℕ
 
--- the head of the message that is posted for this call of a thread, whose process is of this number and row
+-- the head of the message that is posted for this call of a thread, whose process has this number and row
 abbrev pub new_head : Input → ℕ → ℕ → Process → SysCall → List ℕ → Head
 new_head i t pid process call regs = record {
   tid = t;
@@ -48,11 +48,11 @@ new_head i t pid process call regs = record {
 
 -- ---- what each entry does to the message of a number
 
--- the head of a renewed message: the ids and the directory are those of now
+-- the head of a renewed message: it has the current ids and directory
 abbrev pub renewed_head : Process → Head → Head
 renewed_head process head = record head { ids = process.ids; cwd = process.cwd }
 
--- the head of number q after a change, by the heads before the entry and the process as the entry leaves it
+-- the head of number q after a change, by the heads before the entry and the process after the entry
 abbrev pub head_after_change : (ℕ → Option Head) → Process → ℕ → Option Head → Change → Option Head
 head_after_change heads process q before (Renewed old new) = if new == q then option_map (renewed_head process) (heads old) else before
 head_after_change heads process q before _ = before
@@ -61,7 +61,7 @@ head_after_change heads process q before _ = before
 abbrev pub head_after_changes : (ℕ → Option Head) → Process → ℕ → List Change → Option Head
 head_after_changes heads process q changes = fold (head_after_change heads process q) (heads q) changes
 
--- the head of number q: a call that is held posts one, and a renewal does, by the process's number and row
+-- the head of number q after an entry: a held call and a renewal each post one, by the number of the process and its row
 abbrev pub head_after : Input → (ℕ → Process) → ℕ → (ℕ → Option Head) → Entry → ℕ → Option Head
 head_after i processes m heads (Entered t call regs (Held p)) q = if p == q then Some (new_head i t m (processes m) call regs) else heads q
 head_after i processes m heads (Used t seq call regs args ids result changes) q =
@@ -73,43 +73,43 @@ abbrev pub posted_after_change : ℕ → Change → ℕ
 posted_after_change before (Renewed old new) = suc before
 posted_after_change before _ = before
 
--- how many numbers were posted
+-- how many numbers were posted after an entry
 abbrev pub posted_after : Entry → ℕ → ℕ
 posted_after (Entered t call regs (Held q)) before = suc before
 posted_after (Used t seq call regs args ids result changes) before = fold posted_after_change before changes
 posted_after _ before = before
 
--- whether it is claimed
+-- whether number q is claimed after an entry
 abbrev pub claimed_after : Entry → ℕ → Bool → Bool
 claimed_after (Claimed w p) q before = p == q || before
 claimed_after _ q before = before
 
--- the words that are copied for its part j
+-- the words copied for part j of number q after an entry
 abbrev pub words_after : Entry → ℕ → ℕ → List ℕ → List ℕ
 words_after (Copied p part place word) q j before = if p == q && part == j then before ++ word ∷ [] else before
 words_after _ q j before = before
 
--- what is seen for its part j
+-- the lookups' answers for part j of number q after an entry
 abbrev pub lookups_after : Entry → ℕ → ℕ → List SeenText → List SeenText
 lookups_after (Looked p part name seen) q j before = if p == q && part == j then before ++ seen ∷ [] else before
 lookups_after _ q j before = before
 
--- the fault that it met
+-- the fault of number q after an entry
 abbrev pub fault_after : Entry → ℕ → Option Errno → Option Errno
 fault_after (Faulted p errno) q before = if p == q then Some errno else before
 fault_after _ q before = before
 
--- whether an answer to it was applied
+-- whether an answer to number q was applied after an entry
 abbrev pub answered_after : Entry → ℕ → Bool → Bool
 answered_after (Answered w snapshot verdict applied) q before = (snapshot.seq == q && applied) || before
 answered_after _ q before = before
 
--- whether a change renews it
+-- whether number q was renewed, before or by a change
 abbrev pub is_renewed_by : ℕ → Bool → Change → Bool
 is_renewed_by q before (Renewed old new) = old == q || before
 is_renewed_by q before _ = before
 
--- whether its call was made or denied, or it was renewed
+-- whether the call of number q was made or denied, or the number was renewed, after an entry
 abbrev pub closed_after : Entry → ℕ → Bool → Bool
 closed_after (Used t seq call regs args ids result changes) q before = is_number q seq || fold (is_renewed_by q) before changes
 closed_after (Denied t seq errno cause) q before = is_number q seq || before
@@ -117,12 +117,12 @@ closed_after _ q before = before
 
 -- ---- what each entry does to a worker's turn
 
--- the number of a turn, unless it is this one
+-- the number of a turn, unless it is this number
 abbrev pub unless_same : ℕ → Option ℕ → Option ℕ
 unless_same p None = None
 unless_same p (Some q) = if p == q then None else Some q
 
--- the number that a worker has claimed and neither answered nor found faulty
+-- the number that worker w has claimed and neither answered nor found faulty, after an entry
 abbrev pub turn_after : Entry → ℕ → Option ℕ → Option ℕ
 turn_after (Claimed v q) w before = if v == w then Some q else before
 turn_after (Faulted p errno) w before = unless_same p before
@@ -131,7 +131,7 @@ turn_after _ w before = before
 
 -- ---- looking back
 
--- the head of a number, none where it was not posted
+-- the head of a number, none if it wasn't posted
 abbrev pub head_at : Input → History → ℕ → Option Head
 head_at i [] q = None
 head_at i (e ∷ h) q = head_after i (process_at i h) (owner_at i h (thread_of e)) (head_at i h) e q
@@ -151,12 +151,12 @@ abbrev pub words_at : History → ℕ → ℕ → List ℕ
 words_at [] q j = []
 words_at (e ∷ h) q j = words_after e q j (words_at h q j)
 
--- what was seen for a part of a number
+-- the answers of the lookups for a part of a number
 abbrev pub lookups_at : History → ℕ → ℕ → List SeenText
 lookups_at [] q j = []
 lookups_at (e ∷ h) q j = lookups_after e q j (lookups_at h q j)
 
--- the fault that a number met
+-- the fault of a number
 abbrev pub fault_at : History → ℕ → Option Errno
 fault_at [] q = None
 fault_at (e ∷ h) q = fault_after e q (fault_at h q)

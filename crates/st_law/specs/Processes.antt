@@ -1,4 +1,4 @@
--- Processes, memory and the file tree: what the entries so far made of them, looking back from the newest.
+-- Processes, memory and the file tree as functions of the history.
 use Rattle.std.specs.Prelude.{ℕ, suc, Bool, [], ◌∷◌, length, Option, Some, None}
 use Rattle.std.specs.List.{fold, range_with_len}
 use Rattle.st_base.specs.Numbered.{item_at_number}
@@ -20,13 +20,13 @@ use Rattle.st_law.specs.Threads.{History, changes_of, thread_of, owner_at}
 
 -- ---- what the rows of the script say
 
--- the ids of a process, by its row: the options may give each traced one others
+-- the ids of a process, by its row; the options may give other ids to each traced process
 abbrev pub first_ids : Option (ℕ × ℕ) → Bool → ℕ → ℕ → Ids
 first_ids None traced uid gid = identity uid gid
 first_ids (Some given) Bool.false uid gid = identity uid gid
 first_ids (Some given) Bool.true uid gid = identity given.0 given.1
 
--- a process, by its number and row; its memory has its number
+-- a process, by its number and row; its space has its number
 abbrev pub process_of_row : Input → ℕ → Option ProcessRow → Process
 process_of_row i p None = no_process
 process_of_row i p (Some row) = record {
@@ -45,7 +45,7 @@ first_process i p = process_of_row i p (item_at_number i.start.processes p)
 abbrev pub process_count : Input → ℕ
 process_count i = length i.start.processes
 
--- the tree with the object of a row
+-- the tree with the object of one more row
 abbrev pub tree_with_row : Tree → TreeRow → Tree
 tree_with_row tree row = add_object tree row.name (node_of_new row.new)
 
@@ -63,7 +63,7 @@ first_descriptors i = fold table_after_start no_descriptors (range_with_len 1 (p
 
 -- ---- what each entry does to memory
 
--- byte b of space s, by the space of the entry's thread
+-- the memory after an entry, by the space of the entry's thread
 abbrev pub memory_after_entry : ℕ → (ℕ → ℕ → ℕ) → Entry → ℕ → ℕ → ℕ
 memory_after_entry own before (Stored t place word) = memory_after_store before own place word
 memory_after_entry own before (Used t seq call regs args ids result changes) = memory_after own before changes
@@ -81,16 +81,16 @@ abbrev pub next_process_at : Input → History → ℕ
 next_process_at i [] = suc (process_count i)
 next_process_at i (e ∷ h) = next_process_after (next_process_at i h) (changes_of e)
 
--- the number that the next memory has
+-- the number that the next space has
 abbrev pub next_space_at : Input → History → ℕ
 next_space_at i [] = suc (process_count i)
 next_space_at i (e ∷ h) = next_space_after (next_space_at i h) (changes_of e)
 
--- the number of a thread's memory
+-- the number of a thread's space
 abbrev pub space_at : Input → History → ℕ → ℕ
 space_at i h t = (process_at i h (owner_at i h t)).space
 
--- byte b of space s: what the last entry that covers it gave it, 0 before
+-- byte b of space s: what the last entry that writes it gave it, 0 before
 abbrev pub byte_at : Input → History → ℕ → ℕ → ℕ
 byte_at i [] s b = 0
 byte_at i (e ∷ h) s b = memory_after_entry (space_at i h (thread_of e)) (byte_at i h) e s b

@@ -1,4 +1,4 @@
--- What choices a schedule stands for.
+-- The choices that a schedule gives, and the bounds of steps.
 use Rattle.std.specs.Prelude.{ℕ, zero, suc, ◌+◌, ◌*◌, Bool, true, false, List, [], ◌∷◌, ◌++◌, length, sum_by, count_by, Option, Some, None}
 use Rattle.st_calls.specs.declared.call.SysCall.{SysCall}
 use Rattle.st_calls.specs.declared.call.SysCall.TheVariants.{SetUid, SetEuid, SetGid, SetEgid}
@@ -24,12 +24,12 @@ pub record EnabledChoice : Type 0 where
   pub choice : Choice
   pub entry : Entry
 
--- this choice, if it adds an entry, else the other
+-- this choice if it adds an entry, otherwise the other
 abbrev pub choice_or : Choice → Option Entry → Option EnabledChoice → Option EnabledChoice
 choice_or c None other = other
 choice_or c (Some e) other = Some (record { choice = c; entry = e })
 
--- the first of so many choices from number n on that is enabled, else the other
+-- the first enabled choice among `count` choices from number n on, otherwise the other
 abbrev pub first_enabled_of : (ℕ → Choice) → Input → State → ℕ → ℕ → Option EnabledChoice → Option EnabledChoice
 first_enabled_of of i st n zero other = other
 first_enabled_of of i st n (suc count) other = choice_or (of n) (entry_of i st (of n)) (first_enabled_of of i st (suc n) count other)
@@ -64,21 +64,21 @@ instruction_count i = sum_by (λ row. length row.body) i.start.threads
 abbrev pub set_id_count : Input → ℕ
 set_id_count i = sum_by (λ row. count_by is_set_id row.body) i.start.threads
 
--- no run has more steps than this
+-- the bound of steps: no run has more
 abbrev pub most_steps : Input → ℕ
 most_steps i = 10000 * (instruction_count i + 64 * set_id_count i + 1) + length i.replies
 
--- choices, and the state that they lead to
+-- choices, and the state after them
 pub record Played : Type 0 where
   pub choices : List Choice
   pub state : State
 
--- what is done where a choice is found, and where none is
+-- how to go on if a choice is found, and the end if none is
 abbrev pub rest_on : Played → (EnabledChoice → Played) → Option EnabledChoice → Played
 rest_on over further None = over
 rest_on over further (Some found) = further found
 
--- the first enabled choice again and again, until none is enabled or so many were made
+-- the first enabled choice again and again, until none is enabled or `count` choices were made
 abbrev pub rest_from : ℕ → Input → State → List Choice → Played
 rest_from zero i st made = record { choices = made; state = st }
 rest_from (suc count) i st made =
@@ -86,49 +86,49 @@ rest_from (suc count) i st made =
 
 -- ---- the lines of a schedule
 
--- what a schedule comes to: its choices, or the first line that isn't in the grammar or whose choice isn't enabled
+-- the outcome of a schedule: its choices, or the first line that doesn't match the grammar or whose choice isn't enabled
 pub data ScheduleOutcome : Type 0 where
   Choices : List Choice → ScheduleOutcome
   BadLine : ℕ → ScheduleOutcome
 
--- what is played further where a choice adds an entry; nothing where it adds none
+-- how to go on if a choice adds an entry; nothing if it adds none
 abbrev pub further_on : (Entry → Option Played) → Option Entry → Option Played
 further_on further None = None
 further_on further (Some e) = further e
 
--- a choice so many times; nothing where it isn't enabled at one of them
+-- a choice `count` times; nothing if it isn't enabled at one of them
 abbrev pub repeated : ℕ → Choice → Input → Played → Option Played
 repeated zero c i before = Some before
 repeated (suc count) c i before =
     further_on (λ e. repeated count c i (record { choices = before.choices ++ c ∷ []; state = state_after i before.state e })) (entry_of i before.state c)
 
--- so many times `rest`; once it is done there is nothing more to do
+-- a line's choice `count` times, or `rest` once: a second time adds nothing
 abbrev pub line_played : What → ℕ → Input → Played → Option Played
 line_played (Choose c) count i before = repeated count c i before
 line_played Rest count i before = Some (rest_from (most_steps i) i before.state before.choices)
 
--- what a schedule comes to that has this bad line, if any, behind these choices
+-- the outcome after the last line, by the bad line of the file if it has one
 abbrev pub ending_of : Option ℕ → Played → ScheduleOutcome
 ending_of None played = Choices played.choices
 ending_of (Some line) played = BadLine line
 
--- the schedule goes on behind this line, or the line is bad
+-- the schedule goes on after this line, or the line is bad
 abbrev pub line_on : ℕ → (Played → ScheduleOutcome) → Option Played → ScheduleOutcome
 line_on line further None = BadLine line
 line_on line further (Some after) = further after
 
--- what lines come to, one after the other
+-- the outcome of the remaining lines, one after the other
 abbrev pub lines_played : List ScheduleLine → Option ℕ → Input → Played → ScheduleOutcome
 lines_played [] bad i before = ending_of bad before
 lines_played (each ∷ lines) bad i before = line_on each.line (λ after. lines_played lines bad i after) (line_played each.what each.count i before)
 
--- what a schedule comes to
+-- the outcome of a schedule
 abbrev pub played : Input → ReadSchedule → ScheduleOutcome
 played i schedule = lines_played schedule.lines schedule.bad i (record { choices = []; state = first_state i })
 
 -- ---- the steps of one number
 
--- the number that an entry is a step for: of a worker, or by which it is learnt
+-- the number that an entry is a step for: an entry of a worker, or the one by which the number's filter is learnt
 abbrev pub step_of : Entry → Option ℕ
 step_of (Claimed w q) = Some q
 step_of (Copied q part place word) = Some q

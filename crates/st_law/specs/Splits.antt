@@ -1,5 +1,5 @@
--- How a part of a run is read off its history without the machine's own steps: the history is split at the entry that decides, and
--- no later entry touches the part. Histories stand newest first, so `later ++ e ∷ earlier` is e with what came after and before it.
+-- How a part of the state is read off the history without the machine's own steps: the history is split at the entry that decides, and no
+-- later entry touches the part. Histories have the newest entry first, so `later ++ e ∷ earlier` is e with the entries after and before it.
 use Rattle.std.specs.Prelude.{◌≡◌, ◌⊎◌, ℕ, Bool, true, List, [], ◌∷◌, ◌++◌}
 use Rattle.st_trace.specs.declared.entry.Change.{Change}
 use Rattle.st_trace.specs.declared.entry.Entry.{Entry}
@@ -29,24 +29,24 @@ pub record LastGives {V : Type 0} (Is : Change → Type 0) (Gives : List Change 
 
 -- ---- entries of a history, the newest first
 
--- no entry of the later ones touches the part, each by the entries before it
+-- none of the later entries touches the part, each seen with the entries before it
 abbrev pub NoneTouches : (Entry → History → Type 0) → History → History → Type 0
 NoneTouches Touches [] earlier = Unit {0}
 NoneTouches Touches (e ∷ later) earlier = (Touches e (later ++ earlier) → ⊥) × NoneTouches Touches later earlier
 
--- the part is what the last entry that touches it gives; where none does, it is as at first
+-- the part has the value that the last entry touching it gives; if none touches it, it has its first value
 pub record IsLastGiven {V : Type 0} (value : History → V) (first : V) (Touches : Entry → History → Type 0) (Gives : Entry → History → V → Type 0) : Type 0 where
   pub at_first : value [] ≡ first
   -- an entry gives it a value, and no later one touches it
   pub given : (later earlier : History) (e : Entry) (v : V) → Gives e earlier v → NoneTouches Touches later (e ∷ earlier) → value (later ++ e ∷ earlier) ≡ v
-  -- entries that don't touch it leave it as it was
+  -- entries that don't touch it leave it unchanged
   pub kept : (later earlier : History) → NoneTouches Touches later earlier → value (later ++ earlier) ≡ value earlier
 
 -- an entry touches what it gives some value
 abbrev pub GivesSome : {V : Type 0} → (Entry → History → V → Type 0) → Entry → History → Type 0
 GivesSome {V} Gives e h = (v : V) × Gives e h v
 
--- the part is what the last entry gives it that gives it anything
+-- the part has the last value that any entry gives it
 abbrev pub IsLastOf : {V : Type 0} → (History → V) → V → (Entry → History → V → Type 0) → Type 0
 IsLastOf value first Gives = IsLastGiven value first (GivesSome Gives) Gives
 
@@ -55,16 +55,16 @@ abbrev pub ChangeTouches : {V : Type 0} → (ℕ → History → Change → V �
 ChangeTouches {V} Gives (Used t seq call regs args ids result changes) h = SomeIn (λ c. (v : V) × Gives t h c v) changes
 ChangeTouches Gives _ h = ⊥
 
--- the last change of an entry that touches the part gives it this
+-- the last change of an entry that touches the part gives it this value
 abbrev pub ChangeGives : {V : Type 0} → (ℕ → History → Change → V → Type 0) → Entry → History → V → Type 0
 ChangeGives {V} Gives (Used t seq call regs args ids result changes) h v = LastGives (λ c. (w : V) × Gives t h c w) (λ before. Gives t h) changes v
 ChangeGives Gives _ h v = ⊥
 
--- the part is what the last change gives it that gives it anything
+-- the part has the last value that any change gives it
 abbrev pub IsLastChanged : {V : Type 0} → (History → V) → V → (ℕ → History → Change → V → Type 0) → Type 0
 IsLastChanged value first Gives = IsLastGiven value first (ChangeTouches Gives) (ChangeGives Gives)
 
--- somewhere in the history stands an entry of the kind, by the entries before it
+-- the history has an entry of the kind, by the entries before that entry
 pub record Contains (Is : Entry → History → Type 0) (h : History) : Type 0 where
   pub later : History
   pub entry : Entry
@@ -72,7 +72,7 @@ pub record Contains (Is : Entry → History → Type 0) (h : History) : Type 0 w
   pub split : h ≡ later ++ entry ∷ earlier
   pub is : Is entry earlier
 
--- the part is true behind an entry of the kind, and nowhere else
+-- the part is true after an entry of the kind, and nowhere else
 pub record IsTrueBehind (value : History → Bool) (Is : Entry → History → Type 0) : Type 0 where
   pub behind : (later earlier : History) (e : Entry) → Is e earlier → value (later ++ e ∷ earlier) ≡ true
   pub nowhere_else : (h : History) → value h ≡ true → Contains Is h

@@ -1,4 +1,4 @@
--- What the machine keeps of a run, and what is asked of it. The law speaks of the same record, whose parts are then what looking back says.
+-- The state that the machine keeps of a run, and the queries on it. The law uses the same record, computed from the history.
 use Rattle.std.specs.Prelude.{ℕ, zero, suc, Bool, true, false, ◌&&◌, ◌||◌, ◌==◌, not, nat_lt, nat_le, if◌then◌else◌, List, [], ◌∷◌, ◌++◌, length, Option, Some, None, is_some}
 use Rattle.st_base.specs.Numbered.{item_at_number}
 use Rattle.st_base.specs.declared.errno.Errno.{Errno}
@@ -60,11 +60,11 @@ pub record Message : Type 0 where
   pub answered : Bool
   pub closed : Bool
 
--- the whole of a run
+-- the whole state of a run
 pub record State : Type 0 where
   pub threads : ℕ → ThreadState
   pub processes : ℕ → Process
-  -- the numbers that the next process and the next memory have
+  -- the numbers that the next process and the next space have
   pub next_process : ℕ
   pub next_space : ℕ
   -- byte b of space s
@@ -73,7 +73,7 @@ pub record State : Type 0 where
   pub messages : ℕ → Message
   -- how many numbers were posted: 1, 2, 3 and so on
   pub posted : ℕ
-  -- what each worker has claimed and neither answered nor found faulty
+  -- the number that each worker has claimed and neither answered nor found faulty
   pub turns : ℕ → Option ℕ
   pub session : List SessionFilter
   -- which of the script's replies were given
@@ -86,7 +86,7 @@ pub record State : Type 0 where
 abbrev pub thread_count : Input → ℕ
 thread_count i = length i.start.threads
 
--- whether some thread of the script is of a kind
+-- whether some thread of the script satisfies a predicate
 abbrev pub is_some_thread : Input → (ℕ → Bool) → Bool
 is_some_thread i is = is_some (least_from is 1 (thread_count i))
 
@@ -94,16 +94,16 @@ is_some_thread i is = is_some (least_from is 1 (thread_count i))
 abbrev pub is_thread_of : State → ℕ → ℕ → Bool
 is_thread_of st p t = (st.threads t).owner == p
 
--- whether it hasn't ended either
+-- whether a thread is one of this process and hasn't ended
 abbrev pub is_running_in : State → ℕ → ℕ → Bool
 is_running_in st p t = (st.threads t).owner == p && not (st.threads t).ended
 
--- whether a process is there and hasn't ended: it never had a thread, or has one that hasn't ended
+-- whether a process exists and hasn't ended: it never had a thread, or has one that hasn't ended
 abbrev pub is_live_process : Input → State → ℕ → Bool
 is_live_process i st p =
     nat_lt 0 p && nat_lt p st.next_process && (not (is_some_thread i (is_thread_of st p)) || is_some_thread i (is_running_in st p))
 
--- whether no thread of its process but this one has still to end
+-- whether every other thread of its process has ended
 abbrev pub is_last_thread : Input → State → ℕ → Bool
 is_last_thread i st t = not (is_some_thread i (λ u. is_running_in st (st.threads t).owner u && not (u == t)))
 
@@ -113,7 +113,7 @@ process_in st t = st.processes (st.threads t).owner
 
 -- ---- messages
 
--- a number is live where it was posted, its call is open, and its thread isn't dying
+-- a number is live if it was posted, its message isn't closed, and its thread isn't dying
 abbrev pub is_live_by : Option Head → Bool → (ℕ → Bool) → Bool
 is_live_by None closed dying = false
 is_live_by (Some head) closed dying = not closed && not (dying head.tid)
@@ -122,24 +122,24 @@ is_live_by (Some head) closed dying = not closed && not (dying head.tid)
 abbrev pub is_live : State → ℕ → Bool
 is_live st q = is_live_by (st.messages q).head (st.messages q).closed (λ t. (st.threads t).dying)
 
--- what a held call is judged and made by
+-- the request by which the arguments of a held call are copied and looked up
 abbrev pub request_of_head : Head → ArgRequest
 request_of_head head = record { rule = head.rule; call = head.call; regs = head.regs; cwd = head.cwd }
 
--- how far the arguments of a message have come, by its head, the words that were copied and what was seen
+-- the progress of a message's arguments, by its head, the words copied and the lookups' answers
 abbrev pub progress_of_head : Option Head → (ℕ → List ℕ) → (ℕ → List SeenText) → Progress
 progress_of_head None words lookups = Ready []
 progress_of_head (Some head) words lookups = progress (request_of_head head) words lookups
 
--- how far the arguments of a message have come
+-- the progress of a message's arguments
 abbrev pub progress_of_message : Message → Progress
 progress_of_message message = progress_of_head message.head message.words message.lookups
 
--- how far the arguments of a number have come
+-- the progress of a number's arguments
 abbrev pub progress_in : State → ℕ → Progress
 progress_in st q = progress_of_message (st.messages q)
 
--- the copies of a held call, once all arguments are there
+-- the snapshot of a held call with all its arguments
 abbrev pub snapshot_with : ℕ → Head → List ArgText → Snapshot
 snapshot_with q head args = record {
   seq = q;
@@ -152,7 +152,7 @@ snapshot_with q head args = record {
   parts = args;
 }
 
--- the copies of a number, by its head and how far its arguments have come; none before all are there
+-- the copies of a number, by its head and the progress of its arguments; none before all are complete
 abbrev pub snapshot_of_progress : ℕ → Option Head → Progress → Option Snapshot
 snapshot_of_progress q (Some head) (Ready args) = Some (snapshot_with q head args)
 snapshot_of_progress q _ _ = None
@@ -161,11 +161,11 @@ snapshot_of_progress q _ _ = None
 abbrev pub snapshot_of_message : ℕ → Message → Option Snapshot
 snapshot_of_message q message = snapshot_of_progress q message.head (progress_of_message message)
 
--- the copies of a number
+-- the copies of a number, none before all are complete
 abbrev pub snapshot_in : State → ℕ → Option Snapshot
 snapshot_in st q = snapshot_of_message q (st.messages q)
 
--- whether all arguments are there
+-- whether all arguments are complete
 abbrev pub is_ready : Progress → Bool
 is_ready (Word part place) = false
 is_ready (Look part name) = false
@@ -176,12 +176,12 @@ is_ready (Ready args) = true
 abbrev pub is_worker : Input → ℕ → Bool
 is_worker i w = nat_lt 0 w && nat_le w i.options.workers
 
--- the number that a worker is at, by its turn: one that lives, or whose arguments are all there
+-- the number that a worker is at, by its turn: it has to be live, or all its arguments complete
 abbrev pub seq_at_work : State → Option ℕ → Option ℕ
 seq_at_work st None = None
 seq_at_work st (Some q) = if is_live st q || is_ready (progress_in st q) then Some q else None
 
--- the number that a worker is at, none where it is idle
+-- the number that a worker is at, none if it is idle
 abbrev pub worker_at : State → ℕ → Option ℕ
 worker_at st w = seq_at_work st (st.turns w)
 
@@ -195,7 +195,7 @@ is_waiting st q = is_live st q && not (st.messages q).claimed
 abbrev pub read_for : Input → List ℕ → Rule → List FilterValue
 read_for i policy rule = read_filters i.policies policy rule
 
--- what the filters read decide of these copies, else those of the session
+-- the decision of the filters read on these copies, otherwise of the session's
 abbrev pub decision_in : Input → State → Snapshot → Verdict
 decision_in i st s = decision (read_for i s.policy s.rule) (session_filters st.session s.policy s.rule) s
 
@@ -207,17 +207,17 @@ answer_for i st policy rule = fast (read_for i policy rule ++ session_filters st
 abbrev pub answer_in : Input → State → Process → SysCall → List ℕ → FastAnswer
 answer_in i st process call regs = answer_for i st process.policy (rule_of call regs i.options.aliasing)
 
--- how many filters a policy and a rule have, those read and those of the session
+-- how many filters the policy and the rule of these copies have, read and of the session
 abbrev pub filter_count : Input → State → Snapshot → ℕ
 filter_count i st s = length (read_for i s.policy s.rule ++ session_filters st.session s.policy s.rule)
 
 -- ---- questions
 
--- whether a reply is for a policy and a rule and was not given yet
+-- whether a reply is for a policy and a rule and wasn't given yet
 abbrev pub is_reply_left : Input → State → List ℕ → Rule → ℕ → Bool
 is_reply_left i st policy rule n = is_reply_for policy rule (item_at_number i.replies n) && not (st.replied n)
 
--- the next reply for a policy and a rule, if there is one left
+-- the next reply for a policy and a rule, if one is left
 abbrev pub next_reply : Input → State → List ℕ → Rule → Option ℕ
 next_reply i st policy rule = least_from (is_reply_left i st policy rule) 1 (length i.replies)
 
@@ -227,13 +227,13 @@ is_asked i st s Enforce = false
 is_asked i st s Learn = true
 is_asked i st s AskText = is_some (next_reply i st s.policy s.rule)
 
--- whether a decision is none
+-- whether a verdict decides nothing
 abbrev pub is_undecided : Verdict → Bool
 is_undecided (Permit n ids) = false
 is_undecided (Refuse n errno) = false
 is_undecided Unmatched = true
 
--- whether the operator is to answer for a call with these copies
+-- whether the operator has to answer for a call with these copies
 abbrev pub is_open_question : Input → State → Option Snapshot → Bool
 is_open_question i st None = false
 is_open_question i st (Some s) = is_undecided (decision_in i st s) && is_asked i st s i.options.mode
@@ -244,7 +244,7 @@ is_question i st q = is_live st q && (st.messages q).answered && is_open_questio
 
 -- ---- the modelled system, as a call finds it
 
--- the held call of a thread, by its way; the number of one that is dying isn't live any more
+-- the held call of a thread, by its way; none if the thread is dying, whose number isn't live any more
 abbrev pub held_by_way : State → ℕ → Way → List HeldCall
 held_by_way st t (Held first) =
     if (st.threads t).dying then [] else record { tid = t; pid = (st.threads t).owner; number = (st.threads t).number } ∷ []
@@ -255,12 +255,12 @@ abbrev pub held_by_pending : State → ℕ → Option PendingCall → List HeldC
 held_by_pending st t None = []
 held_by_pending st t (Some entered) = held_by_way st t entered.way
 
--- the held calls of so many threads from this one on, in order
+-- the held calls of `count` threads from t on, in order
 abbrev pub held_from : State → ℕ → ℕ → List HeldCall
 held_from st t zero = []
 held_from st t (suc count) = held_by_pending st t (st.threads t).pending ++ held_from st (suc t) count
 
--- the system
+-- the modelled system that a call sees
 abbrev pub system_of : Input → State → System
 system_of i st = record {
   tree = st.tree;
@@ -274,12 +274,12 @@ system_of i st = record {
   held = held_from st 1 (thread_count i);
 }
 
--- the thread that a pending call starts
+-- the thread that a pending call starts, 0 if it starts none
 abbrev pub child_of_pending : Option PendingCall → ℕ
 child_of_pending None = 0
 child_of_pending (Some entered) = entered.child
 
--- a call of a thread, with its registers, arguments and the ids that it is made under
+-- a call of a thread as a request, with its registers, arguments and the ids that it is made under
 abbrev pub request_of : Input → State → ℕ → List ℕ → List ArgText → Ids → Request
 request_of i st t regs args ids = record {
   tid = t;
@@ -297,22 +297,22 @@ arguments_now i st t call regs =
     arguments_in (record { rule = rule_of call regs i.options.aliasing; call = call; regs = regs; cwd = (process_in st t).cwd })
     (record { bytes = st.memory (process_in st t).space; tree = st.tree })
 
--- the first link that the names of a call meet, its arguments being these
+-- the first link in the way of a call with these arguments
 abbrev pub link_now : Input → State → SysCall → List ℕ → List ArgText → Option Components
 link_now i st call regs args = link_met st.tree (rule_of call regs i.options.aliasing) call regs args
 
 -- ---- memory and descriptors
 
--- the number of the memory of a message's process
+-- the number of the space of a message's process
 abbrev pub space_of_head : State → Option Head → ℕ
 space_of_head st None = 0
 space_of_head st (Some head) = (st.processes head.pid).space
 
--- the word at a place of the memory of a number's process
+-- the word at a word index of the memory of a number's process
 abbrev pub word_for : State → ℕ → ℕ → ℕ
 word_for st q place = word_of (st.memory (space_of_head st (st.messages q).head)) place
 
--- the descriptors after an entry: a call that goes well may change them, and those of a process are closed when its last thread ends
+-- the descriptors after an entry: a successful call may change them, and those of a process are closed when its last thread ends
 abbrev pub table_after : Input → State → Entry → Table
 table_after i st (Used t seq call regs args ids (Value n) changes) = (effect (system_of i st) call (request_of i st t regs args ids)).descriptors
 table_after i st (Ended t) = if is_last_thread i st t then table_after_close_all st.descriptors (st.threads t).owner else st.descriptors

@@ -36,14 +36,14 @@ ghost use Rattle.st_law.specs.State.{State, decision_in, snapshot_in, system_of}
 ghost use Rattle.st_law.specs.Threads.{History, body_of, has_ended_at, left_at, owner_at};
 ghost use Rattle.st_law.specs.Told.{choice_of, choices_told};
 
-/// Every run of the machine is lawful, for every input that a run can start with and whatever the choices are.
+/// Every run of the machine is lawful, for every startable input and every list of choices.
 pub fn every_run_is_lawful()
     ensures { (input : Input) → IsStartable input → (choices : List Choice) → Lawful input (run input choices) }
 {}
 
-/// The law is the machine, both ways: a trace is lawful exactly where it is the run of the choices that it tells, and so exactly where it
-/// is a run. Each choice that a lawful trace tells is enabled at its turn, and adds this entry. An entry after a lawful history is
-/// lawful exactly where the choice that it tells adds it.
+/// The law and the machine agree: a trace is lawful exactly when it is the run of the choices that it implies, and so exactly when it is
+/// the run of some choices. Each choice that a lawful trace implies is enabled at its turn, and adds that entry. An entry after a lawful
+/// history is lawful exactly when the choice that it implies adds it.
 pub fn the_law_is_the_machine()
     ensures both { (input : Input) → IsStartable input → (trace : List Entry) → Lawful input trace ↔ (run input (choices_told input trace) ≡ trace) }
     ensures runs { (input : Input) → IsStartable input → (trace : List Entry) → Lawful input trace ↔ ((choices : List Choice) × (run input choices ≡ trace)) }
@@ -56,70 +56,72 @@ pub fn every_prefix_is_lawful()
     ensures { (input : Input) (front rest : List Entry) → Lawful input (front ++ rest) → Lawful input front }
 {}
 
-/// An answer that isn't applied changes nothing but that its worker is idle.
+/// An answer that isn't applied changes nothing except that its worker becomes idle.
 pub fn a_stale_answer_changes_nothing()
     ensures { (input : Input) (h : History) (w : ℕ) (s : Snapshot) (v : Verdict) → IsStale input h w (Answered w s v false) }
 {}
 
-/// The copies that an applied answer was for stay the copies of its number. A call of that number is made with exactly them and, where
-/// the answer decided, under the ids that it granted; and where a filter denies it, it is the one that the answer named.
+/// After an applied answer, the copies of its number stay those that were judged. If the call of that number is made, it is made with
+/// exactly these copies and, if the answer decided, under the ids that it granted. If the answer decided and a filter denies the call, the
+/// answer named this filter and this error.
 pub fn an_answer_stands()
     ensures copies { (input : Input) → IsStartable input → (later earlier : History) (w : ℕ) (s : Snapshot) (v : Verdict) → IsLawfulBack input (later ++ Answered w s v true ∷ earlier) → snapshot_in (looking_back input (later ++ Answered w s v true ∷ earlier)) s.seq ≡ Some s }
     ensures used { (input : Input) → IsStartable input → (later earlier : History) (w : ℕ) (s : Snapshot) (v : Verdict) (t : ℕ) (call : SysCall) (regs : List ℕ) (args : List ArgText) (ids : Ids) (result : CallResult) (changes : List Change) → IsLawfulBack input (Used t (Some s.seq) call regs args ids result changes ∷ (later ++ Answered w s v true ∷ earlier)) → IsUsedAsAnswered s v call regs args ids }
     ensures denied { (input : Input) → IsStartable input → (later earlier : History) (w : ℕ) (s : Snapshot) (v : Verdict) (t : ℕ) (errno : Errno) (n : ℕ) → IsLawfulBack input (Denied t (Some s.seq) errno (Filter n) ∷ (later ++ Answered w s v true ∷ earlier)) → v ≢ Unmatched → v ≡ Refuse n errno }
 {}
 
-/// Where the filters that were read decide, the session's don't matter; lists of filters grow at their end alone; and what was decided
-/// once, by whichever filter, is decided so for ever.
+/// If the filters that were read decide, the session's filters don't matter. Lists of filters grow only at their end. A call that was
+/// decided once, by whichever filter, is decided in the same way ever after.
 pub fn a_decision_stands()
     ensures read { (read session : List FilterValue) (s : Snapshot) (v : Verdict) → verdict read s ≡ v → v ≢ Unmatched → decision read session s ≡ v }
     ensures grows { (input : Input) (later earlier : History) → (more : List SessionFilter) × (session_at input (later ++ earlier) ≡ session_at input earlier ++ more) }
     ensures stays { (input : Input) (later earlier : History) (s : Snapshot) → decision_in input (looking_back input earlier) s ≢ Unmatched → decision_in input (looking_back input (later ++ earlier)) s ≡ decision_in input (looking_back input earlier) s }
 {}
 
-/// The filter that is learnt of copies holds of exactly the calls that have each of their arguments, with its text, so of them; and once it
-/// is learnt, the filter of its number permits their call under its own ids.
+/// The filter that is learnt from copies holds of exactly the calls that have each of these arguments with its text, and so of the copies
+/// themselves. Once it is learnt, the decision on the copies is a permit by the filter of this number, under their own ids.
 pub fn what_is_learnt_permits()
     ensures holds { (s : Snapshot) → holds (learnt_filter s) s ≡ true }
     ensures exactly { (s u : Snapshot) → (holds (learnt_filter s) u ≡ true) ↔ AllStandAmong u.parts s.parts }
     ensures number { (input : Input) → IsStartable input → (h : History) (q n : ℕ) (s : Snapshot) → IsLawfulBack input (Learned q n ∷ h) → snapshot_in (looking_back input h) q ≡ Some s → decision_in input (looking_back input (Learned q n ∷ h)) s ≡ Permit n s.ids }
 {}
 
-/// A call is made only where no name of it meets a link, and denied for the first that one meets: on the way to a name are the names that
-/// lead to it, and the name itself where a link in its place is followed. Of several names the first that meets one counts.
+/// A call takes effect only if no link is in its way: `link_met` is the first such link. The names on the way to a name are its proper
+/// prefixes, and the name itself if a link in its place is followed. Of several names of a call, the first that has a link on its way
+/// counts.
 pub fn the_first_link_is_met()
     ensures on_way { (tree : Tree) (follow : Bool) (name : Components) → IsFound tree follow name (link_on_way tree follow name) }
     ensures call { (tree : Tree) (rule : Rule) (call : SysCall) (regs : List ℕ) (args : List ArgText) → IsMet tree rule call regs args (link_met tree rule call regs args) }
 {}
 
-/// Where a schedule comes to choices, each of them is enabled at its turn: the run has an entry for each.
+/// If a schedule gives choices, each of them is enabled at its turn: the run has one entry for each.
 pub fn each_choice_of_a_schedule_is_enabled()
     ensures { (input : Input) (schedule : ReadSchedule) (choices : List Choice) → played input schedule ≡ Choices choices → length (run input choices) ≡ length choices }
 {}
 
-/// A call finds the processes that are there and haven't ended, and the calls that threads hold which aren't dying, in the threads' order.
+/// A call sees the processes that exist and haven't ended, and the calls held by threads that aren't dying, in the order of the threads.
 pub fn what_a_call_finds()
     ensures live { (input : Input) (st : State) (p : ℕ) → ((system_of input st).is_live p ≡ true) ↔ IsThere input st p }
     ensures held { (input : Input) (st : State) → AreHeld input st (system_of input st).held }
 {}
 
-/// A call that isn't held has the arguments, or the fault, that a worker would have come to, had it copied and looked while nothing changed.
+/// A call that isn't held takes the arguments, or the fault, that a worker would get by copying and looking while nothing changes.
 pub fn one_step_takes_what_a_worker_would()
     ensures { (asked : ArgRequest) (around : Surroundings) → (words : ℕ → List ℕ) × (lookups : ℕ → List SeenText) × AreTaken asked around words lookups }
 {}
 
-/// What a thread has stored and entered so far, in order, and what it has left are its body.
+/// The instructions that a thread has stored and entered so far, in order, followed by those that it has left, are its body.
 pub fn a_thread_goes_through_its_body()
     ensures { (input : Input) (h : History) (t : ℕ) → IsLawfulBack input h → (begun : List Instr) × HasBegun t h begun × (begun ++ left_at input h t ≡ body_of input t) }
 {}
 
-/// While a thread that has started hasn't ended, some choice is enabled.
+/// As long as some started thread hasn't ended, some choice is enabled.
 pub fn some_choice_is_enabled()
     ensures { (input : Input) → IsStartable input → (choices : List Choice) (t : ℕ) → owner_at input (history input (reverse choices)) t ≢ 0 → has_ended_at (history input (reverse choices)) t ≡ false → (c : Choice) × IsEnabled input (state_of_run input choices) c }
 {}
 
-/// A run has at most 10,000 x (n + 64 x s + 1) + r steps, for n instructions, s of them calls that set ids, and r replies; a number takes
-/// at most 10,000 of them; and behind the choices that `rest` stands for no choice is enabled, whatever was chosen before it.
+/// A run has at most 10,000 x (n + 64 x s + 1) + r steps, for n instructions, s of them calls that set ids, and r replies. At most 10,000
+/// of these steps are for any one number. After the choices that `rest` gives, no choice is enabled, whatever was chosen before them.
 pub fn every_run_ends()
     ensures steps { (input : Input) → IsStartable input → (choices : List Choice) → length (run input choices) ≤ most_steps input }
     ensures number { (input : Input) → IsStartable input → (q : ℕ) (h : History) → IsLawfulBack input h → steps_for q h ≤ 10000 }

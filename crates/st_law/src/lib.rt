@@ -1,4 +1,4 @@
-//! The whole modelled kernel as a machine, the history of a run looked back on, and the law of every run.
+//! The modelled kernel as a state machine, its state as a function of a run's history, and the law that every run obeys.
 #![tactic(auto)]
 
 pub mod input;

@@ -13,8 +13,9 @@ ghost use Rattle.st_law.specs.Threads.{History, body_of, first_owner, has_ended_
 ghost use Rattle.st_law.specs.declared.input.Input.{Input};
 ghost use Rattle.st_trace.specs.declared.entry.Entry.{Entry};
 
-/// What a run says of a thread, read off the entries: its process is the first that it was started in, it goes through its body,
-/// and it holds its call under the number that the call was entered under, or renewed as.
+/// The record of a thread, read off the entries. Its process is the first that it was started in. It goes through its body. It holds its
+/// call under the number that the call was entered with, or was renewed as. It is dying, or has ended, exactly after an entry that makes it
+/// so.
 pub fn a_thread_is_its_history()
     ensures first_process { (i : Input) (t : ℕ) → owner_at i [] t ≡ first_owner i t }
     ensures started { (i : Input) (t pid : ℕ) (later earlier : History) (e : Entry) → owner_at i earlier t ≡ 0 → Starts t pid e → pid ≢ 0 → owner_at i (later ++ e ∷ earlier) t ≡ pid }
@@ -27,8 +28,8 @@ pub fn a_thread_is_its_history()
     ensures ended { (t : ℕ) → IsTrueBehind (λ h. has_ended_at h t) (IsEnd t) }
 {}
 
-/// What a run says of a process, read off the changes: each part of it is as the last change left it that speaks of it. So are the
-/// numbers that the next process and the next memory have.
+/// The record of a process, read off the changes: each part has the value that the last change of this part gave it. The same holds of the
+/// numbers of the next process and of the next space.
 pub fn a_process_is_its_history()
     ensures traced { (i : Input) (p : ℕ) → IsLastChanged (λ h. (process_at i h p).traced) (first_process i p).traced (GivesTraced i p) }
     ensures policy { (i : Input) (p : ℕ) → IsLastChanged (λ h. (process_at i h p).policy) (first_process i p).policy (GivesPolicy i p) }
@@ -39,15 +40,15 @@ pub fn a_process_is_its_history()
     ensures next_memory { (i : Input) → IsLastChanged (next_space_at i) (suc (process_count i)) GivesNextSpace }
 {}
 
-/// A byte of memory is what was last written there, 0 before; the file tree is the first one with all changes so far, in order;
-/// the descriptors are what the last call that went well left, or the end of a process.
+/// A byte of memory has the value that was last written there, 0 before. The file tree is the first one with all changes so far, in order.
+/// The descriptors are those that the last successful call, or the last end of a process, left.
 pub fn memory_and_files_are_what_was_written()
     ensures byte { (i : Input) (s b : ℕ) → IsLastGiven (λ h. byte_at i h s b) 0 (TouchesByte i s b) (GivesByte i s b) }
     ensures tree { (i : Input) (h : History) → tree_at i h ≡ tree_after (first_tree i) (changes_so_far h) }
     ensures descriptors { (i : Input) → IsLastOf (descriptors_at i) (first_descriptors i) (GivesTable i) }
 {}
 
-/// What a run says of a number's message and of a worker's turn, read off the entries.
+/// The record of a number's message and of a worker's turn, read off the entries.
 pub fn a_message_is_its_history()
     ensures head { (i : Input) (q : ℕ) → IsLastGiven (λ h. head_at i h q) None (Posts q) (GivesHead i q) }
     ensures posted { (h : History) → posted_at h ≡ length (numbers_so_far h) }
@@ -66,13 +67,12 @@ pub fn a_session_only_grows()
     ensures replied { (n : ℕ) → IsTrueBehind (λ h. is_replied_at h n) (Replies n) }
 {}
 
-/// Numbers are 1, 2, 3 and so on, in the order in which they are posted: none is left out, and none comes twice.
+/// Numbers are 1, 2, 3 and so on, in the order in which they are posted: none is skipped and none is repeated.
 pub fn numbers_come_in_order()
     ensures { (i : Input) (h : History) → IsLawfulBack i h → numbers_so_far h ≡ range_with_len 1 (posted_at h) }
 {}
 
-/// A number lives exactly from the entry that posts it until its call is made or denied, it is renewed, or its thread has nothing left
-/// but to end.
+/// A number is live exactly from the entry that posts it until its call is made or denied, it is renewed, or its thread is dying.
 pub fn a_number_lives_since_it_was_posted()
     ensures since { (i : Input) (h : History) (q : ℕ) → is_live (looking_back i h) q ≡ true → (head : Head) × LivesSince i q head h }
     ensures lives { (i : Input) → IsStartable i → (h : History) → IsLawfulBack i h → (q : ℕ) (head : Head) → LivesSince i q head h → is_live (looking_back i h) q ≡ true }

@@ -32,7 +32,7 @@ ghost use Rattle.st_law.specs.Sessions.{session_filters};
 ghost use Rattle.st_law.specs.State.{State, answer_in, arguments_now, decision_in, filter_count, is_question, is_worker, link_now, next_reply, request_of, snapshot_in, system_of, word_for, worker_at};
 ghost use Rattle.st_law.specs.Threads.{History, body_of, first_owner, is_dying_at};
 
-/// A run begins as the rows of its script and its options say: threads, processes, the file tree and the descriptors.
+/// A run begins as the rows of its script and its options say: the threads, the processes, the file tree and the descriptors.
 pub fn a_run_begins_as_its_script_says()
     ensures threads { (i : Input) (t : ℕ) (row : ThreadRow) → item_at_number i.start.threads t ≡ Some row → ThreadBegins i t row }
     ensures no_thread { (i : Input) (t : ℕ) → item_at_number i.start.threads t ≡ None → (first_owner i t ≡ 0) × (body_of i t ≡ []) }
@@ -41,8 +41,8 @@ pub fn a_run_begins_as_its_script_says()
     ensures descriptors { (i : Input) → ConsolesBegin (length i.start.processes) (first_descriptors i) }
 {}
 
-/// A worker is at the number that it has claimed while that lives or its arguments are all there, and copies the word that the memory of
-/// the number's process has; and what the copies of a number are.
+/// A worker is at the number that it has claimed, as long as the number is live or all its arguments are complete. It copies the word in
+/// the memory of the number's process. The copies of a number are those of its head, with the arguments that its words and lookups give.
 pub fn what_a_worker_is_at()
     ensures workers { (i : Input) (w : ℕ) → (is_worker i w ≡ true) ↔ IsWorker i w }
     ensures number { (st : State) (w q : ℕ) → (worker_at st w ≡ Some q) ↔ IsAt st w q }
@@ -50,26 +50,27 @@ pub fn what_a_worker_is_at()
     ensures copies { (st : State) (q : ℕ) (s : Snapshot) → (snapshot_in st q ≡ Some s) ↔ AreCopies st q s }
 {}
 
-/// The kernel answers by itself exactly where the first filter is a plain permit or a plain denial.
+/// The kernel permits or refuses by itself exactly when the first filter is a plain permit or a plain deny.
 pub fn what_the_kernel_answers_by_itself()
     ensures permits { (i : Input) (st : State) (process : Process) (call : SysCall) (regs : List ℕ) → (answer_in i st process call regs ≡ answer.Permit) ↔ ((f : FilterValue) × IsFirstFilter i st process.policy (rule_of call regs i.options.aliasing) f × IsPlainPermit f) }
     ensures refuses { (i : Input) (st : State) (process : Process) (call : SysCall) (regs : List ℕ) (errno : Errno) → (answer_in i st process call regs ≡ answer.Refuse errno) ↔ ((f : FilterValue) × IsFirstFilter i st process.policy (rule_of call regs i.options.aliasing) f × IsPlainDenial errno f) }
 {}
 
-/// The filters that were read decide, else those of the session, which are numbered on; and how many there are for a policy and a rule.
+/// The filters that were read decide, otherwise those of the session, which are numbered on. The filters of a policy and a rule are counted
+/// the same way.
 pub fn what_the_filters_decide()
     ensures read { (i : Input) (st : State) (s : Snapshot) → verdict (read_filters i.policies s.policy s.rule) s ≢ Unmatched → decision_in i st s ≡ verdict (read_filters i.policies s.policy s.rule) s }
     ensures session { (i : Input) (st : State) (s : Snapshot) → verdict (read_filters i.policies s.policy s.rule) s ≡ Unmatched → decision_in i st s ≡ verdict_from (1 + length (read_filters i.policies s.policy s.rule)) (session_filters st.session s.policy s.rule) s }
     ensures count { (i : Input) (st : State) (s : Snapshot) → (n : ℕ) × AreKeptFor s.policy s.rule st.session n × (filter_count i st s ≡ length (read_filters i.policies s.policy s.rule) + n) }
 {}
 
-/// Which numbers are questions, and which reply is the next.
+/// Which numbers are questions, and which reply is given next.
 pub fn what_the_operator_is_asked()
     ensures question { (i : Input) (st : State) (q : ℕ) → (is_question i st q ≡ true) ↔ IsAsking i st q }
     ensures reply { (i : Input) (st : State) (policy : List ℕ) (rule : Rule) → IsNextReply i st policy rule (next_reply i st policy rule) }
 {}
 
-/// With what a call is made, what it finds, which link its names meet then, and the arguments of one that copies and looks in one step.
+/// What a call is made with, which system it sees, which link is in its way, and the arguments of a call that copies and looks in one step.
 pub fn what_a_call_is_made_with()
     ensures request { (i : Input) (st : State) (t : ℕ) (regs : List ℕ) (args : List ArgText) (ids : Ids) → IsMadeWith i st t regs args ids (request_of i st t regs args ids) }
     ensures link { (i : Input) (st : State) (call : SysCall) (regs : List ℕ) (args : List ArgText) → IsMet st.tree (rule_of call regs i.options.aliasing) call regs args (link_now i st call regs args) }
@@ -77,8 +78,8 @@ pub fn what_a_call_is_made_with()
     ensures arguments { (i : Input) (st : State) (t : ℕ) (call : SysCall) (regs : List ℕ) → AreArgumentsOf i st t call regs (arguments_now i st t call regs) }
 {}
 
-/// A call is barred where the kernel refuses it at its entering, and that answer stands: while the call is pending and its thread isn't
-/// dying the kernel's own answer to it is the same, the call is never made, and its denial has that answer's error.
+/// A call is barred if the kernel refuses it when it is entered, and this answer is final. While the call is pending and its thread isn't
+/// dying, the kernel's own answer to it doesn't change. The call is never made, and its denial has the error of that answer.
 pub fn a_bar_stands()
     ensures refused { (i : Input) (t n : ℕ) (call : SysCall) (regs : List ℕ) (h : History) → IsLawfulBack i (Entered t call regs (Barred n) ∷ h) → (errno : Errno) × (answer_at i h t call regs ≡ answer.Refuse errno) }
     ensures stands { (i : Input) → IsStartable i → (t n : ℕ) (call : SysCall) (regs : List ℕ) (later earlier : History) → IsBarredSince i t n call regs later earlier → is_dying_at i (later ++ Entered t call regs (Barred n) ∷ earlier) t ≡ false → answer_at i (later ++ Entered t call regs (Barred n) ∷ earlier) t call regs ≡ answer_at i earlier t call regs }
