@@ -1,4 +1,4 @@
--- What is asked of the record of a run means what its name says.
+-- The queries on a state mean what their names say.
 use native.Mathlib.Omega.{arith}
 use Rattle.std.proofs.Common.{◌≡◌, ◌≢◌, ◌≤◌, ◌<◌, ◌⊎◌, ◌↔◌, ℕ, zero, suc, ◌+◌, ◌*◌, ◌^◌, Bool, true, false, cond, not, ◌&&◌, ◌||◌, List, [], ◌∷◌, ◌++◌, length, map, Option, Some, None, is_some, nat_le, nat_lt, refl, sym, ap, subst, ◌∙◌, length-append, inl, inr}
 use Rattle.std.specs.Prelude.{filter, slice_index}
@@ -147,7 +147,7 @@ module _ (policy : List ℕ) (rule : Rule) where
   not_kept : (kept : SessionFilter) → is_kept_for policy rule kept ≡ false → IsKeptFor policy rule kept → ⊥
   not_kept kept e x = true≢false (sym ((kept_for kept).1 x) ∙ e)
 
-  -- the filters of a session with this one in front, by whether it is one of them
+  -- the filters of a session with this one before the others, by whether it is for the policy and the rule
   abbrev with_first : Bool → SessionFilter → List SessionFilter → List FilterValue
   with_first b kept session = map (λ k. k.filter) (cond b (kept ∷ filter (is_kept_for policy rule) session) (filter (is_kept_for policy rule) session))
 
@@ -201,7 +201,7 @@ session_decides i st s none =
 
 -- ---- the kernel's own answer
 
--- the parts of a plain permit, and of a plain denial
+-- the parts of a plain permit, and of a plain deny
 permit_parts : (formula : Formula) (act : Action) (grant : Option Grant) (log : Bool) (predicate : Option Predicate) → answer_by formula act grant log predicate ≡ answer.Permit
     → (formula ≡ True) × (act ≡ action.Permit) × (grant ≡ None) × (log ≡ false) × (predicate ≡ None)
 permit_parts True action.Permit None false None e = (refl, refl, refl, refl, refl)

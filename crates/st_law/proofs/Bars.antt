@@ -1,4 +1,4 @@
--- The kernel's own answer to a barred call stands until the call is denied, and the call is never made.
+-- The kernel's own answer to a barred call doesn't change until the call is denied, and the call is never made.
 use Rattle.std.proofs.Common.{◌≡◌, ◌≢◌, ℕ, false, cond, List, [], ◌∷◌, ◌++◌, Option, Some, None, refl, sym, ap, subst, ◌∙◌}
 use Rattle.std.proofs.lemmas.Bool.{eq-eqb, ne_eqb}
 use Rattle.std.proofs.lemmas.Option.{same_Some}
@@ -36,7 +36,7 @@ module _ (i : Input) (t n : ℕ) (call : SysCall) (regs : List ℕ) (errno : Err
   abbrev Barring : ℕ → PendingCall
   Barring child = record { call = call; regs = regs; way = Barred n; child = child }
 
-  -- a thread that has started has this call pending, barred; unless it is dying the kernel's own answer refuses the call with this error
+  -- a started thread has this barred call pending; unless the thread is dying, the kernel's own answer refuses the call with this error
   record Bars (st : State) : Type 0 where
     pub started : (st.threads t).owner ≢ 0
     pub child : ℕ
@@ -61,7 +61,7 @@ module _ (i : Input) (t n : ℕ) (call : SysCall) (regs : List ℕ) (errno : Err
               ∙ x.refused (undying_before t (st.threads t).owner u (st.threads u).owner (st.threads t).dying changes undying);
         }
 
-    -- behind each lawful entry that neither makes nor denies the call
+    -- the bar is kept by each lawful entry that neither makes nor denies the call
     bars_on : Invariant i st → (e : Entry) (h : History) → IsLawful i st e → (EndsCallOf t e h → ⊥) → Bars (state_after i st e)
     bars_on inv (Used u seq made given args ids result changes) h y other = used_on inv u seq made given args ids result changes y other
     bars_on inv (Denied u seq error cause) h y other = record { started = x.started; child = x.child; pending = ap (λ b. cond b None (st.threads t).pending) (ne_eqb u t other) ∙ x.pending; refused = x.refused }
@@ -120,7 +120,7 @@ module _ (i : Input) (startable : IsStartable i) (t n : ℕ) (call : SysCall) (r
     pub stands : is_dying_at i (behind later earlier) t ≡ false → answer_at i (behind later earlier) t call regs ≡ answer_at i earlier t call regs
     stands undying = let x : Still = still in x.refused undying ∙ sym first.way_is.3
 
-    -- what is pending is this call
+    -- the pending call is this call
     same_call : (made : SysCall) (given : List ℕ) (way : Way) (child : ℕ) → ((looking_back i (behind later earlier)).threads t).pending ≡ Some (record { call = made; regs = given; way = way; child = child }) → (Barred n ≡ way) × (call ≡ made) × (regs ≡ given)
     same_call made given way child e =
         let x : Still = still in
@@ -147,6 +147,6 @@ module _ (i : Input) (startable : IsStartable i) (t n : ℕ) (call : SysCall) (r
     denied (Some q) errno cause lawful =
         let same = same_call lawful.0.call lawful.0.regs (Held lawful.0.held.first) lawful.0.held.entered.0 lawful.0.held.entered.1 in absurd (not_held lawful.0.held.first same.0)
 
--- a call is barred where the kernel refuses it
+-- a call is barred if the kernel refuses it
 pub barred_by : (i : Input) (t n : ℕ) (call : SysCall) (regs : List ℕ) (h : History) → IsLawfulBack i (Entered t call regs (Barred n) ∷ h) → (errno : Errno) × (answer_at i h t call regs ≡ answer.Refuse errno)
 barred_by i t n call regs h lawful = (lawful.0.way_is.2, lawful.0.way_is.3)

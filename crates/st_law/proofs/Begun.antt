@@ -1,4 +1,4 @@
--- What a thread has begun and what it has left are its body; and what a stale answer leaves.
+-- What a thread has begun, followed by what it has left, is its body. Also what a stale answer leaves.
 use Rattle.std.proofs.Common.{◌≡◌, ℕ, Bool, true, false, cond, ◌&&◌, ◌||◌, ◌==◌, List, [], ◌∷◌, ◌++◌, drop, None, refl, sym, ap, subst, ◌∙◌, inl, inr}
 use Rattle.std.proofs.lemmas.Bool.{eqb-true, eqb-false, eq-eqb, ne_eqb, and_right}
 use Rattle.std.proofs.lemmas.List.{append_assoc}
@@ -17,11 +17,11 @@ use Rattle.st_law.specs.Threads.{History, body_of, left_at}
 
 -- ---- instructions
 
--- instructions that a thread has begun, with those that it has left behind them
+-- the instructions that a thread has begun, followed by those that it has left, are its body
 abbrev Goes : Input → History → ℕ → Type 0
 Goes i h t = (begun : List Instr) × HasBegun t h begun × (begun ++ left_at i h t ≡ body_of i t)
 
--- what is left once the first instruction is taken
+-- the instructions left after the first is taken
 module _ (i : Input) (h : History) (u t : ℕ) (Is : Instr → Type 0) (x : Instr) (later : List Instr) (next : left_at i h u ≡ x ∷ later) (is : Is x) (before : Goes i h t) where
   begun_by : (b : Bool) → (u == t) ≡ b → (begun : List Instr) × IsBegun u t Is (HasBegun t h) begun × (begun ++ cond b (drop 1 (left_at i h t)) (left_at i h t) ≡ body_of i t)
   begun_by true e =

@@ -1,4 +1,4 @@
--- What a thread's pending call keeps where its number, its head and its process's row stay.
+-- What a thread's pending call keeps if its number, its head and its process's row are unchanged.
 use native.Mathlib.Omega.{arith}
 use Rattle.std.proofs.Common.{◌≡◌, ◌≢◌, ◌≤◌, ℕ, false, List, Option, Some, None, refl, sym, ap, ◌∙◌}
 use Rattle.st_base.specs.declared.errno.Errno.{Errno}
@@ -14,11 +14,11 @@ use Rattle.st_law.specs.State.{State, process_in, answer_for}
 use Rattle.st_law.specs.Threads.{PendingCall}
 use Rattle.st_law.proofs.Invariant.{IsOpen, IsRefused, IsFine, IfPending}
 
--- what the kernel refused by itself it refuses still
+-- what the kernel refused by itself it still refuses
 abbrev pub RefusesStill : Input → State → State → Type 0
 RefusesStill i st new = (policy : List ℕ) (rule : Rule) (errno : Errno) → answer_for i st policy rule ≡ answer.Refuse errno → answer_for i new policy rule ≡ answer.Refuse errno
 
--- a thread has its process, with its ids and policy, its number, and that number's head and openness
+-- a thread keeps its process with ids and policy, its number, and the number's head and openness
 pub record IsKept (st new : State) (t : ℕ) : Type 0 where
   pub owner : (new.threads t).owner ≡ (st.threads t).owner
   pub ids : (process_in new t).ids ≡ (process_in st t).ids
@@ -48,14 +48,14 @@ refused_kept i st new t n call regs still policy x = record {
   refused = (λ k. answer_for i new (policy k) (rule_of call regs i.options.aliasing)) ∙ still (process_in st t).policy (rule_of call regs i.options.aliasing) x.errno x.refused;
 }
 
--- a pending call is fine still: where it is held, by what is kept of its message
+-- a pending call keeps its invariant; if it is held, by what is kept of its message
 pub fine_by : (i : Input) (st new : State) (t : ℕ) (call : SysCall) (regs : List ℕ) (way : Way) → RefusesStill i st new → (process_in new t).policy ≡ (process_in st t).policy → ((first : ℕ) → way ≡ Held first → IsOpen st t call regs → IsOpen new t call regs) → IsFine i st t call regs way → IsFine i new t call regs way
 fine_by i st new t call regs Fast still policy opens x = tt
 fine_by i st new t call regs Untraced still policy opens x = tt
 fine_by i st new t call regs (Barred n) still policy opens x = refused_kept i st new t n call regs still policy x
 fine_by i st new t call regs (Held first) still policy opens x = opens first refl x
 
--- what holds of a pending call holds of it still
+-- a property of a pending call is carried over
 pub if_pending : (P Q : PendingCall → Type 0) (o : Option PendingCall) → ((entered : PendingCall) → o ≡ Some entered → P entered → Q entered) → IfPending P o → IfPending Q o
 if_pending P Q None f x = tt
 if_pending P Q (Some entered) f x = f entered refl x
@@ -64,7 +64,7 @@ abbrev tid_of : Option Head → ℕ
 tid_of None = 0
 tid_of (Some head) = head.tid
 
--- two threads that hold calls have two numbers
+-- two threads that hold calls have different numbers
 pub numbers_differ : (st : State) (t u : ℕ) (c d : SysCall) (r s : List ℕ) → IsOpen st t c r → IsOpen st u d s → t ≢ u → (st.threads t).number ≢ (st.threads u).number
 numbers_differ st t u c d r s x y differ same =
     differ (sym x.own.tid_is ∙ sym (ap tid_of x.posted) ∙ ap (λ q. tid_of (st.messages q).head) same ∙ ap tid_of y.posted ∙ y.own.tid_is)

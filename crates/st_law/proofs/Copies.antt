@@ -1,4 +1,4 @@
--- What was copied and looked up for each number stays within bounds.
+-- The words copied and the lookups' answers for each number stay within bounds.
 use native.Mathlib.Omega.{arith}
 use Rattle.std.proofs.Common.{◌≡◌, ◌≤◌, ◌<◌, ℕ, Bool, true, false, cond, ◌&&◌, ◌==◌, [], ◌∷◌, ◌++◌, length, Option, Some, None, refl, sym, subst, length-append}
 use Rattle.std.proofs.lemmas.Bool.{eqb-true}
@@ -30,7 +30,7 @@ module _ (st : State) (x : Copies st) where
   head_few q None = tt
   head_few q (Some head) = progress_few (request_of_head head) (st.messages q).words (st.messages q).lookups (x.within q)
 
-  -- what a number asks for, it asks for while it has taken few
+  -- a number needs a word or a look only while it has taken few
   pub few_taken : (q : ℕ) → IsFew (st.messages q).words (st.messages q).lookups (progress_in st q)
   few_taken q = head_few q (st.messages q).head
 
@@ -60,7 +60,7 @@ module _ (st : State) (x : Copies st) where
   within_more seen p j short true = AreWithin-push 128 ((st.messages p).lookups j) seen (x.within p j) short
   within_more seen p j short false = x.within p j
 
-  -- the bounds hold behind each lawful entry, while the tree's links are short
+  -- the bounds are kept by each lawful entry, while the tree's links are short
   pub copies_behind : (i : Input) → HasShortLinks st.tree → (e : Entry) → IsLawful i st e → Copies (state_after i st e)
   copies_behind i short (Copied q part place word) y = let few = few_words_due q part place y.due in
       record { words = λ p j. word_more q part word p j few.1 (q == p) (part == j) refl refl; lookups = x.lookups; within = x.within }
@@ -80,7 +80,7 @@ module _ (st : State) (x : Copies st) where
   copies_behind i short (Learned q n) y = record { words = x.words; lookups = x.lookups; within = x.within }
   copies_behind i short (Replied q reply n) y = record { words = x.words; lookups = x.lookups; within = x.within }
 
--- the bounds hold behind every lawful history
+-- the bounds hold after every lawful history
 pub copies_of : (i : Input) → IsStartable i → (h : History) → IsLawfulBack i h → Copies (looking_back i h)
 copies_of i startable [] lawful = record { words = λ q j. omega arith; lookups = λ q j. omega arith; within = λ q j. tt }
 copies_of i startable (e ∷ h) lawful = copies_behind (looking_back i h) (copies_of i startable h lawful.1) i (links_short i startable h lawful.1) e lawful.0

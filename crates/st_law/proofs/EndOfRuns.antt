@@ -25,7 +25,7 @@ use Rattle.st_law.proofs.Potential.{message_cost, message_most, cost, thread_cos
 use Rattle.st_law.proofs.Sums.{total}
 use Rattle.st_law.proofs.Whole.{whole_of}
 
--- ---- what a script has to do at first
+-- ---- the cost of a script
 
 count_more : (x : Instr) (body : List Instr) → count_by is_set_id (x ∷ body) ≡ step_unless (not (is_set_id x)) + count_by is_set_id body
 count_more x body = sum_by-cons (λ y. cond (is_set_id y) 1 0) x body ∙ ap (λ n. n + count_by is_set_id body) (by (is_set_id x)) where
@@ -41,7 +41,7 @@ cost_is : (body : List Instr) → cost body ≡ 10000 * length body + 640000 * c
 cost_is [] = omega arith
 cost_is (x ∷ body) = cost_more (is_set_id x) (cost body) (length body) (count_by is_set_id body) (cost_is body) ∙ ap (λ n. 10000 * suc (length body) + 640000 * n) (sym (count_more x body))
 
--- a sum over numbers is no more than one over the rows that they count
+-- a sum over numbers is at most the sum over the rows that they count
 rows_low : (g : ThreadRow → ℕ) (f : ℕ → ℕ) (rows : List ThreadRow) (a : ℕ) → ((k : ℕ) (row : ThreadRow) → slice_get rows k ≡ Some row → f (a + k) ≤ g row) → total f a (length rows) ≤ sum_by g rows
 rows_low g f [] a low = omega arith
 rows_low g f (row ∷ rows) a low =
@@ -68,7 +68,7 @@ ones : (a count : ℕ) → total (λ n. step_unless false) a count ≡ count
 ones a zero = refl
 ones a (suc count) = let rest = ones (suc a) count in omega (arith, rest)
 
--- no run has more steps than this
+-- the first state has at most the bound of steps left
 pub first_bound : (i : Input) → thread_count i ≤ 64 → steps_left i (first_state i) ≤ most_steps i
 first_bound i few =
     let threads : threads_cost i (first_state i) ≤ sum_by row_cost i.start.threads = rows_low row_cost (λ t. thread_cost ((first_state i).threads t)) i.start.threads 1 row_low in
@@ -81,10 +81,10 @@ first_bound i few =
           let own : cost (body_of i (suc k)) ≡ cost row.body = ap (λ o. cost (body_of_row o)) e in
           omega (arith, same, own)
 
--- ---- what a run has done and has left
+-- ---- steps made and steps left
 
 module _ (i : Input) (startable : IsStartable i) where
-  -- what is left and what was done are no more than there was to do
+  -- the steps left and the steps made are together at most the bound
   pub bound_of : (h : History) → IsLawfulBack i h → steps_left i (looking_back i h) + length h ≤ most_steps i
   bound_of [] lawful = let first = first_bound i startable.few_threads in omega (arith, first)
   bound_of (e ∷ h) lawful =
@@ -101,7 +101,7 @@ module _ (i : Input) (startable : IsStartable i) where
 
   -- ---- the steps of one number
 
-  -- the steps that were taken for a number, and those that are left for it, are at most 9,605
+  -- the steps made for a number and those left for it are together at most 9,605
   steps_bound : (q : ℕ) (h : History) → IsLawfulBack i h → steps_for q h + message_cost i (looking_back i h) q ≤ 9605
   steps_bound q [] lawful = let most = message_most i (first_state i) q in omega (arith, most)
   steps_bound q (e ∷ h) lawful =
@@ -114,6 +114,6 @@ module _ (i : Input) (startable : IsStartable i) where
         counted true = refl
         counted false = refl
 
-  -- a number takes at most 10,000 steps of workers, the step by which it is learnt among them
+  -- at most 10,000 steps are for one number: the steps of workers, and the one by which it is learnt
   pub number_bound : (q : ℕ) (h : History) → IsLawfulBack i h → steps_for q h ≤ 10000
   number_bound q h lawful = let bound = steps_bound q h lawful in omega (arith, bound)

@@ -1,4 +1,4 @@
--- A run of calls that change files: what each entry should be was worked out from the rules.
+-- A run of calls that change files: the expected entries were derived from the rules.
 use Rattle.std.proofs.Common.{◌≡◌, [], ◌∷◌, ◌++◌, None, refl, codes, ◌+◌, ◌*◌}
 use Rattle.std.specs.Fmt.{digits}
 use Rattle.st_calls.specs.declared.argument.Label.TheVariants.{Filename, Mode, Uid, Gid}
@@ -28,8 +28,8 @@ changer = input (plainly Enforce)
     call Chdir 192 0 0 ∷ call Rmdir 192 0 0 ∷ call Unlink 0 0 0 ∷ []) ∷ [])
     []
 
--- a file is made, written, read from its second byte on, given away, closed to others, and cut; gets a second name, which another file
--- then takes; a directory is made, entered, and removed; and so is the first name
+-- a file is made, written, read from its second byte on, given away, closed to others, and cut. It gets a second name, which another file
+-- then takes. A directory is made, entered, and removed, and so is the first name.
 files_are_changed : calls_of (trace changer (rest ∷ [])) ≡
     Used 1 None Open (regs 0 514 420) (filename "/f") root (Value 3) (Made (name "/f") 2 (made.File []) 0 0 420 ∷ []) ∷
     Used 1 None Write (regs 3 8 3) [] root (Value 3) (Written 2 0 (codes "abc") ∷ []) ∷

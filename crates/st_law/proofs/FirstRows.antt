@@ -64,13 +64,13 @@ root_kept : (tree : Tree) (rows : List TreeRow) → node_of tree [] ≡ Some roo
 root_kept tree [] e = e
 root_kept tree (row ∷ rows) e = root_kept (tree_with_row tree row) rows (objects_kept tree row.name (node_of_new row.new) root_node 1 e)
 
--- a name that no row has keeps its number
+-- a name that no row has keeps its object's number
 number_kept : (tree : Tree) (rows : List TreeRow) (name : Components) → NoneNamed name rows → object_of (fold tree_with_row tree rows) name ≡ object_of tree name
 number_kept tree [] name none = refl
 number_kept tree (row ∷ rows) name none =
     number_kept (tree_with_row tree row) rows name none.1 ∙ names_kept tree row.name name (node_of_new row.new) (λ same. none.0 (sym same))
 
--- and an object stays what it is
+-- an object that exists is kept
 object_kept : (tree : Tree) (rows : List TreeRow) (number : ℕ) (node : Node) → node_of_number tree number ≡ Some node → node_of_number (fold tree_with_row tree rows) number ≡ Some node
 object_kept tree [] number node e = e
 object_kept tree (row ∷ rows) number node e = object_kept (tree_with_row tree row) rows number node (objects_kept tree row.name (node_of_new row.new) node number e)
@@ -83,7 +83,7 @@ length-objects tree (row ∷ rows) =
     omega (arith, more, rest)
 
 module _ (rows before after : List TreeRow) (row : TreeRow) (e : rows ≡ before ++ row ∷ after) (named : row.name ≢ []) (none : NoneNamed row.name after) where
-  -- the tree of the rows up to this one
+  -- the tree of the rows before this one
   abbrev front : Tree
   front = fold tree_with_row root_only before
 

@@ -1,4 +1,4 @@
--- Which processes and which held calls a call finds.
+-- Which processes and which held calls a call sees.
 use native.Mathlib.Omega.{arith}
 use Rattle.std.proofs.Common.{◌≡◌, ◌≢◌, ◌≤◌, ◌<◌, ◌⊎◌, ◌↔◌, ℕ, zero, suc, ◌+◌, nat_lt, Bool, true, false, cond, not, ◌&&◌, ◌||◌, ◌==◌, List, [], ◌∷◌, ◌++◌, slice_get, Option, Some, None, is_some, refl, sym, ap, subst, ◌∙◌, inl, inr}
 use Rattle.std.proofs.lemmas.Bool.{and_from, and_parts, eqb-false, eqb-true, eq-eqb, ltb-true, lt-ltb, true≢false}
@@ -17,7 +17,7 @@ use Rattle.st_law.proofs.Least.{least}
 -- ---- some thread
 
 module _ (i : Input) (is : ℕ → Bool) where
-  -- some thread is of the kind, or none is
+  -- some thread has the property, or none has
   abbrev SomeOrNone : Option ℕ → Type 0
   SomeOrNone o = ((is_some o ≡ true) × ((t : ℕ) × IsOneOf i t × (is t ≡ true))) ⊎ ((is_some o ≡ false) × ((t : ℕ) → IsOneOf i t → is t ≡ false))
 
@@ -77,7 +77,7 @@ module _ (i : Input) (st : State) (p : ℕ) where
 -- ---- held calls
 
 module _ (st : State) (b : ℕ) where
-  -- held calls of threads from this one on and below b, in their order
+  -- the held calls of threads from a on and below b, in their order
   abbrev Rises : ℕ → List HeldCall → Type 0
   Rises a [] = Unit {0}
   Rises a (held ∷ more) = (a ≤ held.tid) × (held.tid < b) × IsHolder st held.tid × (held ≡ held_of st held.tid) × Rises (suc held.tid) more
@@ -86,7 +86,7 @@ module _ (st : State) (b : ℕ) where
   rises_on a c [] low x = tt
   rises_on a c (held ∷ more) low x = (let high = x.0 in omega (arith, low, high), x.1, x.2, x.3, x.4)
 
-  -- the call of one thread in front of those of later ones
+  -- the call of one thread before those of later threads
   by_dying : (a : ℕ) (entered : PendingCall) (first : ℕ) (later : List HeldCall) → (st.threads a).pending ≡ Some entered → entered.way ≡ Held first → a < b → (c : Bool) → (st.threads a).dying ≡ c → Rises (suc a) later
       → Rises a (cond c [] (held_of st a ∷ []) ++ later)
   by_dying a entered first later pending way high true e x = rises_on a (suc a) later (omega arith) x
@@ -107,7 +107,7 @@ module _ (st : State) (b : ℕ) where
   rises a zero high = tt
   rises a (suc count) high = by_pending a (held_from st (suc a) count) (omega (arith, high)) (st.threads a).pending refl (rises (suc a) count (omega (arith, high)))
 
-  -- an item of such calls is that of a thread, and the one behind it is a later thread's
+  -- an item of such calls is that of a thread, and the one after it is a later thread's
   item_of : (a k : ℕ) (helds : List HeldCall) (held : HeldCall) → Rises a helds → slice_get helds k ≡ Some held → (a ≤ held.tid) × (held.tid < b) × IsHolder st held.tid × (held ≡ held_of st held.tid)
   item_of a zero [] held x e = cc
   item_of a (suc k) [] held x e = cc
@@ -123,7 +123,7 @@ module _ (st : State) (b : ℕ) where
       let y = item_of (suc first.tid) 0 more next x.4 f in let low = y.0 in let same = ap (λ h. h.tid) (same_Some first held e) in omega (arith, low, same)
   next_of a (suc k) (first ∷ more) held next x e f = next_of (suc first.tid) k more held next x.4 e f
 
--- ---- each call that is held is among them
+-- ---- each held call is among them
 
 module _ (st : State) where
   abbrev IsIn : ℕ → List HeldCall → Type 0

@@ -1,5 +1,5 @@
--- Runs on which two programs agree that were written apart from the same rules. Of the policies only the filters stand here that a call
--- of the run asks.
+-- Runs on which two programs agree that were written independently from the same rules. Of the policies, only the filters are given that a
+-- call of the run is tested against.
 use Rattle.std.proofs.Common.{◌≡◌, true, false, [], ◌∷◌, ◌++◌, Some, None, refl, codes}
 use Rattle.std.specs.Fmt.{digits}
 use Rattle.st_base.specs.declared.errno.Errno.TheVariants.{EADDRINUSE, EINVAL, EMFILE, ELOOP, ENAMETOOLONG, EPERM, ENOENT, ESRCH, EACCES, EFAULT}

@@ -1,4 +1,4 @@
--- What the kernel refuses by itself it refuses still once the session has more filters.
+-- What the kernel refuses by itself it still refuses when the session has more filters.
 use Rattle.std.proofs.Common.{◌≡◌, ℕ, List, [], ◌∷◌, ◌++◌, map, refl, sym, ap, ◌∙◌}
 use Rattle.std.specs.Prelude.{filter}
 use Rattle.std.proofs.lemmas.List.{append_assoc, map-append}
@@ -20,7 +20,7 @@ use Rattle.st_law.proofs.Carried.{RefusesStill}
 pub session_append : (session more : List SessionFilter) (policy : List ℕ) (rule : Rule) → session_filters (session ++ more) policy rule ≡ session_filters session policy rule ++ session_filters more policy rule
 session_append session more policy rule = ap (map (λ kept. kept.filter)) (filter-append (is_kept_for policy rule) session more) ∙ map-append (λ kept. kept.filter) (filter (is_kept_for policy rule) session) (filter (is_kept_for policy rule) more)
 
--- a plain denial that stands first stands first still
+-- a plain deny that is the first filter stays the first filter
 pub fast_append : (fs gs : List FilterValue) (errno : Errno) → fast fs ≡ answer.Refuse errno → fast (fs ++ gs) ≡ answer.Refuse errno
 fast_append [] gs errno e = cc
 fast_append (f ∷ fs) gs errno e = e

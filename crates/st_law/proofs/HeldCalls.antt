@@ -1,4 +1,4 @@
--- The held calls that a call finds are those of the threads that hold one and aren't dying.
+-- The held calls that a call sees are those of the threads that hold one and aren't dying.
 use native.Mathlib.Omega.{arith}
 use Rattle.std.proofs.Common.{◌≡◌, ◌≢◌, ◌≤◌, ◌<◌, ℕ, suc, zero, ◌+◌, Bool, true, false, cond, ◌==◌, List, [], ◌∷◌, ◌++◌, length, Option, Some, None, refl, sym, ap, subst, ◌∙◌, length-append}
 use Rattle.std.proofs.lemmas.Bool.{eqb-true, eqb-false}
@@ -32,7 +32,7 @@ each_append P [] ys x y = y
 each_append P (held ∷ xs) ys x y = (x.0, each_append P xs ys x.1 y)
 
 module _ (st : State) where
-  -- an item of this thread
+  -- a held call of this thread
   abbrev IsItemOf : ℕ → HeldCall → Type 0
   IsItemOf t held = IsItem st held × (held.tid ≡ t)
 
@@ -55,17 +55,17 @@ module _ (st : State) where
   item_of t [] x = tt
   item_of t (held ∷ more) x = (x.0.0, item_of t more x.1)
 
-  -- each is that of a thread that holds it
+  -- each held call is that of a thread that holds it
   pub items : (a count : ℕ) → EachHeld (IsItem st) (held_from st a count)
   items a zero = tt
   items a (suc count) = each_append (IsItem st) (held_by_pending st a (st.threads a).pending) (held_from st (suc a) count)
       (item_of a (held_by_pending st a (st.threads a).pending) (by_pending a (st.threads a).pending refl)) (items (suc a) count)
 
-  -- an item of another thread than this
+  -- a held call of another thread
   abbrev pub IsItemBut : ℕ → HeldCall → Type 0
   IsItemBut t held = IsItem st held × (held.tid ≢ t)
 
-  -- the call of a thread among held calls, all others in front of it being other threads'
+  -- the call of a thread among held calls, where all before it are other threads'
   pub record IsAmong (t : ℕ) (helds : List HeldCall) : Type 0 where
     pub front : List HeldCall
     pub more : List HeldCall
@@ -99,12 +99,12 @@ module _ (st : State) where
         rest = y.rest;
       }
 
-  -- the call of a thread that holds one is among those of the threads from a on, if the thread is
+  -- the call of a thread that holds one is among those of the `count` threads from a on, if the thread is
   pub among : (t a count : ℕ) → IsHolder st t → a ≤ t → t < a + count → IsAmong t (held_from st a count)
   among t a zero x low high = absurd (omega (arith, low, high))
   among t a (suc count) x low high = among_at t a count x (a == t) refl (λ differ. among t (suc a) count x (omega (arith, low, differ)) (omega (arith, high)))
 
-  -- ---- how many there are: at most one for each thread
+  -- ---- at most one held call for each thread
 
   few_by_dying : (t : ℕ) (b : Bool) → length (cond b [] (held_of st t ∷ [])) ≤ 1
   few_by_dying t true = omega arith

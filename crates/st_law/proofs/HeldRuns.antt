@@ -1,4 +1,4 @@
--- Runs of a reader of /etc/passwd: what each entry should be was worked out from the rules, and the machine's run is that.
+-- Runs of a reader of /etc/passwd: the expected entries were derived from the rules, and the machine's run has them.
 use Rattle.std.proofs.Common.{◌≡◌, true, [], ◌∷◌, ◌++◌, Some, None, refl}
 use Rattle.st_base.specs.declared.errno.Errno.TheVariants.{EPERM, ENOENT, EFAULT}
 use Rattle.st_calls.specs.declared.call.SysCall.TheVariants.{Open, Exit, GetPid, GetUid}
@@ -82,12 +82,12 @@ no_filter_decides : trace (cat_input (passwd_only ∷ []) etc_files (thread_in 1
     Ended 1 ∷ [])
 no_filter_decides = refl
 
--- ---- another thread writes over the name
+-- ---- another thread overwrites the name
 
 abbrev pub rewriter : Input
 rewriter = cat_input (passwd_only ∷ []) etc_files (thread_in 1 (opens "/etc/passwd") ∷ thread_in 1 (put 0 "/etc/spwd") ∷ [])
 
--- the copy is opened, not what the memory says by then
+-- the copied name is opened, not the one in memory at that time
 rewritten_after_the_answer : trace rewriter (thread 1 3 ∷ worker 1 6 ∷ thread 2 2 ∷ rest ∷ []) ≡ Some (
     passwd_copied ++
     Answered 1 (cat_copies 1 user "/etc/passwd") (Permit 1 user) true ∷
@@ -97,7 +97,7 @@ rewritten_after_the_answer : trace rewriter (thread 1 3 ∷ worker 1 6 ∷ threa
     Ended 1 ∷ Ended 2 ∷ [])
 rewritten_after_the_answer = refl
 
--- between the two copied words: the torn copy is judged
+-- rewritten between the two copied words: the torn copy is judged
 torn_copy : trace rewriter (thread 1 3 ∷ worker 1 2 ∷ thread 2 2 ∷ rest ∷ []) ≡ Some (
     Stored 1 0 8314049735936992559 ∷
     Stored 1 1 6584179 ∷
@@ -120,7 +120,7 @@ torn_copy = refl
 abbrev pub etc_denied : FilterValue
 etc_denied = when FsRead (test "filename" op.Match "/etc/*") (action.Deny EPERM)
 
--- its names are denied first, though a later filter permits this one
+-- the names under /etc are denied first, though a later filter permits this name
 abbrev pub etc_denier : Input
 etc_denier = cat_input (etc_denied ∷ passwd_only ∷ []) etc_files (thread_in 1 (opens "/etc/passwd") ∷ [])
 
@@ -141,7 +141,7 @@ a_permit_before_a_denial = refl
 
 -- ---- names that can't be copied
 
--- the text goes past the end of the memory
+-- the text extends past the end of the memory
 a_name_outside_the_memory : trace (
     cat_input (passwd_only ∷ []) etc_files (thread_in 1 (Store 8191 6989586621679009792 ∷ call Open 65535 0 0 ∷ []) ∷ []))
     (rest ∷ [])

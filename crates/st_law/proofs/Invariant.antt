@@ -1,4 +1,4 @@
--- What holds of the record of every lawful run: pending calls go the way that their policy says, and the message of a held one is its
+-- The invariant of the state of every lawful run: pending calls go the way that their policy gives, and the message of a held call is its
 -- own and open.
 use Rattle.std.proofs.Common.{◌≡◌, ◌≢◌, ◌≤◌, ◌<◌, ℕ, false, List, Option, Some, None}
 use Rattle.st_base.specs.declared.errno.Errno.{Errno}
@@ -42,7 +42,7 @@ IsFine i st t call regs Untraced = Unit {0}
 IsFine i st t call regs (Barred n) = IsRefused i st t n call regs
 IsFine i st t call regs (Held first) = IsOpen st t call regs
 
--- a pending call of a thread that has started; nothing more is known of one that is dying
+-- a pending call of a thread that has started; nothing more is known if the thread is dying
 pub record Fine (i : Input) (st : State) (t : ℕ) (entered : PendingCall) : Type 0 where
   pub started : (st.threads t).owner ≢ 0
   pub fine : (st.threads t).dying ≡ false → IsFine i st t entered.call entered.regs entered.way
@@ -51,11 +51,11 @@ abbrev pub IfPending : (PendingCall → Type 0) → Option PendingCall → Type 
 IfPending P None = Unit {0}
 IfPending P (Some entered) = P entered
 
--- a fork that is pending starts a thread of the script
+-- a pending fork starts a thread of the script
 pub record HasChild (i : Input) (entered : PendingCall) : Type 0 where
   pub child : entered.call ≡ Fork → IsThread i entered.child
 
--- what holds of the record
+-- the invariant of the state
 pub record Invariant (i : Input) (st : State) : Type 0 where
   pub started : (t : ℕ) → (st.threads t).owner ≢ 0 → IsThread i t
   pub bodies : (t : ℕ) → All (IsInstruction i) (st.threads t).left

@@ -26,7 +26,7 @@ use Rattle.st_law.proofs.WorkerSteps.{worker_step, operator_step}
 
 -- ---- the beginning
 
--- what holds of all items holds of each
+-- a property of all items holds of each
 pub all_at : {X : Type 0} (P : X → Type 0) (xs : List X) (k : ℕ) (x : X) → All P xs → slice_get xs k ≡ Some x → P x
 all_at P xs k x all e = subst P (get_or_from_slice_get xs k x x e) (all k x (slice_get_within xs k x e))
 
@@ -64,7 +64,7 @@ module _ (i : Input) (startable : IsStartable i) where
 
   -- ---- every lawful history
 
-  -- what holds of the record behind a lawful history
+  -- the invariant holds after a lawful history
   pub invariant_of : (h : History) → IsLawfulBack i h → Invariant i (looking_back i h)
   invariant_of [] lawful = at_first
   invariant_of (e ∷ h) lawful = behind i (looking_back i h) (invariant_of h lawful.1) e lawful.0
@@ -74,7 +74,7 @@ module _ (i : Input) (startable : IsStartable i) where
   step_of st (choice.Worker w) inv = worker_step i st w
   step_of st choice.Operator inv = operator_step i st
 
-  -- each step of the machine behind a lawful history is lawful
+  -- each step of the machine after a lawful history is lawful
   pub lawful_step : (h : History) (c : Choice) → IsLawfulBack i h → Says (IsLawful i (looking_back i h)) (entry_of i (state_at i h) c)
   lawful_step h c lawful = subst (λ st. Says (IsLawful i (looking_back i h)) (entry_of i st c)) (sym (state-is i h)) (step_of (looking_back i h) c (invariant_of h lawful))
 

@@ -1,4 +1,4 @@
--- What is learnt permits what it was learnt from.
+-- A learnt filter permits what it was learnt from.
 use native.Mathlib.Omega.{arith}
 use Rattle.std.proofs.Common.{◌≡◌, ◌≢◌, ℕ, suc, zero, ◌+◌, Bool, true, false, cond, ◌&&◌, ◌==◌, List, [], ◌∷◌, ◌++◌, length, map, Option, Some, None, refl, sym, ap, subst, ◌∙◌, length-append}
 use Rattle.std.proofs.lemmas.Bool.{eq-eqb, or_left, or_right, and_parts, and_from}
@@ -38,14 +38,14 @@ use Rattle.st_law.proofs.Laws.{all_at}
 same_bytes : (xs : List ℕ) → bytes_eq xs xs ≡ true
 same_bytes xs = (bytes_eq-Decides xs xs).1 refl
 
--- ---- the filter that is learnt
+-- ---- the learnt filter
 
 -- the test of an argument holds of that argument
 test_holds : (arg : ArgText) → test_holds_of (name_of_label arg.label) arg.index Eq arg.text arg ≡ true
 test_holds arg = and_from (bytes_eq (name_of_label arg.label) (name_of_label arg.label) && arg.index == arg.index) (bytes_eq arg.text arg.text)
     (and_from (bytes_eq (name_of_label arg.label) (name_of_label arg.label)) (arg.index == arg.index) (same_bytes (name_of_label arg.label)) (eq-eqb arg.index arg.index refl)) (same_bytes arg.text)
 
--- so it is true of all arguments
+-- the test of an argument is true of all arguments that include it
 test_true : (front : List ArgText) (arg : ArgText) (rest : List ArgText) → is_true (test_of arg) (front ++ arg ∷ rest) ≡ true
 test_true front arg rest = list_any-append (test_holds_of (name_of_label arg.label) arg.index Eq arg.text) front (arg ∷ rest)
     ∙ or_right (list_any (test_holds_of (name_of_label arg.label) arg.index Eq arg.text) front) _ (or_left (test_holds_of (name_of_label arg.label) arg.index Eq arg.text arg) _ (test_holds arg))
@@ -62,11 +62,11 @@ formula_true : (args : List ArgText) → is_true (learnt_formula args) args ≡ 
 formula_true [] = refl
 formula_true (arg ∷ rest) = all_true (test_of arg) (arg ∷ []) rest (test_true [] arg rest)
 
--- the filter that is learnt of copies holds of them
+-- the filter that is learnt from copies holds of them
 pub learnt_holds : (s : Snapshot) → holds (learnt_filter s) s ≡ true
 learnt_holds s = and_from (is_true (learnt_formula s.parts) s.parts) (ids_match None s.ids) (formula_true s.parts) refl
 
--- ---- where nothing decided, a filter at the end decides
+-- ---- if nothing decides, a filter at the end decides
 
 -- no filter asks
 abbrev pub NoneAsks : List FilterValue → Type 0
@@ -80,7 +80,7 @@ unasked n f s plain e = by f.action refl e where
   by (action.Deny errno) same g = cc
   by action.Ask same g = plain same
 
--- a filter behind some of which none decides has its number
+-- a filter decides under its own number if it holds and none of the filters before it decides
 pub last_decides : (n : ℕ) (fs : List FilterValue) (f : FilterValue) (s : Snapshot) → NoneAsks fs → verdict_from n fs s ≡ Unmatched → holds f s ≡ true → verdict_from n (fs ++ f ∷ []) s ≡ verdict_by (n + length fs) f.grant s.ids f.action
 last_decides n [] f s plain e h = ap (λ b. cond b (verdict_by n f.grant s.ids f.action) Unmatched) h ∙ ap (λ k. verdict_by k f.grant s.ids f.action) (let same : n ≡ n + 0 = omega arith in same)
 last_decides n (g ∷ fs) f s plain e h = by (holds g s) e (last_decides (suc n) fs f s plain.1) where
@@ -116,7 +116,7 @@ replied_plain i startable n (Some r) e None = tt
 replied_plain i startable zero (Some r) e (Some s) = cc
 replied_plain i startable (suc k) (Some r) e (Some s) = (all_at (λ each. each.filter.action ≢ action.Ask) i.replies k r startable.replies e, tt)
 
--- no filter of a session asks, whatever the history is
+-- no filter of a session asks, for every history
 pub session_plain : (i : Input) → IsStartable i → (h : History) → IsPlain (session_at i h)
 session_plain i startable [] = tt
 session_plain i startable (Learned q n ∷ h) = plain_append (session_at i h) (learnt_by (snapshot_of_message q (message_at i h q))) (session_plain i startable h) (learnt_plain _)
@@ -181,7 +181,7 @@ module _ (i : Input) (st : State) (plain : IsPlain st.session) (q n : ℕ) (x : 
       ∙ last_decides (suc (length read)) kept (learnt_filter s) s (plain_filters st.session s.policy s.rule plain) none.1 (learnt_holds s)
       ∙ ap (λ k. Permit k s.ids) numbered
 
--- the same of a lawful history
+-- the same for a lawful history
 pub learned_decides : (i : Input) → IsStartable i → (h : History) (q n : ℕ) (s : Snapshot) → IsLawfulBack i (Learned q n ∷ h) → snapshot_in (looking_back i h) q ≡ Some s → decision_in i (looking_back i (Learned q n ∷ h)) s ≡ Permit n s.ids
 learned_decides i startable h q n s lawful e =
     let x : IsLearned i (looking_back i h) q n = lawful.0 in

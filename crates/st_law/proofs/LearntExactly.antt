@@ -1,4 +1,4 @@
--- The filter that is learnt holds of exactly the calls that have each of the arguments that it was learnt from.
+-- The learnt filter holds of exactly the calls that have each of the arguments that it was learnt from.
 use Rattle.std.proofs.Common.{◌≡◌, ◌↔◌, ℕ, zero, suc, Bool, true, false, ◌&&◌, ◌||◌, ◌==◌, List, [], ◌∷◌, slice_get, Some, None, refl, ap, subst, ◌∙◌}
 use Rattle.std.proofs.lemmas.Option.{same_Some}
 use Rattle.std.proofs.lemmas.Bool.{and_from, and_parts, eqb-true, eq-eqb, or_left, or_right}
@@ -16,7 +16,7 @@ use Rattle.st_law.specs.Sessions.{test_of, learnt_formula, learnt_filter}
 
 -- ---- one test
 
--- where a test holds of some item, one is there of which it does
+-- if a test holds of some item, such an item exists
 pub record There {X : Type 0} (p : X → Bool) (xs : List X) : Type 0 where
   pub place : ℕ
   pub item : X
@@ -57,7 +57,7 @@ module _ (args : List ArgText) where
       ((bytes_eq-Decides (name_of_label x.same.label) (name_of_label arg.label)).1 x.label) (eq-eqb x.same.index arg.index x.index))
       ((bytes_eq-Decides x.same.text arg.text).1 x.text))
 
-  -- ---- all of them
+  -- ---- all tests
 
   abbrev joined : Formula → List ArgText → Formula
   joined f rest = fold (λ formula other. And formula (test_of other)) f rest

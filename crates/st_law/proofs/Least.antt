@@ -1,14 +1,14 @@
--- The least number of its kind.
+-- The least number with a property.
 use native.Mathlib.Omega.{arith}
 use Rattle.std.proofs.Common.{◌≡◌, ◌≤◌, ◌<◌, ◌⊎◌, ℕ, suc, zero, ◌+◌, Bool, true, false, cond, ◌==◌, Option, Some, None, refl, sym, ap, subst, ◌∙◌, inl, inr}
 use Rattle.std.proofs.lemmas.Bool.{cases_lt, eqb-true, eqb-false, true≢false}
 use Rattle.st_law.specs.Sessions.{least_from}
 
--- no number from a to b is of this kind
+-- no number from a on and below b has the property
 abbrev pub NoneOf : (ℕ → Bool) → ℕ → ℕ → Type 0
 NoneOf is a b = (p : ℕ) → a ≤ p → p < b → is p ≡ false
 
--- a number is the least of its kind from a on, and below b
+-- a number is the least with the property from a on, and below b
 pub record IsLeast (is : ℕ → Bool) (a b q : ℕ) : Type 0 where
   pub holds : is q ≡ true
   pub low : a ≤ q
@@ -23,7 +23,7 @@ this_or : (P : Option ℕ → Type 0) (n : ℕ) (o : Option ℕ) (b : Bool) → 
 this_or P n o true this that = this refl
 this_or P n o false this that = that refl
 
--- what holds of whatever the search from n on comes to, none of the numbers from a to n being of the kind
+-- a property of the result of the search from n on, if none of the numbers from a to n has the property searched for
 least_of : (P : Option ℕ → Type 0) (is : ℕ → Bool) (a n count : ℕ) → a ≤ n → NoneOf is a n → ((q : ℕ) → IsLeast is a (n + count) q → P (Some q)) → (NoneOf is a (n + count) → P None) → P (least_from is n count)
 least_of P is a n zero low none found missing = missing (λ p at below. none p at (omega (arith, below)))
 least_of P is a n (suc count) low none found missing =
@@ -37,7 +37,7 @@ least_of P is a n (suc count) low none found missing =
 pub least : (P : Option ℕ → Type 0) (is : ℕ → Bool) (a count : ℕ) → ((q : ℕ) → IsLeast is a (a + count) q → P (Some q)) → (NoneOf is a (a + count) → P None) → P (least_from is a count)
 least P is a count found missing = least_of P is a a count (omega arith) (λ p at below. absurd (omega (arith, at, below))) found missing
 
--- the search finds the least number of the kind
+-- the search finds the least number with the property
 pub least_is : (is : ℕ → Bool) (a count q : ℕ) → IsLeast is a (a + count) q → least_from is a count ≡ Some q
 least_is is a count q x = least (λ o. o ≡ Some q) is a count
     (λ p y. ap Some (same p y (cases_lt p q) (cases_lt q p)))

@@ -1,4 +1,4 @@
--- Each lawful entry leaves a step less to do.
+-- Each lawful entry lowers the steps left by at least one.
 use native.Mathlib.Omega.{arith}
 use Rattle.std.proofs.Common.{◌≡◌, ◌≢◌, ◌≤◌, ◌<◌, ℕ, suc, ◌+◌, ◌-◌, ◌*◌, Bool, true, false, cond, ◌||◌, ◌==◌, List, [], ◌∷◌, drop, Option, Some, None, refl, sym, ap, subst, inl, inr}
 use Rattle.std.proofs.lemmas.Bool.{eq-eqb, or_left}
@@ -30,7 +30,7 @@ use Rattle.st_law.proofs.UsedPosted.{PostsFew, used_posts}
 use Rattle.st_law.proofs.Whole.{Whole}
 
 module _ (i : Input) (st : State) (whole : Whole i st) (copies : Copies st) where
-  -- behind an entry there is a step less to do
+  -- after an entry at least one step less is left
   abbrev pub Lessens : Entry → Type 0
   Lessens e = steps_left i (state_after i st e) + 1 ≤ steps_left i st
 
@@ -43,7 +43,7 @@ module _ (i : Input) (st : State) (whole : Whole i st) (copies : Copies st) wher
 
   -- ---- entries of threads
 
-  -- where a thread has so much less left than the messages have more, there is less to do
+  -- if the steps left of a thread fall by more than those of the messages rise, fewer steps are left
   thread_less : (e : Entry) (u d more : ℕ) → (st.threads u).owner ≢ 0 → more < d → thread_cost ((state_after i st e).threads u) + d ≤ thread_cost (st.threads u) → ((t : ℕ) → (u == t) ≡ false → thread_cost ((state_after i st e).threads t) ≤ thread_cost (st.threads t)) → messages_cost i (state_after i st e) ≤ messages_cost i st + more → replies_cost i (state_after i st e) ≤ replies_cost i st → Lessens e
   thread_less e u d more started less lower others messages replies =
       let range = there u started in
@@ -90,7 +90,7 @@ module _ (i : Input) (st : State) (whole : Whole i st) (copies : Copies st) wher
     entered_less : messages_cost i entered ≤ messages_cost i st + 9605 → Lessens (Entered u call regs way)
     entered_less messages = thread_less (Entered u call regs way) u 9999 9605 y.running.started (omega arith) entered_lower entered_others messages (omega arith)
 
-  -- the copies of a number that was posted stay where its words and looks do
+  -- the copies of a posted number are kept if its words and lookups are
   pub copies_stay : (new : State) → Moves st new → (p : ℕ) → p ≤ st.posted → (new.messages p).words ≡ (st.messages p).words → (new.messages p).lookups ≡ (st.messages p).lookups → snapshot_in new p ≡ snapshot_in st p
   copies_stay new moved p low words lookups = λ k. snapshot_of_progress p (moved.heads p low k) (progress_of_head (moved.heads p low k) (words k) (lookups k))
 

@@ -1,4 +1,4 @@
--- Each lawful entry of the operator leaves a step less to do, and so does every lawful entry.
+-- Each lawful entry of the operator, and so every lawful entry, lowers the steps left by at least one.
 use native.Mathlib.Omega.{arith}
 use Rattle.std.proofs.Common.{◌≡◌, ◌⊎◌, ◌≤◌, ◌<◌, ℕ, zero, suc, ◌+◌, Bool, true, false, not, ◌&&◌, ◌||◌, ◌==◌, List, [], ◌++◌, length, Option, Some, None, refl, sym, ap, ◌∙◌, inl, inr}
 use Rattle.std.specs.Prelude.{is_some}
@@ -84,7 +84,7 @@ module _ (i : Input) (st : State) (whole : Whole i st) (copies : Copies st) wher
 
   -- ---- every entry
 
-  -- behind a lawful entry there is a step less to do
+  -- after a lawful entry at least one step less is left
   pub lessens : thread_count i ≤ 64 → IsPlain st.session → (e : Entry) → IsLawful i st e → Less e
   lessens few plain (Stored u place word) y = stored_less i st whole copies u place word y
   lessens few plain (Entered u call regs way) y = behind_entered i st whole copies u call regs way y
@@ -101,12 +101,12 @@ module _ (i : Input) (st : State) (whole : Whole i st) (copies : Copies st) wher
 
   -- ---- the steps of one number
 
-  -- the steps that are taken for a number: by a worker, or to learn it
+  -- the steps left for a number, with the step that an entry is for it, are at most those left before
   module _ (p : ℕ) where
     abbrev Takes : Entry → Type 0
     Takes e = message_cost i (state_after i st e) p + step_unless (not (is_number p (step_of e))) ≤ message_cost i st p
 
-    -- a message that was posted has what it had, and one that wasn't has all that a new one has
+    -- a posted message has the cost that it had, and one that wasn't posted has that of a new one
     posted_takes : (new : State) → Moves st new → (more : List SessionFilter) → new.session ≡ st.session ++ more → new.turns ≡ st.turns → ((new.messages p).claimed ≡ (st.messages p).claimed) → ((new.messages p).words ≡ (st.messages p).words) → ((new.messages p).lookups ≡ (st.messages p).lookups) → message_cost i new p ≤ message_cost i st p
     posted_takes new moved more grown turns claimed words lookups = by (cases_lt st.posted p) where
       by : (st.posted < p) ⊎ (p ≤ st.posted) → message_cost i new p ≤ message_cost i st p
@@ -127,7 +127,7 @@ module _ (i : Input) (st : State) (whole : Whole i st) (copies : Copies st) wher
     moved_takes : (e : Entry) → step_of e ≡ None → message_cost i (state_after i st e) p ≤ message_cost i st p → Takes e
     moved_takes e none low = let same : step_unless (not (is_number p (step_of e))) ≡ step_unless (not false) = ap (λ o. step_unless (not (is_number p o))) none in omega (arith, low, same)
 
-    -- each lawful entry takes what it is a step for
+    -- each lawful entry takes the step that it is for a number
     pub takes : IsPlain st.session → (e : Entry) → IsLawful i st e → Takes e
     takes plain (Claimed w q) y = step_taken i st whole copies (Claimed w q) q p (claimed_step i st whole copies w q y)
     takes plain (Copied q part place word) y = step_taken i st whole copies (Copied q part place word) q p (copied_step i st whole copies y.served.number q y.served.at part place word (few_words_due st copies q part place y.due))

@@ -1,4 +1,4 @@
--- Each lawful entry of a worker, and each of the operator, leaves a step less to do.
+-- Each lawful entry of a worker or of the operator lowers the steps left by at least one.
 use native.Mathlib.Omega.{arith}
 use Rattle.std.proofs.Common.{◌≡◌, ◌≢◌, ◌≤◌, ◌<◌, ℕ, zero, suc, ◌+◌, ◌-◌, Bool, true, false, cond, not, ◌&&◌, ◌||◌, ◌==◌, List, [], ◌∷◌, ◌++◌, length, Option, Some, None, refl, sym, ap, subst, ◌∙◌, length-append}
 use Rattle.std.proofs.lemmas.Bool.{eqb-true, eqb-false, eq-eqb, ne_eqb, or_left}
@@ -40,7 +40,7 @@ module _ (i : Input) (st : State) (whole : Whole i st) (copies : Copies st) wher
   claimed_low : (q : ℕ) → (st.messages q).claimed ≡ true → 1 ≤ q
   claimed_low q claimed = let x : (head : Head) × ((st.messages q).head ≡ Some head) = whole.posted.claimed q claimed in number_low q x.0 x.1
 
-  -- an entry is a step on the message of this number: it has less left, and all else has what it had
+  -- an entry is a step on the message of this number: the message has fewer steps left, and everything else no more
   pub record IsStepOn (e : Entry) (q : ℕ) : Type 0 where
     pub more : List SessionFilter
     pub grown : (state_after i st e).session ≡ st.session ++ more
@@ -56,7 +56,7 @@ module _ (i : Input) (st : State) (whole : Whole i st) (copies : Copies st) wher
   step_on e q more grown threads replies posted low high drop others =
       record { more = more; grown = grown; threads = threads; replies = replies; posted = posted; low = low; high = high; drop = drop; others = others }
 
-  -- behind a step on a message there is less to do
+  -- after a step on a message fewer steps are left
   pub step_less : (e : Entry) (q : ℕ) → IsStepOn e q → Less e
   step_less e q x =
       let messages = messages_drop i st copies (state_after i st e) x.more x.grown q x.posted x.low x.high x.drop x.others in
@@ -64,7 +64,7 @@ module _ (i : Input) (st : State) (whole : Whole i st) (copies : Copies st) wher
       let replies = x.replies in
       omega (arith, messages, threads, replies)
 
-  -- what a step on a message takes of the message of each number
+  -- how many steps a step on a message takes from the message of each number
   pub step_taken : (e : Entry) (q p : ℕ) → IsStepOn e q → message_cost i (state_after i st e) p + step_unless (not (q == p)) ≤ message_cost i st p
   step_taken e q p x = by (q == p) refl where
     by : (b : Bool) → (q == p) ≡ b → message_cost i (state_after i st e) p + step_unless (not b) ≤ message_cost i st p
@@ -192,7 +192,7 @@ module _ (i : Input) (st : State) (whole : Whole i st) (copies : Copies st) wher
 
     -- ---- the end of a turn
 
-    -- a number that is nobody's turn any more has a step left at most
+    -- a number that is no worker's turn any more has at most one step left
     turn_over : (new : State) → (new.messages q).claimed ≡ (st.messages q).claimed → is_turn i new q ≡ false → message_cost i new q + 1 ≤ message_cost i st q
     turn_over new claimed gone =
         let before = had in

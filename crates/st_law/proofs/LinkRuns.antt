@@ -1,4 +1,4 @@
--- Runs over links and directories that are renamed: what each entry should be was worked out from the rules.
+-- Runs over links and over directories that are renamed: the expected entries were derived from the rules.
 use Rattle.std.proofs.Common.{◌≡◌, true, List, [], ◌∷◌, ◌++◌, Some, None, refl, codes}
 use Rattle.st_base.specs.declared.errno.Errno.TheVariants.{ENOENT, ELOOP}
 use Rattle.st_calls.specs.declared.argument.Label.TheVariants.{Filename, String}
@@ -26,7 +26,7 @@ use Rattle.st_law.proofs.Writing.{name, dir, file, link, traced, untraced, threa
 use Rattle.st_law.proofs.Writing.{thread, worker, rest, trace, arg}
 use Rattle.st_law.proofs.Scripts.{etc_files, tmp_dir, reads_only, cat_input, opens, user, root, filename, cat_copies}
 
--- ---- a link that is there from the start
+-- ---- a link that exists from the start
 
 abbrev pub link_reader : List FilterValue → Input
 link_reader filters =
@@ -48,18 +48,18 @@ link_resolved_before_judging : trace
     Ended 1 ∷ [])
 link_resolved_before_judging = refl
 
--- ---- a link that is put in after the check
+-- ---- a link that is put in place after the check
 
 abbrev pub tmp_files : List TreeRow
 tmp_files = tmp_dir ∷ file "/tmp/f" 0 0 420 (codes "f") ∷ []
 
--- cat opens /tmp/f; a process that isn't traced has this body
+-- cat opens /tmp/f; thread 2, of an untraced process, has this body
 abbrev pub beside : List Instr → Input
 beside body = input (plainly Enforce) (policy "/bin/cat" (reads_only "/tmp/f" ∷ []) ∷ []) tmp_files
     (traced "/bin/cat" 1000 1000 "/" ∷ untraced "/bin/evil" 0 0 "/" ∷ [])
     (thread_in 1 (opens "/tmp/f") ∷ thread_in 2 body ∷ []) []
 
--- it puts a link to /etc/spwd in the place of /tmp/f
+-- thread 2 replaces /tmp/f by a link to /etc/spwd
 abbrev pub linker : Input
 linker = beside (put 0 "/tmp/f" ++ put 8 "/etc/spwd" ++ call Unlink 0 0 0 ∷ call Symlink 8 0 0 ∷ [])
 
@@ -74,7 +74,7 @@ tmp_permitted =
     Looked 1 0 (name "/tmp/f") File ∷
     Answered 1 (cat_copies 1 user "/tmp/f") (Permit 1 user) true ∷ []
 
--- the link is put in, as object 4 behind the root, the directory and the file
+-- the link is put in place, as object 4 after the root, the directory and the file
 abbrev pub tmp_linked : List Entry
 tmp_linked =
     Stored 2 0 112353935717423 ∷
@@ -114,7 +114,7 @@ renamed_directory : trace (
     Ended 1 ∷ [])
 renamed_directory = refl
 
--- its own directory is renamed, and a link put in its place
+-- the process's own directory is renamed, and a link put in its place
 a_fast_call_that_meets_a_link : trace (
     input (plainly Enforce)
     (policy "/bin/a" (permits (Rule.Call Rename) ∷ permits (Rule.Call Symlink) ∷ permits FsRead ∷ []) ∷ [])

@@ -1,4 +1,4 @@
--- What the law calls the first link that a call meets is the first on the way to one of its names.
+-- The first link in the way of a call, by the law, is the first on the way to one of its names.
 use native.Mathlib.Omega.{arith}
 use Rattle.std.proofs.Common.{◌≡◌, ◌≢◌, ◌<◌, ℕ, zero, suc, Bool, true, false, cond, not, ◌&&◌, ◌||◌, List, [], ◌∷◌, ◌++◌, length, slice_get, Option, Some, None, refl, sym, ap, subst, ◌∙◌}
 use Rattle.std.proofs.lemmas.Option.{same_Some}
@@ -50,14 +50,14 @@ first_of other (part ∷ rest) = part
 some_parts : (part : List ℕ) (mid : Components) → part ∷ mid ≢ []
 some_parts part mid e = cc
 
--- a name that leads on from this one is on the way behind its first component
+-- a name on the way that is longer than its first component is, without it, on the way to the rest
 deeper : (follow : Bool) (part first : List ℕ) (rest mid : Components) → mid ≢ [] → IsOnWay follow (part ∷ rest) (first ∷ mid) → IsOnWay follow rest mid
 deeper follow part first rest mid more x = record { rest = x.rest; split = ap later_of x.split; below = more; followed = x.followed }
 
 longer : (follow : Bool) (part : List ℕ) (rest mid : Components) → IsOnWay follow rest mid → IsOnWay follow (part ∷ rest) (part ∷ mid)
 longer follow part rest mid x = record { rest = x.rest; split = ap (λ name. part ∷ name) x.split; below = some_parts part mid; followed = x.followed }
 
--- none of the names from a place on, of those that Q speaks of, is a link's
+-- no link among the names on the way from `done` on that satisfy Q
 module _ (tree : Tree) (follow : Bool) (done : Components) (part : List ℕ) (rest : Components) where
   pub none_from : (Q : Components → Type 0) → ((rest ≡ [] → follow ≡ true) → Q (part ∷ []) → IsLinkName tree (done ++ part ∷ []) → ⊥)
       → ((mid : Components) → IsOnWay follow rest mid → Q (part ∷ mid) → IsLinkName tree ((done ++ part ∷ []) ++ mid) → ⊥)
@@ -71,13 +71,13 @@ module _ (tree : Tree) (follow : Bool) (done : Components) (part : List ℕ) (re
       later (second ∷ mid) (deeper follow part first rest (second ∷ mid) (some_parts second mid) x) (subst (λ p. Q (p ∷ second ∷ mid)) (sym same) allowed)
       (subst (IsLinkName tree) (ap (λ p. done ++ p ∷ second ∷ mid) (sym same) ∙ sym (append_assoc done (part ∷ []) (second ∷ mid))) link)
 
--- what is met from a place on
+-- the first link on the way from `done` on, or none
 abbrev FoundFrom : Tree → Bool → Components → Components → Option Components → Type 0
 FoundFrom tree follow done rest None = (mid : Components) → IsOnWay follow rest mid → IsLinkName tree (done ++ mid) → ⊥
 FoundFrom tree follow done rest (Some link) = (mid : Components) × IsOnWay follow rest mid × (link ≡ done ++ mid) × IsLinkName tree link
     × ((on : Components) → IsOnWay follow rest on → length on < length mid → IsLinkName tree (done ++ on) → ⊥)
 
--- a link that may be followed: it leads on, or the last name is followed
+-- a link that may be followed: the name continues after it, or the last name is followed
 may_follow : (follow : Bool) (rest : Components) → (rest ≡ [] → follow ≡ true) → (follow || not (is_last rest)) ≡ true
 may_follow true rest x = refl
 may_follow false [] x = x refl
@@ -139,7 +139,7 @@ on_way tree follow name = by (link_on_way tree follow name) (along tree follow [
 
 -- ---- the names of a call
 
--- a part behind the first is one of the rest
+-- a part after the first is one of the rest
 rest_part : (spec : ArgSpec) (specs : List ArgSpec) (arg : ArgText) (args : List ArgText) (j register : ℕ) (text : List ℕ) → IsNamePart (spec ∷ specs) (arg ∷ args) (suc j) register text → IsNamePart specs args j register text
 rest_part spec specs arg args j register text x =
     record { spec = x.spec; arg = x.arg; spec_is = x.spec_is; arg_is = x.arg_is; kind = x.kind; register_is = x.register_is; text_is = x.text_is }
@@ -152,13 +152,13 @@ no_part : {A : Type 0} (j : ℕ) (x : A) → slice_get [] j ≡ Some x → ⊥
 no_part zero x e = cc
 no_part (suc j) x e = cc
 
--- only a name meets a link
+-- only a name can have a link on its way
 name_of_link : (k : PartKind) (tree : Tree) (follow : Bool) (text : List ℕ) (link : Components) → link_of_part k tree follow text ≡ Some link → k ≡ kind.Name
 name_of_link kind.Name tree follow text link e = refl
 name_of_link _ tree follow text link e = cc
 
 module _ (tree : Tree) (call : SysCall) (regs : List ℕ) where
-  -- what the first part meets where it is a name
+  -- the first link on the way to the first part, if that is a name
   abbrev OfPart : ArgSpec → ArgText → Option Components → Type 0
   OfPart spec arg o = spec.kind ≡ kind.Name → IsFound tree (follows call regs spec.register) (components_of arg.text) o
 
@@ -167,7 +167,7 @@ module _ (tree : Tree) (call : SysCall) (regs : List ℕ) where
       (on_way tree (follows call regs spec.register) (components_of arg.text))
 
   module _ (spec : ArgSpec) (specs : List ArgSpec) (arg : ArgText) (args : List ArgText) where
-    -- what the first part meets, it meets as one of them
+    -- what is found for the first part is found for it as one of the parts
     first_found : (o : Option Components) → OfPart spec arg o → (register : ℕ) (text : List ℕ) → IsNamePart (spec ∷ specs) (arg ∷ args) 0 register text
         → IsFound tree (follows call regs register) (components_of text) o
     first_found o found register text x =

@@ -1,4 +1,4 @@
--- A number lives exactly from the entry that posts it until one closes it or leaves its thread nothing but to end.
+-- A number is live exactly from the entry that posts it until an entry closes it or leaves its thread dying.
 use native.Mathlib.Omega.{arith}
 use Rattle.std.proofs.Common.{◌≡◌, ◌≤◌, ◌<◌, ◌⊎◌, ℕ, suc, ◌+◌, leb, Bool, true, false, not, ◌==◌, List, [], ◌∷◌, ◌++◌, fold, Option, Some, None, option_map, refl, sym, ap, subst, ◌∙◌, inl, inr}
 use Rattle.std.proofs.lemmas.Bool.{eqb-true, eqb-false, and_parts, true≢false, false_from_ne_true}
@@ -38,7 +38,7 @@ use Rattle.st_law.proofs.ThreadHistory as threads
 use Rattle.st_law.proofs.UsedShapes.{used_shape}
 use Rattle.st_law.proofs.Whole.{Whole, whole_of}
 
--- ---- what lives was posted, and nothing ended its life since
+-- ---- a live number was posted, and no entry since then closed it or left its thread dying
 
 number_is_or_not : (m n : ℕ) → (m ≡ n) ⊎ (m ≡ n → ⊥)
 number_is_or_not m n = by (m == n) refl where
@@ -110,7 +110,7 @@ since i h q live = by (head_at i h q) refl live where
       let parts : (not (is_closed_at h q) ≡ true) × (not (is_dying_at i h head.tid) ≡ true) = and_parts (not (is_closed_at h q)) (not (is_dying_at i h head.tid)) x in
       (head, since_with i q head h posted (not_so (is_closed_at h q) parts.0) (not_so (is_dying_at i h head.tid) parts.1))
 
--- ---- a number that is renewed is one that a thread holds
+-- ---- a renewed number is one that a thread holds
 
 quiet_renews : (q : ℕ) (c : Change) → IsQuiet c → RenewsTo q c → ⊥
 quiet_renews q (Renewed old new) x y = x
@@ -132,7 +132,7 @@ exec_renews q binary space false (inl x) = x
 exec_renews q binary space false (inr x) = alone ⊥ ⊥ (λ y. y) x
 
 module _ (m u q : ℕ) where
-  -- new numbers are those from the first on that is drawn
+  -- new numbers are at least the first one that is drawn
   drawn_high : (next : ℕ) (helds : List HeldCall) → SomeIn (RenewsTo q) (renewals m u next helds) → next ≤ q
   drawn_high next [] = λ x. absurd x
   drawn_high next (held ∷ more) = one_more m u (λ cs. SomeIn (RenewsTo q) cs → next ≤ q) next held more (λ is_so. first (drawn_high (next + 1) more)) (λ not_so. drawn_high next more) where
@@ -141,7 +141,7 @@ module _ (m u q : ℕ) where
     first later (inr x) = let high = later x in omega (arith, high)
 
   module _ (heads : ℕ → Option Head) (process : Process) (P : HeldCall → Type 0) where
-    -- the head of this number is a renewed one, of one of the held calls
+    -- the head of this number is the renewed head of one of the held calls
     abbrev HasRenewed : Option Head → List Change → Type 0
     HasRenewed before changes = (held : HeldCall) × P held × (fold (head_after_change heads process q) before changes ≡ option_map (renewed_head process) (heads held.number))
 
@@ -159,7 +159,7 @@ module _ (m u q : ℕ) where
           )
           first later (inr x) = later (head_after_change heads process q before (Renewed held.number next)) x
 
--- ---- a number that an entry posts lives
+-- ---- a posted number is live
 
 module _ (i : Input) (st : State) (inv : Invariant i st) (u : ℕ) (seq : Option ℕ) (call : SysCall) (regs : List ℕ) (args : List ArgText) (ids : Ids) (result : CallResult) (q : ℕ) where
   abbrev m : ℕ
@@ -181,7 +181,7 @@ module _ (i : Input) (st : State) (inv : Invariant i st) (u : ℕ) (seq : Option
   used_renews : (changes : List Change) → SomeIn (RenewsTo q) changes → IsUsed i st u seq call regs args ids result changes → Renews changes
   used_renews changes some x = shape_renews changes some (used_shape i st u call regs args ids result changes seq x)
 
-  -- a head of a thread's open call is that thread's, also renewed
+  -- a head of a thread's open call, renewed or not, is that thread's
   tid_of : (process : Process) (own : Head) (o : Option Head) (head : Head) → o ≡ Some own → Some head ≡ option_map (renewed_head process) o → head.tid ≡ own.tid
   tid_of process own o head e f = by (f ∙ ap (option_map (renewed_head process)) e) where
     by : Some head ≡ Some (renewed_head process own) → head.tid ≡ own.tid
@@ -200,7 +200,7 @@ module _ (i : Input) (st : State) (inv : Invariant i st) (u : ℕ) (seq : Option
     abbrev heads : ℕ → Option Head
     heads p = (st.messages p).head
 
-    -- the thread of a number that is renewed isn't dying
+    -- the thread of a renewed number isn't dying
     renewed_undying : (head : Head) → fold (head_after_change heads process q) (heads q) (renewals m u (suc st.posted) helds) ≡ Some head
         → HasRenewed m u q heads process (IsItem st) (heads q) (renewals m u (suc st.posted) helds) → (st.threads head.tid).dying ≡ false
     renewed_undying head posted x =
@@ -213,7 +213,7 @@ module _ (i : Input) (st : State) (inv : Invariant i st) (u : ℕ) (seq : Option
     dying_same t = renewals_same m u (dying_after_change t (st.threads t).owner u m) (λ b old fresh. refl) (st.threads t).dying (suc st.posted) helds
 
 module _ (i : Input) (q : ℕ) (head : Head) where
-  -- a number is open behind an entry, and its thread isn't dying
+  -- after an entry a number is open, and its thread isn't dying
   abbrev IsFresh : Entry → History → Type 0
   IsFresh e h = (is_closed_at (e ∷ h) q ≡ false) × (is_dying_at i (e ∷ h) head.tid ≡ false)
 
@@ -257,13 +257,13 @@ module _ (i : Input) (q : ℕ) (head : Head) where
           let kept : UsedKeeps i now whole.calls u seq call regs args ids result cs = used_keeps i now whole.calls u seq call regs args ids result cs y in
           subst IfPosted (sym x.1) (renewed_fresh x.0 (subst (UsedKeeps i now whole.calls u seq call regs args ids result) x.1 kept)) some
 
-    -- a number that an entry posts lives behind it
+    -- a number is live after the entry that posts it
     fresh : (e : Entry) → IsLawful i now e → Posts q e h → head_at i (e ∷ h) q ≡ Some head → IsFresh e h
     fresh (Entered t call regs (Held p)) y posts posted = held_fresh t p call regs y posts posted
     fresh (Used u seq call regs args ids result cs) y posts posted = used_fresh u seq call regs args ids result cs y posts posted
     fresh _ y posts posted = absurd posts
 
--- ---- and as long as no later entry ends its life
+-- ---- the number stays live while no later entry closes it or leaves its thread dying
 
 kept_flag : (new old : Bool) (A : Type 0) → (new ≡ true → A ⊎ (old ≡ true)) → (old ≡ true → new ≡ true) → (A → ⊥) → new ≡ old
 kept_flag true old A only stays none = by (only refl) where
@@ -280,7 +280,7 @@ dying_kept : (i : Input) (t : ℕ) (e : Entry) (h : History) → (LeavesDying i 
 dying_kept i t e h none = kept_flag (is_dying_at i (e ∷ h) t) (is_dying_at i h t) (LeavesDying i t e h) (threads.dying_only i t e h) (threads.dying_stays i t e h) none
 
 module _ (i : Input) (startable : IsStartable i) (q : ℕ) (head : Head) where
-  -- the head of a number that was posted, and that it was
+  -- a number was posted, and keeps its head
   pub record Stays (h : History) : Type 0 where
     pub low : q ≤ posted_at h
     pub posted : head_at i h q ≡ Some head

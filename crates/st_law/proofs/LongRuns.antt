@@ -1,5 +1,5 @@
--- The longest name that words spell, and runs over many links. Their calls are made in one step, which takes what a worker would have
--- come to; how they end was worked out from the rules.
+-- The longest name that words can spell, and runs over many links. The calls are made in one step, with the arguments that a worker would
+-- get. The expected ends were derived from the rules.
 use Prim.Native.String as text
 use Rattle.std.proofs.Common.{◌≡◌, ℕ, zero, suc, List, [], ◌∷◌, ◌++◌, None, refl, codes}
 use Rattle.std.specs.Int.{w64, from_le_bytes}
@@ -18,11 +18,11 @@ use Rattle.st_law.proofs.Scripts.{etc_files, opens, user, filename, calls_of}
 
 -- ---- long names
 
--- a name with so many slashes in front
+-- a name with `count` slashes in front
 abbrev slashed : ℕ → List ℕ
 slashed count = replicate count 47 ++ codes "etc/passwd"
 
--- its words in memory, with a zero byte behind it
+-- the words of bytes in memory, with zero bytes after them
 abbrev words : ℕ → List ℕ → List ℕ
 words zero bytes = []
 words (suc count) bytes = from_le_bytes w64 (take 8 (bytes ++ replicate 8 0)) ∷ words count (drop 8 bytes)
@@ -31,7 +31,7 @@ words (suc count) bytes = from_le_bytes w64 (take 8 (bytes ++ replicate 8 0)) �
 the_longest_name : spell_name 0 (words 129 (slashed 1014)) ≡ Text (slashed 1014)
 the_longest_name = refl
 
--- and one with a byte too many
+-- a name with one byte too many
 a_name_too_long : spell_name 0 (words 129 (slashed 1015)) ≡ Fault ENAMETOOLONG
 a_name_too_long = refl
 
@@ -41,7 +41,7 @@ a_name_too_long = refl
 abbrev opener : List TreeRow → List Instr → Input
 opener objects body = input (plainly Enforce) [] objects (untraced "/bin/cat" 1000 1000 "/" ∷ []) (thread_in 1 body ∷ []) []
 
--- each leads to the next, and the last to /etc/passwd
+-- each link leads to the next, and the last to /etc/passwd
 abbrev links : List TreeRow
 links =
     link "/l1" 0 0 "/l2" ∷ link "/l2" 0 0 "/l3" ∷ link "/l3" 0 0 "/l4" ∷ link "/l4" 0 0 "/l5" ∷ link "/l5" 0 0 "/l6" ∷
@@ -55,10 +55,10 @@ links =
 abbrev linked : text.String → Input
 linked text = opener (etc_files ++ links) (opens text)
 
--- 32 links are looked at
+-- 32 links are looked up
 thirty_two_links : calls_of (trace (linked "/l2") (rest ∷ [])) ≡ Used 1 None Open (regs 0 0 0) (filename "/etc/passwd") user (Value 3) [] ∷ []
 thirty_two_links = refl
 
--- the look at the 33rd is the last
+-- the look at the 33rd link is the last
 thirty_three_links : calls_of (trace (linked "/l1") (rest ∷ [])) ≡ Used 1 None Open (regs 0 0 0) [] user (Failed ELOOP) [] ∷ []
 thirty_three_links = refl

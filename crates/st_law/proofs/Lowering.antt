@@ -1,4 +1,4 @@
--- Each lawful entry leaves less to do: what threads, messages and replies have left.
+-- Each lawful entry lowers the steps left: those of threads, messages and replies.
 use native.Mathlib.Omega.{arith}
 use Rattle.std.proofs.Common.{◌≡◌, ◌≢◌, ◌⊎◌, ◌≤◌, ℕ, ◌+◌, ◌*◌, Bool, true, false, cond, not, ◌==◌, List, ◌++◌, drop, Option, Some, None, refl, sym, ap, subst, ◌∙◌, inl, inr}
 use Rattle.std.specs.Prelude.{is_some}
@@ -27,7 +27,7 @@ use Rattle.st_law.proofs.Turns.{unlike, worker_range}
 
 -- ---- turns
 
--- a number is somebody's turn exactly where some worker has it
+-- a number is a turn exactly when some worker has it as its turn
 pub turn_found : (i : Input) (st : State) (q : ℕ) → is_turn i st q ≡ true → (w : ℕ) × (st.turns w ≡ Some q)
 turn_found i st q = least (λ o. is_some o ≡ true → (w : ℕ) × (st.turns w ≡ Some q)) (λ w. is_number q (st.turns w)) 1 i.options.workers
     (λ w x e. (w, number_only q (st.turns w) x.holds)) (λ none e. cc)
@@ -44,7 +44,7 @@ turn_gone i st q none = by (is_turn i st q) refl where
   by true e = let x : (w : ℕ) × (st.turns w ≡ Some q) = turn_found i st q e in absurd (none x.0 x.1)
   by false e = e
 
--- ---- what may be learnt still
+-- ---- numbers that may still be learnt
 
 decided_or : (v : Verdict) → (v ≡ Unmatched) ⊎ ((v ≢ Unmatched) × (is_undecided v ≡ false))
 decided_or (Permit n ids) = inr ((λ e. cc), refl)
@@ -55,7 +55,7 @@ at_most_one : (b : Bool) → step_unless (not b) ≤ 1
 at_most_one true = omega arith
 at_most_one false = omega arith
 
--- a session that grows leaves less that may be learnt
+-- a session that grows leaves no more to be learnt
 learnt_low : (i : Input) (st new : State) (more : List SessionFilter) → new.session ≡ st.session ++ more → (o : Option Snapshot) → may_be_learnt i new o ≤ may_be_learnt i st o
 learnt_low i st new more grown None = omega arith
 learnt_low i st new more grown (Some s) = by (decided_or (decision_in i st s)) where
@@ -74,7 +74,7 @@ learnt_low i st new more grown (Some s) = by (decided_or (decision_in i st s)) w
 
 -- ---- messages
 
--- a message has what it had, and is no new turn
+-- a message is unchanged, and isn't a new turn
 pub record IsUnmoved (i : Input) (st new : State) (p : ℕ) : Type 0 where
   pub claimed : (new.messages p).claimed ≡ (st.messages p).claimed
   pub taken_is : taken (new.messages p) ≡ taken (st.messages p)
@@ -101,7 +101,7 @@ module _ (i : Input) (st : State) (copies : Copies st) where
         λ k. remaining (x.claimed k) (is_turn i new p) (x.taken_is k) (may_be_learnt i new (snapshot_in new p)) in
         omega (arith, low, same)
 
-    -- messages that have what they had, and so many new ones
+    -- unchanged messages, and `count` new ones
     pub messages_more : (count : ℕ) → new.posted ≡ st.posted + count → ((p : ℕ) → 1 ≤ p → p ≤ st.posted → IsUnmoved i st new p) → messages_cost i new ≤ messages_cost i st + 9605 * count
     messages_more count posted same =
         let split = total_more (message_cost i new) 1 st.posted count in
@@ -110,7 +110,7 @@ module _ (i : Input) (st : State) (copies : Copies st) where
         let counted : messages_cost i new ≡ total (message_cost i new) 1 (st.posted + count) = ap (total (message_cost i new) 1) posted in
         omega (arith, split, low, most, counted)
 
-    -- one message has less left, and the others what they had
+    -- one message has fewer steps left, and the others are unchanged
     pub messages_drop : (q : ℕ) → new.posted ≡ st.posted → 1 ≤ q → q ≤ st.posted → message_cost i new q + 1 ≤ message_cost i st q → ((p : ℕ) → q ≢ p → IsUnmoved i st new p) → messages_cost i new + 1 ≤ messages_cost i st
     messages_drop q posted at below drop same =
         let d = total_drop (message_cost i new) (message_cost i st) 1 st.posted q 1 (λ p from to. by p (q == p) refl) at (omega (arith, below)) drop in
@@ -122,7 +122,7 @@ module _ (i : Input) (st : State) (copies : Copies st) where
 
 -- ---- threads
 
--- one thread has so much less left, and the others no more
+-- one thread has at least d fewer steps left, and the others no more
 pub threads_drop : (i : Input) (st new : State) (u d : ℕ) → 1 ≤ u → u ≤ thread_count i → thread_cost (new.threads u) + d ≤ thread_cost (st.threads u) → ((t : ℕ) → (u == t) ≡ false → thread_cost (new.threads t) ≤ thread_cost (st.threads t)) → threads_cost i new + d ≤ threads_cost i st
 threads_drop i st new u d at below drop others =
     total_drop (λ t. thread_cost (new.threads t)) (λ t. thread_cost (st.threads t)) 1 (thread_count i) u d (λ t from to. by t (u == t) refl) at (omega (arith, below)) drop where
@@ -130,7 +130,7 @@ threads_drop i st new u d at below drop others =
       by t true e = subst (λ n. thread_cost (new.threads n) ≤ thread_cost (st.threads n)) (eqb-true u t e) (omega (arith, drop))
       by t false e = others t e
 
--- an instruction that makes a call has room for the call and a message
+-- the cost of an instruction that makes a call covers the call and a message
 pub weight_of : (instruction : Instr) (call : SysCall) (regs : List ℕ) → IsCallOf instruction call regs → call_cost (sets_ids call) + 9999 ≤ weight instruction
 weight_of (Store place word) call regs makes = absurd makes
 weight_of (Call own own_regs) call regs makes = let same : sets_ids call ≡ sets_ids own = ap sets_ids makes.0 in by (sets_ids own) same where

@@ -1,4 +1,4 @@
--- What a run says of memory, of the file tree and of the descriptors is read off the entries.
+-- The state of memory, of the file tree and of the descriptors is read off the entries.
 use Rattle.std.proofs.Common.{◌≡◌, ◌≤◌, ◌<◌, ℕ, ◌+◌, ◌-◌, ◌/◌, ◌%◌, Bool, true, false, cond, not, ◌&&◌, ◌==◌, nat_le, nat_lt, is_some, List, [], ◌∷◌, length, slice_index, fold, refl, ap, sym, ◌∙◌, arith, length-append}
 use Rattle.std.proofs.lemmas.Bool.{eq-eqb, ne_eqb, eqb-true, and_from, le-leb, lt-ltb, leb-true, ltb-true, true≢false}
 use Rattle.std.specs.Int.{w64, to_le_bytes}
@@ -23,7 +23,7 @@ use Rattle.st_law.proofs.Splitting.{when_same, when_other, none_in, fold_apart, 
 
 -- ---- memory
 
--- two tests, one in the other
+-- two nested tests
 inner_other : (s space : ℕ) (b c : Bool) (x y : ℕ) → (s ≡ space → b ≡ true → c ≡ true → ⊥) → cond (s == space) (cond (b && c) x y) y ≡ y
 inner_other s space b c x y none = by (s == space) b c (λ e. none (eqb-true s space e))
   where
@@ -99,7 +99,7 @@ tree i (_ ∷ h) = tree i h
 -- ---- descriptors
 
 module _ (i : Input) (h : History) (t : ℕ) where
-  -- another thread of the process still runs
+  -- another thread of the process hasn't ended
   abbrev other : ℕ → Bool
   other u = is_running_in (looking_back i h) (owner_at i h t) u && not (u == t)
 

@@ -1,4 +1,4 @@
--- What a run says of a number's message and of a worker's turn is read off the entries.
+-- The state of a number's message and of a worker's turn is read off the entries.
 use Rattle.std.proofs.Common.{◌≡◌, ◌⊎◌, ℕ, suc, ◌+◌, Bool, true, false, ◌||◌, ◌&&◌, ◌==◌, List, [], ◌∷◌, ◌++◌, length, fold, Option, Some, None, option_map, refl, ap, sym, ◌∙◌, inl, inr, arith, length-append}
 use Rattle.std.proofs.lemmas.Bool.{eq-eqb, eqb-true, and_from}
 use Rattle.st_base.specs.declared.errno.Errno.{Errno}
@@ -219,7 +219,7 @@ module _ (i : Input) (q : ℕ) where
   pub head : IsLastGiven (λ h. head_at i h q) None (Posts q) (GivesHead i q)
   head = last_given (λ h. head_at i h q) None (Posts q) (GivesHead i q) refl head_step head_give
 
--- ---- how many numbers there are
+-- ---- how many numbers were posted
 
 pub posted_changes : (n : ℕ) (changes : List Change) → fold posted_after_change n changes ≡ n + length (new_numbers changes)
 posted_changes n [] = omega arith

@@ -1,4 +1,4 @@
--- How the record of a lawful run moves: numbers that were posted have their heads, and what was closed or dying stays so.
+-- How the state of a lawful run moves: posted numbers keep their heads, and what was closed or dying stays so.
 use native.Mathlib.Omega.{arith}
 use Rattle.std.proofs.Common.{◌≡◌, ◌≤◌, ℕ, suc, Bool, true, false, cond, not, ◌&&◌, ◌==◌, List, [], ◌∷◌, Option, Some, None, refl, sym, ap, subst, ◌∙◌}
 use Rattle.std.proofs.lemmas.Bool.{ne_eqb, or_parts, or_right, and_parts}
@@ -23,7 +23,7 @@ use Rattle.st_law.proofs.Invariant.{Invariant}
 use Rattle.st_law.proofs.Preserved.{UsedKeeps, used_keeps}
 use Rattle.st_law.proofs.QuietChanges.{undying_before}
 
--- how one record comes from another
+-- how one state follows from another
 pub record Moves (st new : State) : Type 0 where
   pub posted : st.posted ≤ new.posted
   pub heads : (q : ℕ) → q ≤ st.posted → (new.messages q).head ≡ (st.messages q).head
@@ -56,7 +56,7 @@ open_if : (q : ℕ) (before : Bool) (changes : List Change) → fold (is_renewed
 open_if q true changes e = let closed : fold (is_renewed_by q) true changes ≡ true = fold_renewed q changes in cc
 open_if q false changes e = refl
 
--- a number that lives lived before, if it was posted
+-- a live number was live before, if it was posted
 pub live_before : (st new : State) → Moves st new → (q : ℕ) → q ≤ st.posted → is_live new q ≡ true → is_live st q ≡ true
 live_before st new moves q low live = by (st.messages q).head refl (subst (λ o. is_live_by o (new.messages q).closed (λ t. (new.threads t).dying) ≡ true) (moves.heads q low) live) where
   by : (o : Option Head) → (st.messages q).head ≡ o → is_live_by (st.messages q).head (new.messages q).closed (λ t. (new.threads t).dying) ≡ true → is_live_by (st.messages q).head (st.messages q).closed (λ t. (st.threads t).dying) ≡ true
@@ -93,7 +93,7 @@ module _ (i : Input) (st : State) (inv : Invariant i st) where
     undying_before = λ t e. e;
   }
 
-  -- how a lawful entry moves the record
+  -- how a lawful entry moves the state
   pub moves : (e : Entry) → IsLawful i st e → Moves st (state_after i st e)
   moves (Entered u call regs way) x = entered_moves u call regs way x
   moves (Used u seq call regs args ids result changes) x = used_moves u seq call regs args ids result changes x

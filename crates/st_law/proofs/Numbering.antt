@@ -26,14 +26,14 @@ use Rattle.st_law.proofs.UsedShapes.{used_shape}
 range_same : (a b m n : ℕ) → a ≡ b → m ≡ n → range_with_len a m ≡ range_with_len b n
 range_same a b m n e f = λ k. range_with_len (e k) (f k)
 
--- numbers that follow on a row of them
+-- a range followed by the next range is one range
 range_append : (a m n : ℕ) → range_with_len a m ++ range_with_len (a + m) n ≡ range_with_len a (m + n)
 range_append a zero n = range_same (a + zero) a n (zero + n) (omega arith) (omega arith)
 range_append a (suc m) n =
     ap (λ row. a ∷ row) (ap (λ row. range_with_len (a + 1) m ++ row) (range_same (a + suc m) (a + 1 + m) n n (omega arith) refl) ∙ range_append (a + 1) m n)
     ∙ range_same a a (suc (m + n)) (suc m + n) refl (omega arith)
 
--- the new numbers that changes give are a row from this one on
+-- the new numbers that changes give are consecutive from this number on
 abbrev IsRow : ℕ → List Change → Type 0
 IsRow next changes = new_numbers changes ≡ range_with_len next (length (new_numbers changes))
 
@@ -61,7 +61,7 @@ shape_row i st u call regs args ids changes (execed binary e) = subst (IsRow (su
 shape_row i st u call regs args ids changes (renewed set sets e) =
     subst (IsRow (suc st.posted)) (sym e) (renewed_row (st.threads u).owner u (suc st.posted) (system_of i st).held)
 
--- a row grows by the numbers of one more entry
+-- the range grows by the numbers of one more entry
 grown : (h : History) (more : List ℕ) (n : ℕ) → numbers_so_far h ≡ range_with_len 1 (posted_at h) → more ≡ range_with_len (suc (posted_at h)) (length more) → n ≡ posted_at h + length more → numbers_so_far h ++ more ≡ range_with_len 1 n
 grown h more n before row count =
     (λ k. before k ++ row k) ∙ ap (λ later. range_with_len 1 (posted_at h) ++ later) (range_same (suc (posted_at h)) (1 + posted_at h) (length more) (length more) (omega arith) refl)

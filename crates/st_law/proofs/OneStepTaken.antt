@@ -1,4 +1,4 @@
--- What a call that isn't held takes in one step is what a worker would copy and see, if nothing changed meanwhile.
+-- What a call that isn't held takes in one step is what a worker would copy and see if nothing changed meanwhile.
 use native.Mathlib.Omega.{arith}
 use Rattle.std.proofs.Common.{◌≡◌, ◌⊎◌, ℕ, zero, suc, ◌+◌, Bool, List, [], ◌∷◌, ◌++◌, slice_get, slice_index_or, Option, Some, None, refl, sym, ap, subst, ◌∙◌, inl, inr}
 use Rattle.std.proofs.lemmas.List.{append_assoc, append-nil}
@@ -18,13 +18,13 @@ use Rattle.st_effects.specs.Progress.{Progress, ArgRequest, progress_from, progr
 use Rattle.st_law.specs.Arguments.{Surroundings, spelled_within, spelled_on, part_of_text, part_of_spelling, parts_from}
 use Rattle.st_law.specs.OneStep.{AreWordsOf, AreLookupsOf, AreTaken}
 
--- ---- asking one by one
+-- ---- extending a list by one item at a time
 
--- a list comes to something or asks for one more, which its source has; so many times at most
+-- a list gives a result, or asks for one more item, which its source has; at most this many times
 module _ {A P R : Type 0} (come : List A → R) (Asks : R → P → Type 0) (source : P → A) (within : ℕ → List A → R)
     (none : (xs : List A) → within 0 xs ≡ come xs)
     (one : (n : ℕ) (xs : List A) → ((p : P) × Asks (come xs) p × (within (suc n) xs ≡ within n (xs ++ source p ∷ []))) ⊎ (within (suc n) xs ≡ come xs)) where
-  -- the list with more, each of which those before it ask for
+  -- the list with more items, each of which the items before it ask for
   pub record Taken (n : ℕ) (xs : List A) : Type 0 where
     pub more : List A
     pub is : within n xs ≡ come (xs ++ more)

@@ -1,4 +1,4 @@
--- What a schedule is played to is a run in which each choice is enabled at its turn.
+-- A schedule is played as a run in which each choice is enabled at its turn.
 use native.Mathlib.Omega.{arith}
 use Rattle.std.proofs.Common.{◌≡◌, ℕ, zero, suc, List, [], ◌∷◌, ◌++◌, length, reverse, Option, Some, None, refl, sym, ap, subst, ◌∙◌, length-append}
 use Rattle.std.proofs.lemmas.List.{length-reverse, reverse-append}
@@ -15,7 +15,7 @@ use Rattle.st_law.specs.Schedules.{BadLine, Choices, EnabledChoice, Played, Sche
 use Rattle.st_law.proofs.Resting.{first_found}
 
 module _ (i : Input) where
-  -- choices, each of which was enabled, and the state that they lead to
+  -- choices, each of which was enabled, and the state after them
   record IsRun (p : Played) : Type 0 where
     reached : p.state ≡ state_of_run i p.choices
     enabled : length (history i (reverse p.choices)) ≡ length p.choices
@@ -31,7 +31,7 @@ module _ (i : Input) where
 
   -- ---- lines
 
-  -- whatever is played further is a run
+  -- every played result is a run
   abbrev AllRun : Option Played → Type 0
   AllRun o = (after : Played) → o ≡ Some after → IsRun after
 
@@ -60,7 +60,7 @@ module _ (i : Input) where
 
   -- ---- schedules
 
-  -- what a schedule comes to, where that is choices, is a run
+  -- the outcome of a schedule, if it is choices, is a run
   abbrev Runs : ScheduleOutcome → Type 0
   Runs (Choices choices) = length (history i (reverse choices)) ≡ length choices
   Runs (BadLine line) = Unit {0}

@@ -1,5 +1,5 @@
--- What a run has left to do, as a number of steps that each entry makes less: for each thread its instructions, its pending call and its
--- end; for each number that was posted what a worker still does for it, and that it may be learnt; and the replies that are left.
+-- The steps that a run has left, as a number that each entry lowers: for each thread its instructions, its pending call and its end; for
+-- each posted number the steps of workers for it, and the one by which it may be learnt; and the replies that are left.
 use native.Mathlib.Omega.{arith}
 use Rattle.std.proofs.Common.{◌≡◌, ◌≤◌, ℕ, ◌+◌, ◌-◌, Bool, true, false, cond, not, List, [], ◌∷◌, length, Option, Some, None, refl}
 use Rattle.std.specs.Prelude.{is_some}
@@ -15,7 +15,7 @@ use Rattle.st_law.proofs.Sums.{total}
 
 -- ---- threads
 
--- an instruction, with the message that its call may post; a call that sets ids renews up to 64 numbers more
+-- the cost of an instruction, with the message that its call may post; a call that sets ids renews up to 64 numbers
 abbrev pub weight : Instr → ℕ
 weight instruction = cond (is_set_id instruction) 650000 10000
 
@@ -23,7 +23,7 @@ abbrev pub cost : List Instr → ℕ
 cost [] = 0
 cost (instruction ∷ later) = weight instruction + cost later
 
--- a call that is pending, by whether it sets ids
+-- the cost of a pending call, by whether it sets ids
 abbrev pub call_cost : Bool → ℕ
 call_cost true = 640000
 call_cost false = 1
@@ -42,7 +42,7 @@ thread_cost thread = cost thread.left + pending_cost thread.pending + step_unles
 
 -- ---- messages
 
--- the words and looks that were taken for the parts that lie in memory
+-- the words and lookups' answers taken for the two parts that may be in memory
 abbrev pub taken : Message → ℕ
 taken message = length (message.words 0) + length (message.words 1) + length (message.lookups 0) + length (message.lookups 1)
 
@@ -50,12 +50,12 @@ taken message = length (message.words 0) + length (message.words 1) + length (me
 abbrev pub is_turn : Input → State → ℕ → Bool
 is_turn i st q = is_some (least_from (λ w. is_number q (st.turns w)) 1 i.options.workers)
 
--- whether no filter decides of copies, if they are there
+-- 1 if no filter decides on these copies or there are none, otherwise 0
 abbrev pub may_be_learnt : Input → State → Option Snapshot → ℕ
 may_be_learnt i st None = 1
 may_be_learnt i st (Some s) = step_unless (not (is_undecided (decision_in i st s)))
 
--- a claim, the words and looks of two parts, an answer, and that it is learnt: at most 9,605 steps
+-- a claim, the words and looks of two parts, an answer, and the step by which it is learnt: at most 9,605 steps
 abbrev pub remaining : Bool → Bool → ℕ → ℕ → ℕ
 remaining false turn copied learnt = 9605
 remaining true true copied learnt = 9604 - copied
@@ -64,7 +64,7 @@ remaining true false copied learnt = learnt
 abbrev pub message_cost : Input → State → ℕ → ℕ
 message_cost i st q = remaining (st.messages q).claimed (is_turn i st q) (taken (st.messages q)) (may_be_learnt i st (snapshot_in st q))
 
--- ---- all of it
+-- ---- all of these
 
 abbrev pub reply_cost : State → ℕ → ℕ
 reply_cost st n = step_unless (st.replied n)
@@ -78,7 +78,7 @@ messages_cost i st = total (message_cost i st) 1 st.posted
 abbrev pub replies_cost : Input → State → ℕ
 replies_cost i st = total (reply_cost st) 1 (length i.replies)
 
--- the steps that are left at most
+-- the bound of the steps left
 abbrev pub steps_left : Input → State → ℕ
 steps_left i st = threads_cost i st + messages_cost i st + replies_cost i st
 
@@ -96,11 +96,11 @@ remaining_most false turn copied learnt low = omega arith
 remaining_most true true copied learnt low = omega arith
 remaining_most true false copied learnt low = omega (arith, low)
 
--- no message has more left than a new one
+-- no message has more steps left than a new one
 pub message_most : (i : Input) (st : State) (q : ℕ) → message_cost i st q ≤ 9605
 message_most i st q = remaining_most (st.messages q).claimed (is_turn i st q) (taken (st.messages q)) (may_be_learnt i st (snapshot_in st q)) (learnt_most i st (snapshot_in st q))
 
--- a message of which no more is known has no more left than it had
+-- a message has no more steps left than before if nothing is added to it, its turn isn't new, and no more may be learnt
 pub remaining_low : (claimed turn turn_then : Bool) (copied learnt learnt_then : ℕ) → (turn_then ≡ true → turn ≡ true) → learnt_then ≤ learnt → learnt ≤ 1 → copied ≤ 9602 → remaining claimed turn_then copied learnt_then ≤ remaining claimed turn copied learnt
 remaining_low false turn turn_then copied learnt learnt_then known low most few = omega arith
 remaining_low true true true copied learnt learnt_then known low most few = omega arith

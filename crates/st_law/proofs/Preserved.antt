@@ -1,4 +1,4 @@
--- What holds of the record of a lawful run holds behind each lawful entry.
+-- The invariant of the state of a lawful run is kept by each lawful entry.
 use native.Mathlib.Omega.{arith}
 use Rattle.std.proofs.Common.{◌≡◌, ◌≢◌, ◌≤◌, ℕ, suc, Bool, true, false, cond, ◌||◌, ◌==◌, List, [], ◌∷◌, drop, Option, Some, None, refl, sym, ap, subst, ◌∙◌}
 use Rattle.std.proofs.lemmas.Bool.{eqb-true, eqb-false, eq-eqb, ne_eqb}
@@ -57,7 +57,7 @@ module _ (i : Input) (st : State) (inv : Invariant i st) where
     shape_keeps way entered changes (execed binary e) = subst Kept (sym e) (exec_keeps i st inv u seq open_seq call regs args ids result binary i.options.inherit)
     shape_keeps way entered changes (renewed set sets e) = subst Kept (sym e) (renewal_keeps i st inv u seq open_seq call regs args ids result set)
 
-  -- what a call that is made keeps, for what is known of its number
+  -- what a call that is made keeps, given what is known of its number
   pub record UsedKeeps (u : ℕ) (seq : Option ℕ) (call : SysCall) (regs : List ℕ) (args : List ArgText) (ids : Ids) (result : CallResult) (changes : List Change) : Type 0 where
     pub open_seq : IsOpenSeq st u seq
     pub keeps : Keeps i st inv u seq open_seq call regs args ids result changes
@@ -128,7 +128,7 @@ module _ (i : Input) (st : State) (inv : Invariant i st) where
   first_of : (x : Instr) (left later : List Instr) → left ≡ x ∷ later → All (IsInstruction i) left → IsInstruction i x
   first_of x left later e all = subst (All (IsInstruction i)) e all 0 x (omega arith)
 
-  -- the call of an instruction that is a fork starts a thread of the script
+  -- if the call of an instruction is a fork, it starts a thread of the script
   child_of : (instruction : Instr) (later : List Instr) (call : SysCall) (regs : List ℕ) → IsCallOf instruction call regs → IsInstruction i instruction → call ≡ calls.Fork → IsThread i (child_of_next (instruction ∷ later))
   child_of (Store place word) later call regs makes x is = absurd makes
   child_of (Call own own_regs) later call regs makes x is = absurd (x (sym makes.0 ∙ is))
@@ -150,7 +150,7 @@ module _ (i : Input) (st : State) (inv : Invariant i st) where
 
   -- ---- calls that are entered
 
-  -- another thread's pending call, by what the entry leaves of numbers and heads
+  -- another thread's pending call, by what the entry keeps of numbers and heads
   entered_other : (u : ℕ) (call : SysCall) (regs : List ℕ) (way : Way) (t : ℕ) → st.posted ≤ (state_after i st (Entered u call regs way)).posted → IsKept st (state_after i st (Entered u call regs way)) t → IfPending (Fine i (state_after i st (Entered u call regs way)) t) (st.threads t).pending
   entered_other u call regs way t more kept = if_pending (Fine i st t) (Fine i (state_after i st (Entered u call regs way)) t) (st.threads t).pending
       (λ entered is x. record {
@@ -234,7 +234,7 @@ module _ (i : Input) (st : State) (inv : Invariant i st) where
       (record { first = x.way_is.1; errno = x.way_is.2; refused = x.way_is.3 }))
   behind_entered u call regs (Held q) x = behind_held u q call regs x x.way_is.1
 
-  -- ---- entries that leave all of it, and those by which the session grows
+  -- ---- entries that leave the state's parts, and those by which the session grows
 
   grown_fine : (e : Entry) (t : ℕ) → RefusesStill i st (state_after i st e) → (process_in (state_after i st e) t).policy ≡ (process_in st t).policy → st.posted ≤ (state_after i st e).posted → IsKept st (state_after i st e) t → ((state_after i st e).threads t).dying ≡ (st.threads t).dying → IfPending (Fine i (state_after i st e) t) (st.threads t).pending
   grown_fine e t still policy more kept dying = if_pending (Fine i st t) (Fine i (state_after i st e) t) (st.threads t).pending
@@ -243,7 +243,7 @@ module _ (i : Input) (st : State) (inv : Invariant i st) where
         fine = λ undying. fine_by i st (state_after i st e) t entered.call entered.regs entered.way still policy (λ first held. open_kept st (state_after i st e) t entered.call entered.regs more kept) (x.fine (sym dying ∙ undying));
       }) (inv.fine t)
 
-  -- what holds of the record holds behind each lawful entry
+  -- the invariant of the state is kept by each lawful entry
   pub behind : (e : Entry) → IsLawful i st e → Invariant i (state_after i st e)
   behind (Stored u place word) x = record { started = inv.started; bodies = λ t. left_at u t (u == t); children = inv.children; owners = inv.owners; heads = inv.heads; closed = inv.closed; fine = λ t. grown_fine (Stored u place word) t (λ policy rule no f. f) refl (omega arith) (record { owner = refl; ids = refl; number = refl; head = refl; closed = λ unclosed. unclosed }) refl }
   behind (Entered u call regs way) x = behind_entered u call regs way x

@@ -1,4 +1,4 @@
--- What a run says of a process is read off the changes.
+-- The state of a process is read off the changes.
 use Rattle.std.proofs.Common.{◌≡◌, ℕ, suc, Bool, List, ◌∷◌, ◌==◌, fold, refl, ap, sym, ◌∙◌}
 use Rattle.st_base.specs.declared.ids.Ids.{Ids}
 use Rattle.st_model.specs.Process.{Process}
@@ -15,11 +15,11 @@ use Rattle.st_law.specs.Splits.{ChangeGives, ChangeTouches, IsLastChanged}
 use Rattle.st_law.specs.Threads.{History, owner_at}
 use Rattle.st_law.proofs.Splitting.{when_same, when_other, when_either, none_in, fold_kept, fold_last, last_given}
 
--- what a change of thread u makes of process p
+-- process p after a change of thread u
 abbrev changed : Input → ℕ → ℕ → History → Process → Change → Process
 changed i p u h = process_after_change (process_at i h) (owner_at i h u) p
 
--- a part of a process, by what each change makes of it
+-- a part of a process, by how each change alters it
 module _ {V : Type 0} (i : Input) (p : ℕ) (part : Process → V) (Gives : ℕ → History → Change → V → Type 0)
     (step : (u : ℕ) (h : History) (s : Process) (c : Change) → ((v : V) × Gives u h c v → ⊥) → part (changed i p u h s c) ≡ part s)
     (gives : (u : ℕ) (h : History) (s : Process) (c : Change) (v : V) → Gives u h c v → part (changed i p u h s c) ≡ v) where

@@ -1,5 +1,4 @@
--- Runs of processes: a kill, a fork, an execve, ids that change and ids that are granted. What each entry should be was worked out
--- from the rules.
+-- Runs of processes: a kill, a fork, an execve, ids that change and ids that are granted. The expected entries were derived from the rules.
 use Prim.Native.String as text
 use Rattle.std.proofs.Common.{◌≡◌, true, false, List, [], ◌∷◌, ◌++◌, Some, None, refl, codes}
 use Rattle.std.specs.Fmt.{digits}
@@ -39,7 +38,7 @@ use Rattle.st_law.proofs.Scripts.{etc_files, reads_only, passwd_only, opens, use
 abbrev pub killer : Input
 killer = beside (call Kill 1 9 0 ∷ [])
 
--- the worker that has all copies answers, and its answer doesn't count
+-- the worker that has all copies answers, and its answer isn't applied
 killed_while_held : trace killer (thread 1 2 ∷ worker 1 4 ∷ thread 2 2 ∷ worker 1 1 ∷ rest ∷ []) ≡ Some (
     Stored 1 0 112353935717423 ∷
     Entered 1 Open (regs 0 0 0) (Held 1) ∷
@@ -57,7 +56,7 @@ killed_while_held = refl
 
 -- ---- ids that are granted to one call
 
--- ids that the options give
+-- ids given by the options
 abbrev pub www : Ids
 www = ids 30 30 30 30
 
@@ -94,7 +93,7 @@ bound =
     (Permit 1 (ids 30 0 30 30)) true ∷
     Used 1 (Some 1) Bind (regs 3 0 16) (port "inet-[0.0.0.0]:80") (ids 30 0 30 30) (Value 0) [] ∷ []
 
--- up to the answer to the second, which is permitted as it is
+-- up to the answer to the second bind, which is permitted without a grant
 abbrev pub bound_again : List Entry
 bound_again =
     Entered 1 Bind (regs 4 8 16) (Held 2) ∷
@@ -184,7 +183,7 @@ shell inherit = input (record { mode = Enforce; inherit = inherit; aliasing = tr
     (traced "/bin/sh" 1000 1000 "/" ∷ [])
     (thread_in 1 (instr.Fork 2 ∷ []) ∷ forked_thread (put 0 "/bin/ls" ++ call Execve 0 64 0 ∷ opens "/x") ∷ []) []
 
--- up to the answer to the child's execve: process 2 has thread 2, and memory 2
+-- up to the answer to the child's execve: process 2 has thread 2, and space 2
 abbrev forked_child : List Entry
 forked_child =
     Entered 1 Fork (regs 0 0 0) Fast ∷
@@ -201,7 +200,7 @@ forked_child =
     (copies 1 2 user "/bin/sh" (Rule.Call Execve) Execve (regs 0 64 0) (arg Filename 0 "/bin/ls" ∷ arg Argv 0 "" ∷ []))
     (Permit 1 user) true ∷ []
 
--- the new binary's own policy holds from then on
+-- the new binary's own policy applies from then on
 child_and_new_binary : trace (shell false) (rest ∷ []) ≡ Some (
     forked_child ++
     Used 2 (Some 1) Execve (regs 0 64 0) (arg Filename 0 "/bin/ls" ∷ arg Argv 0 "" ∷ []) user (Value 0)
@@ -212,7 +211,7 @@ child_and_new_binary : trace (shell false) (rest ∷ []) ≡ Some (
     Ended 2 ∷ [])
 child_and_new_binary = refl
 
--- unless the option keeps the old one
+-- the option keeps the old policy
 new_binary_with_the_old_policy : trace (shell true) (rest ∷ []) ≡ Some (
     forked_child ++
     Used 2 (Some 1) Execve (regs 0 64 0) (arg Filename 0 "/bin/ls" ∷ arg Argv 0 "" ∷ []) user (Value 0)

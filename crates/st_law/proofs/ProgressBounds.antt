@@ -1,4 +1,4 @@
--- Only the first two parts of a call lie in memory, and where one asks for a word or a look it has taken few.
+-- Only the first two parts of a call can be in memory, and a part that needs one more word or look has taken few.
 use native.Mathlib.Omega.{arith}
 use Rattle.std.proofs.Common.{◌≡◌, ◌≤◌, ◌<◌, ℕ, ◌+◌, Bool, true, false, List, [], ◌∷◌, length, refl, ap, subst}
 use Rattle.std.specs.Prelude.{slice_index_or}
@@ -22,7 +22,7 @@ use Rattle.st_names.specs.declared.seen.SeenText.{SeenText}
 use Rattle.st_effects.specs.Progress.{Progress, Word, Look, Stuck, Ready, ArgRequest, with_arg, name_arg, text_arg, progress_of_walk, progress_of_text, progress_of_spelling, progress_from, progress}
 use Rattle.st_model.proofs.Words.{few_words_of}
 
--- whether a part lies in memory
+-- whether a part is in memory, by its kind
 abbrev is_in_memory : PartKind → Bool
 is_in_memory kind.Name = true
 is_in_memory kind.Plain = true
@@ -33,14 +33,14 @@ is_in_memory kind.Octal = false
 is_in_memory kind.Domain = false
 is_in_memory kind.SockType = false
 
--- no part behind the second lies in memory
+-- no part after the second is in memory
 abbrev AreEarly : ℕ → List ArgSpec → Type 0
 AreEarly j [] = Unit {0}
 AreEarly j (spec ∷ specs) = (is_in_memory spec.kind ≡ true → j < 2) × AreEarly (j + 1) specs
 
--- ---- what is asked for
+-- ---- parts that need more
 
--- how much the part that asks has taken: few words, or few looks
+-- the part that needs more has taken few words, or few looks
 abbrev pub IsFew : (ℕ → List ℕ) → (ℕ → List SeenText) → Progress → Type 0
 IsFew words lookups (Word part place) = (part < 2) × (length (words part) ≤ 192)
 IsFew words lookups (Look part name) = (part < 2) × (length (lookups part) < 4608)
@@ -54,7 +54,7 @@ module _ (words : ℕ → List ℕ) (lookups : ℕ → List SeenText) (within : 
   with_few arg (Stuck errno) x = tt
   with_few arg (Ready args) x = tt
 
-  -- a name's walk that asks has taken few looks
+  -- a walk of a name that needs one more look has taken few
   walk_few : (j : ℕ) (spec : ArgSpec) (cwd : Components) (follow : Bool) (text : List ℕ) (w : WalkState) (rest : Progress) → j < 2 → length text ≤ 1024 → start_walk text cwd follow (lookups j) ≡ w → IsFew words lookups rest → IsFew words lookups (progress_of_walk j spec w rest)
   walk_few j spec cwd follow text (walk.Name name) rest early short e x = with_few (name_arg spec name) rest x
   walk_few j spec cwd follow text (walk.Fault errno) rest early short e x = tt
@@ -73,7 +73,7 @@ module _ (words : ℕ → List ℕ) (lookups : ℕ → List SeenText) (within : 
   text_few kind.Domain j spec cwd follow text rest early short x = with_few (text_arg spec text) rest x
   text_few kind.SockType j spec cwd follow text rest early short x = with_few (text_arg spec text) rest x
 
-  -- what asks for a word lies in memory
+  -- a part that needs a word is in memory
   asks_in_memory : (k : PartKind) (at : ℕ) (copied : List ℕ) (place : ℕ) → spell k at copied ≡ More place → is_in_memory k ≡ true
   asks_in_memory kind.Name at copied place e = refl
   asks_in_memory kind.Plain at copied place e = refl
@@ -139,6 +139,6 @@ rule_early (rule.Call call) = call_early call
 rule_early rule.FsRead = (λ e. omega arith, tt)
 rule_early rule.FsWrite = (λ e. omega arith, tt)
 
--- where the arguments of a call ask for a word or a look, the part that asks is one of the first two, and has taken few
+-- if the arguments of a call need a word or a look, the part that needs it is one of the first two, and has taken few
 pub progress_few : (asked : ArgRequest) (words : ℕ → List ℕ) (lookups : ℕ → List SeenText) → ((j : ℕ) → AreWithin 128 (lookups j)) → IsFew words lookups (progress asked words lookups)
 progress_few asked words lookups within = from_few words lookups within 0 (args_of asked.rule) asked (rule_early asked.rule)

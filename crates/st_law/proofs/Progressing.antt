@@ -1,4 +1,4 @@
--- While a thread that has started hasn't ended, some choice is enabled.
+-- As long as some started thread hasn't ended, some choice is enabled.
 use native.Mathlib.Omega.{arith}
 use Rattle.std.proofs.Common.{◌≡◌, ◌≢◌, ◌≤◌, ℕ, ◌+◌, Bool, true, false, cond, not, ◌&&◌, ◌||◌, List, [], ◌∷◌, reverse, Option, Some, None, refl, sym, ap, subst, ◌∙◌}
 use Rattle.std.specs.Prelude.{is_some, nat_lt, nat_le}
@@ -51,13 +51,13 @@ use Rattle.st_law.specs.History.{looking_back}
 use Rattle.st_law.specs.Inputs.{IsStartable}
 use Rattle.st_law.proofs.Words.{asks_word, ends_in}
 
--- there is an entry
+-- the option has an entry
 abbrev pub Is : Option Entry → Type 0
 Is o = (e : Entry) × (o ≡ Some e)
 
--- ---- arguments in one step come to an end
+-- ---- arguments in one step: complete or a fault
 
--- all arguments are there, or there is a fault
+-- all arguments are complete, or there is a fault
 abbrev Ends : Progress → Type 0
 Ends (Word part place) = ⊥
 Ends (Look part name) = ⊥
@@ -97,7 +97,7 @@ parts_end j (spec ∷ specs) asked around =
     spelling_ends j spec asked around (spelled_in around.bytes spec.kind (slice_index_or asked.regs spec.register 0)) (parts_from (j + 1) specs asked around)
     (ends_in around.bytes spec.kind (slice_index_or asked.regs spec.register 0)) (parts_end (j + 1) specs asked around)
 
--- the arguments of a call that is made in one step come to an end
+-- the arguments of a call that is made in one step are complete or have a fault
 pub arguments_end : (asked : ArgRequest) (around : Surroundings) → Ends (arguments_in asked around)
 arguments_end asked around = parts_end 0 (args_of asked.rule) asked around
 
@@ -141,7 +141,7 @@ module _ (i : Input) (st : State) (whole : Whole i st) (some_worker : 1 ≤ i.op
       let x : Is (working_entry i st w q (progress_in st q)) = working_is w q head.0 head.1 (progress_in st q) in
       turn_is w (whole.turns.worker w q turn) (x.0, ap (turn_entry i st w) at ∙ x.1)
 
-  -- the least number of a kind is found
+  -- the search for the least number with a property finds one
   abbrev Found : (ℕ → Bool) → Option ℕ → Type 0
   Found is o = (m : ℕ) × (o ≡ Some m) × (is m ≡ true)
 
@@ -158,7 +158,7 @@ module _ (i : Input) (st : State) (whole : Whole i st) (some_worker : 1 ≤ i.op
         turn_is 1 first_worker (_, ap (turn_entry i st 1) at ∙ ap (claimed_entry 1) x.1)
     by (Some p) at = at_number 1 p (turn_of st (st.turns 1) p at) at
 
-  -- a number that lives, and was neither answered nor faulted, is somebody's, or waits
+  -- a live number that was neither answered nor faulted is some worker's, or waits
   unanswered_enabled : (q : ℕ) → is_live st q ≡ true → (st.messages q).answered ≡ false → (st.messages q).fault ≡ None → (b : Bool) → (st.messages q).claimed ≡ b → Enabled
   unanswered_enabled q live unanswered unfaulted true e =
       let x : (w : ℕ) × (st.turns w ≡ Some q) = whole.turns.served q e live unanswered unfaulted in at_number x.0 q x.1 (at_live st x.0 q x.1 live)

@@ -9,7 +9,7 @@ use Rattle.st_trace.specs.declared.entry.Change.TheVariants.{Made, Linked, Remov
 use Rattle.st_law.specs.Messages.{Head, head_after_change, head_after_changes, posted_after_change, is_renewed_by}
 use Rattle.st_law.proofs.Shapes.{IsQuiet, Each, AreQuiet}
 
--- what each of some changes leaves, all of them leave
+-- what each of some changes leaves unchanged, all of them leave unchanged
 pub fold_same : {A : Type 0} (f : A → Change → A) (P : Change → Type 0) → ((a : A) (c : Change) → P c → f a c ≡ a) → (a : A) (changes : List Change) → Each P changes → fold f a changes ≡ a
 fold_same f P same a [] each = refl
 fold_same f P same a (c ∷ changes) each = ap (λ b. fold f b changes) (same a c each.0) ∙ fold_same f P same a changes each.1
@@ -137,7 +137,7 @@ module _ (processes : ℕ → Process) (m p : ℕ) where
   pub policy_quiet : (changes : List Change) → AreQuiet changes → (process_after processes m p changes).policy ≡ (processes p).policy
   policy_quiet changes quiet = fold_policy (processes p) changes quiet
 
--- ---- a thread that is dying stays so
+-- ---- a dying thread stays dying
 
 dying_more : (t p u m : ℕ) (c : Change) → dying_after_change t p u m true c ≡ true
 dying_more t p u m (Made name obj kind uid gid mode) = refl

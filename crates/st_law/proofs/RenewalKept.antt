@@ -56,7 +56,7 @@ module _ (i : Input) (st : State) (inv : Invariant i st) (u : ℕ) (seq : Option
   abbrev process : Process
   process = process_after st.processes m m changes
 
-  -- ---- which numbers the held calls have
+  -- ---- the numbers of the held calls
 
   item_low : (held : HeldCall) → IsItem st held → IsLow next held
   item_low held x = let low = (open_of i st inv held.tid x.holder).low in let is = ap number_of x.is in omega (arith, low, is)
@@ -67,7 +67,7 @@ module _ (i : Input) (st : State) (inv : Invariant i st) (u : ℕ) (seq : Option
   fresh_other : (q : ℕ) → next ≤ q → EachHeld (IsOther m u q) helds
   fresh_other q high = others_above m u next q helds high (all_low helds (items st 1 (thread_count i)))
 
-  -- an item of another thread has another number than this thread's
+  -- a held call of another thread doesn't have this thread's number
   item_other : (t : ℕ) (c : SysCall) (r : List ℕ) → IsOpen st t c r → (held : HeldCall) → IsItemBut st t held → IsOther m u (st.threads t).number held
   item_other t c r x held y is_so same =
       numbers_differ st held.tid t y.0.holder.entered.call c y.0.holder.entered.regs r (open_of i st inv held.tid y.0.holder) x y.1 (sym (ap number_of y.0.is) ∙ same)
@@ -76,7 +76,7 @@ module _ (i : Input) (st : State) (inv : Invariant i st) (u : ℕ) (seq : Option
   pid_from true b e = refl
   pid_from false b e = cc
 
-  -- no item that is renewed is this thread's, where its process is another
+  -- no renewed call is this thread's, if its process is another
   away_other : (t : ℕ) (c : SysCall) (r : List ℕ) → IsOpen st t c r → (st.threads t).owner ≢ m → EachHeld (IsOther m u (st.threads t).number) helds
   away_other t c r x away = each_held (IsItem st) (IsOther m u (st.threads t).number)
       (λ held y is_so same. item_other t c r x held (y, λ own. away (sym (ap (λ n. (st.threads n).owner) own) ∙ sym (ap pid_of y.is) ∙ eqb-true held.pid m (pid_from (held.pid == m) (not (held.tid == u)) is_so))) is_so same)

@@ -1,4 +1,4 @@
--- What a renewal of all held calls of a process makes of each number.
+-- How a renewal of all held calls of a process changes each number.
 use native.Mathlib.Omega.{arith}
 use Rattle.std.proofs.Common.{◌≡◌, ◌≢◌, ◌≤◌, ◌<◌, ℕ, suc, ◌+◌, Bool, true, false, cond, not, ◌&&◌, ◌||◌, ◌==◌, List, [], ◌∷◌, ◌++◌, length, Option, refl, ap, ◌∙◌, option_map}
 use Rattle.std.proofs.lemmas.Bool.{eq-eqb, ne_eqb}
@@ -11,11 +11,11 @@ use Rattle.st_trace.specs.declared.entry.Change.{Change}
 use Rattle.st_trace.specs.declared.entry.Change.TheVariants.{Renewed}
 use Rattle.st_law.specs.Messages.{Head, renewed_head, head_after_change, posted_after_change, is_renewed_by}
 
--- a held call is renewed by thread u of process m: it is of this process, and another thread's
+-- whether thread u of process m renews a held call: the call is of the process, and another thread's
 abbrev pub is_renewable : ℕ → ℕ → HeldCall → Bool
 is_renewable m u held = held.pid == m && not (held.tid == u)
 
--- each of some held calls is of a kind
+-- each of some held calls has a property
 abbrev pub EachHeld : (HeldCall → Type 0) → List HeldCall → Type 0
 EachHeld P [] = Unit {0}
 EachHeld P (held ∷ more) = P held × EachHeld P more
@@ -24,11 +24,11 @@ pub each_held : (P Q : HeldCall → Type 0) → ((held : HeldCall) → P held �
 each_held P Q f [] x = tt
 each_held P Q f (held ∷ more) x = (f held x.0, each_held P Q f more x.1)
 
--- the number of a call that is renewed isn't this one
+-- the number of a held call, if the call is renewed, isn't this number
 abbrev pub IsOther : ℕ → ℕ → ℕ → HeldCall → Type 0
 IsOther m u q held = is_renewable m u held ≡ true → held.number ≢ q
 
--- its number is below this one
+-- the number of a held call is below this number
 abbrev pub IsLow : ℕ → HeldCall → Type 0
 IsLow next held = held.number < next
 
@@ -43,7 +43,7 @@ cases P true is_so not_so f g = f refl
 cases P false is_so not_so f g = g refl
 
 module _ (m u : ℕ) where
-  -- what holds of the renewals of one more held call
+  -- a property of the renewals of one more held call
   pub one_more : (P : List Change → Type 0) (next : ℕ) (held : HeldCall) (more : List HeldCall) → (is_renewable m u held ≡ true → P (Renewed held.number next ∷ renewals m u (next + 1) more)) → (is_renewable m u held ≡ false → P (renewals m u next more)) → P (renewals m u next (held ∷ more))
   one_more P next held more is_so not_so = cases P (is_renewable m u held) (Renewed held.number next ∷ renewals m u (next + 1) more) (renewals m u next more) is_so not_so
 
@@ -61,7 +61,7 @@ module _ (m u : ℕ) where
       (λ is_so. ap (λ n. fold (is_renewed_by q) n (renewals m u (next + 1) more)) (ap (λ c. c || before) (ne_eqb held.number q (x.0 is_so))) ∙ renewed_other q before (next + 1) more x.1)
       (λ not_so. renewed_other q before next more x.1)
 
-  -- ---- what a renewal leaves
+  -- ---- what a renewal leaves unchanged
 
   pub renewals_same : {A : Type 0} (f : A → Change → A) → ((a : A) (old fresh : ℕ) → f a (Renewed old fresh) ≡ a) → (a : A) (next : ℕ) (helds : List HeldCall) → fold f a (renewals m u next helds) ≡ a
   renewals_same f same a next [] = refl
@@ -100,9 +100,9 @@ module _ (m u : ℕ) where
         ap (λ k. fold (head_after_change heads process q) k (renewals m u (next + 1) more)) (ap (λ c. cond c (option_map (renewed_head process) (heads held.number)) before) (ne_eqb next q (λ e. omega (arith, e, low, high, same)))) ∙ head_above q before (suc n) (next + 1) more (omega (arith, same)) high)
         (λ not_so high. head_above q before n next more same high)
 
-    -- ---- the number of a call that is renewed
+    -- ---- the number of a renewed call
 
-    -- what changes make of number n, the numbers that they draw being from this one on: it has a new number, whose head is the renewed one
+    -- these changes, which draw numbers from `next` on, renew number n as a new number, whose head is the renewed one
     pub record IsRenewal (n posted next : ℕ) (changes : List Change) : Type 0 where
       pub number : ℕ
       pub drawn : seq_after n changes ≡ number
@@ -110,7 +110,7 @@ module _ (m u : ℕ) where
       pub high : number ≤ fold posted_after_change posted changes
       pub head : (before : Option Head) → fold (head_after_change heads process number) before changes ≡ option_map (renewed_head process) (heads n)
 
-    -- the call is the first of those that are renewed
+    -- the call is the first that is renewed
     renewal_here : (n posted next : ℕ) (held : HeldCall) (more : List HeldCall) → next ≡ suc posted → held.number ≡ n → EachHeld (IsLow next) more → IsRenewal n posted next (Renewed held.number next ∷ renewals m u (next + 1) more)
     renewal_here n posted next held more same is low = record {
       number = next;
@@ -131,7 +131,7 @@ module _ (m u : ℕ) where
       head = λ before. x.head (cond (next == x.number) (option_map (renewed_head process) (heads held.number)) before);
     }
 
-    -- a call that is renewable among held calls, all of which have lower numbers, and those before it that are renewed other ones
+    -- the call is renewable, all held calls have lower numbers than the drawn ones, and the renewed calls before it have other numbers
     pub renewal_of : (n posted next : ℕ) (front : List HeldCall) (held : HeldCall) (more : List HeldCall) → next ≡ suc posted → held.number ≡ n → is_renewable m u held ≡ true → EachHeld (IsOther m u n) front → EachHeld (IsLow next) front → EachHeld (IsLow next) more → IsRenewal n posted next (renewals m u next (front ++ held ∷ more))
     renewal_of n posted next [] held more same is is_so other low_front low = one_more (IsRenewal n posted next) next held more
         (λ y. renewal_here n posted next held more same is low)

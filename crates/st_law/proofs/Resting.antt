@@ -1,4 +1,4 @@
--- What `rest` stands for: behind it no choice is enabled.
+-- After the choices that `rest` gives, no choice is enabled.
 use native.Mathlib.Omega.{arith}
 use Rattle.std.proofs.Common.{◌≡◌, ◌≤◌, ◌<◌, ℕ, zero, suc, ◌+◌, Bool, true, false, cond, ◌||◌, ◌==◌, List, [], ◌∷◌, ◌++◌, reverse, Option, Some, None, refl, sym, ap, subst, ◌∙◌}
 use Rattle.std.specs.Prelude.{nat_lt, nat_le}
@@ -29,7 +29,7 @@ use Rattle.st_law.proofs.Whole.{whole_of}
 
 -- ---- the first choice that is enabled
 
--- a choice that is found is enabled, and where none is found, none of those that were looked at is
+-- a choice that is found is enabled; if none is found, none of those that were tried is enabled
 abbrev IsFound : Input → State → EnabledChoice → Type 0
 IsFound i st found = entry_of i st found.choice ≡ Some found.entry
 
@@ -64,11 +64,11 @@ module _ (i : Input) (st : State) where
         by p low high true f first later = subst (λ m. entry_of i st (of m) ≡ None) (eqb-true n p f) first
         by p low high false f first later = let differ = eqb-false n p f in later p (omega (arith, low, differ)) (omega (arith, high))
 
-  -- a thread that hasn't started, and a worker that isn't there, have no step
+  -- a thread that hasn't started, and a worker that doesn't exist, have no step
   unstarted : (t : ℕ) → (st.threads t).owner ≡ 0 → thread_entry i st t ≡ None
   unstarted t e = ap (λ b. cond (b || (st.threads t).ended) None (cond (st.threads t).dying (Some (Ended t)) (running_entry i st t (st.threads t).pending))) (eq-eqb (st.threads t).owner 0 e)
 
-  -- where no first choice is found, no choice is enabled
+  -- if no first choice is found, no choice is enabled
   pub none_enabled : Invariant i st → first_enabled i st ≡ None → IsSettled i st
   none_enabled inv e =
       let threads = none_of choice.Thread 1 (thread_count i) _ e in
@@ -100,14 +100,14 @@ module _ (i : Input) (startable : IsStartable i) where
   lawful_entry : (made : List Choice) (c : Choice) (e : Entry) → entry_of i (state_of_run i made) c ≡ Some e → IsLawful i (looking_back i (history i (reverse made))) e
   lawful_entry made c e enabled = subst (Says (IsLawful i (looking_back i (history i (reverse made))))) enabled (lawful_step i startable (history i (reverse made)) c (lawful_history i startable (reverse made)))
 
-  -- the entry of the first choice leaves a step less to do
+  -- the entry of the first choice leaves at least one step less
   found_less : (made : List Choice) (found : EnabledChoice) → first_enabled i (state_of_run i made) ≡ Some found → steps_left i (state_after i (looking_back i (history i (reverse made))) found.entry) + 1 ≤ steps_left i (looking_back i (history i (reverse made)))
   found_less made found e =
       let lawful : IsLawfulBack i (history i (reverse made)) = lawful_history i startable (reverse made) in
       lessens i (looking_back i (history i (reverse made))) (whole_of i startable (history i (reverse made)) lawful) (copies_of i startable (history i (reverse made)) lawful) startable.few_threads (session_plain i startable (history i (reverse made))) found.entry
       (lawful_entry made found.choice found.entry (first_found i (state_of_run i made) found e))
 
-  -- behind the first choice the history has its entry
+  -- after the first choice the history has its entry
   found_history : (made : List Choice) (found : EnabledChoice) → first_enabled i (state_of_run i made) ≡ Some found → history i (reverse (made ++ found.choice ∷ [])) ≡ found.entry ∷ history i (reverse made)
   found_history made found e = run_of made found.choice ∙ ap (history_with (history i (reverse made))) (first_found i (state_of_run i made) found e)
 
@@ -130,6 +130,6 @@ module _ (i : Input) (startable : IsStartable i) where
   rest_ends zero made few = rest_over made few (first_enabled i (state_of_run i made)) refl
   rest_ends (suc count) made few = rest_further count made few (rest_ends count) (first_enabled i (state_of_run i made)) refl
 
-  -- behind the choices that `rest` stands for no choice is enabled, whatever was played before it and however many more it may make
+  -- after the choices that `rest` gives no choice is enabled, whatever was played before and however many more choices it may make
   pub rest_settles : (made : List Choice) (count : ℕ) → most_steps i ≤ count → IsRested i (rest_from count i (state_of_run i made) made)
   rest_settles made count enough = rest_ends count made (let bound = bound_of i startable (history i (reverse made)) (lawful_history i startable (reverse made)) in omega (arith, bound, enough))

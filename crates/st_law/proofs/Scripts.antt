@@ -1,4 +1,4 @@
--- What several computed runs share: a reader of /etc/passwd with its files and its policy, and what is told of runs.
+-- Definitions that several computed runs share: a reader of /etc/passwd with its files and its policy, and queries on runs.
 use Prim.Native.String.{String}
 use Rattle.std.proofs.Common.{ℕ, true, false, List, [], ◌∷◌, ◌++◌, Some, None, codes}
 use Rattle.std.specs.Prelude.{Bool, Option, filter, length}
@@ -50,19 +50,19 @@ many_files =
 abbrev pub more_files : List TreeRow
 more_files = many_files ++ dir "/tmp/e" 0 0 511 ∷ file "/tmp/f" 0 0 420 (codes "f") ∷ file "/tmp/e/f" 0 0 493 (codes "ef") ∷ []
 
--- a file is read only by this name
+-- a file may be read only by this name
 abbrev pub reads_only : String → FilterValue
 reads_only text = when FsRead (test "filename" op.Eq text) action.Permit
 
 abbrev pub passwd_only : FilterValue
 passwd_only = reads_only "/etc/passwd"
 
--- one traced process, by its policy, objects and threads
+-- one traced process, with its policy, objects and threads
 abbrev pub cat_input : List FilterValue → List TreeRow → List ThreadRow → Input
 cat_input filters objects threads =
     input (plainly Enforce) (policy "/bin/cat" filters ∷ []) objects (traced "/bin/cat" 1000 1000 "/" ∷ []) threads []
 
--- the same without a policy, where the operator answers
+-- the same without a policy, and with an operator that answers
 abbrev pub asking_input : Mode → List TreeRow → List ThreadRow → List Reply → Input
 asking_input mode objects threads replies =
     input (plainly mode) [] objects (traced "/bin/cat" 1000 1000 "/" ∷ []) threads replies
@@ -82,22 +82,22 @@ root = ids 0 0 0 0
 abbrev pub filename : String → List ArgText
 filename text = arg Filename 0 text ∷ []
 
--- the copies of an open of process 1, by their number, ids and name
+-- the copies of an open of process 1, by number, ids and name
 abbrev pub cat_copies : ℕ → Ids → String → Snapshot
 cat_copies q ids text = copies q 1 ids "/bin/cat" FsRead Open (regs 0 0 0) (filename text)
 
--- an open of thread 1 that was held, made under these ids
+-- an open of thread 1 that was held is made under these ids
 abbrev pub opened : ℕ → String → Ids → ℕ → Entry
 opened q text ids fd = Used 1 (Some q) Open (regs 0 0 0) (filename text) ids (Value fd) []
 
--- an open of /etc/passwd is held under number 1 and waits for its answer: its name stands in two words, and has two components
+-- an open of /etc/passwd is held under number 1 and waits for its answer: its name takes two words, and has two components
 abbrev pub passwd_copied : List Entry
 passwd_copied =
     Stored 1 0 8314049735936992559 ∷ Stored 1 1 6584179 ∷ Entered 1 Open (regs 0 0 0) (Held 1) ∷ Claimed 1 1 ∷
     Copied 1 0 0 8314049735936992559 ∷ Copied 1 0 1 6584179 ∷
     Looked 1 0 (name "/etc") Dir ∷ Looked 1 0 (name "/etc/passwd") File ∷ []
 
--- ---- what is told of runs
+-- ---- queries on runs
 
 abbrev pub is_call_end : Entry → Bool
 is_call_end (Used t seq call regs args ids result changes) = true
@@ -116,7 +116,7 @@ is_ending (Replied q reply number) = true
 is_ending (Learned q number) = true
 is_ending e = is_call_end e
 
--- how its held calls are judged, and how its calls end
+-- how the held calls of a run are judged, and how its calls end
 abbrev pub judgements_of : Option (List Entry) → List Entry
 judgements_of None = []
 judgements_of (Some entries) = filter is_ending entries

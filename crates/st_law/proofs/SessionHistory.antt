@@ -1,4 +1,4 @@
--- What a session adds is read off the entries.
+-- The filters that a session adds are read off the entries.
 use Rattle.std.proofs.Common.{◌≡◌, ◌⊎◌, ℕ, true, ◌==◌, List, [], ◌∷◌, ◌++◌, Option, Some, None, refl, ap, sym, ◌∙◌, inr, append-nil}
 use Rattle.std.proofs.lemmas.Bool.{eq-eqb}
 use Rattle.st_base.specs.Numbered.{item_at_number}
@@ -15,7 +15,7 @@ use Rattle.st_law.specs.State.{snapshot_of_message}
 use Rattle.st_law.specs.Threads.{History}
 use Rattle.st_law.proofs.Splitting.{same_by, either_true, or_left_true, or_right_true, last_of, true_behind}
 
--- nothing is learnt where there are no copies
+-- nothing is learnt if there are no copies
 nothing_learnt : (before : List SessionFilter) (o : Option Snapshot) → ((s : Snapshot) → o ≡ Some s → ⊥) → before ++ learnt_by o ≡ before
 nothing_learnt before None none = append-nil before
 nothing_learnt before (Some s) none = absurd (none s refl)

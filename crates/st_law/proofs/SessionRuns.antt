@@ -1,4 +1,4 @@
--- Runs where the operator answers: what each entry should be was worked out from the rules.
+-- Runs in which the operator answers: the expected entries were derived from the rules.
 use Rattle.std.proofs.Common.{◌≡◌, true, List, [], ◌∷◌, ◌++◌, Some, None, refl, codes}
 use Rattle.std.specs.Prelude.{Option, map, reverse}
 use Rattle.st_base.specs.declared.errno.Errno.TheVariants.{EPERM}
@@ -38,12 +38,12 @@ learnt : trace learner (rest ∷ []) ≡ Some (
     Ended 1 ∷ [])
 learnt = refl
 
--- what was learnt is the filter of this name
+-- the learnt filter is the one for this name
 the_learnt_filter : session_after_run learner (trace learner (rest ∷ []))
     ≡ record { policy = codes "/bin/cat"; rule = FsRead; filter = passwd_only } ∷ []
 the_learnt_filter = refl
 
--- the same run under the filters that were learnt
+-- the same run with the learnt filters as its policy
 enforced_with_the_learnt_filter : trace
     (cat_input (map (λ kept. kept.filter) (session_after_run learner (trace learner (rest ∷ [])))) etc_files
     (thread_in 1 (opens "/etc/passwd") ∷ []))

@@ -1,5 +1,5 @@
--- Which changes a call makes: those of a fork, of an execve, of a call that sets ids, and all others, which leave every process's ids
--- and policy, the numbers of messages, and who is of which process.
+-- The changes that a call can make: those of a fork, of an execve, of a call that sets ids, and all others. The others leave every
+-- process's ids and policy, the numbers of messages, and the processes of threads.
 use Rattle.std.proofs.Common.{◌≡◌, ℕ, Bool, true, false, cond, ◌==◌, List, [], ◌∷◌, Option, Some, None, refl}
 use Rattle.st_base.specs.Errno.{first_error}
 use Rattle.st_base.specs.declared.errno.Errno.{Errno}
@@ -36,7 +36,7 @@ IsQuiet (Renewed old new) = ⊥
 IsQuiet (Policy binary) = ⊥
 IsQuiet _ = Unit {0}
 
--- each of some changes is of a kind
+-- each of some changes has a property
 abbrev pub Each : (Change → Type 0) → List Change → Type 0
 Each P [] = Unit {0}
 Each P (c ∷ cs) = P c × Each P cs
@@ -44,7 +44,7 @@ Each P (c ∷ cs) = P c × Each P cs
 abbrev pub AreQuiet : List Change → Type 0
 AreQuiet changes = Each IsQuiet changes
 
--- the changes of a call, over a system
+-- the changes that a call can make in a system
 pub data Shape (system : System) (request : Request) (call : SysCall) (changes : List Change) : Type 0 where
   quiet : AreQuiet changes → Shape system request call changes
   forked : call ≡ Fork → changes ≡ Forked system.next_process system.next_space request.child ∷ [] → Shape system request call changes
@@ -55,12 +55,12 @@ module _ (system : System) (request : Request) (call : SysCall) where
   abbrev Shaped : Outcome → Type 0
   Shaped outcome = Shape system request call outcome.changes
 
-  -- a call that is refused changes nothing
+  -- a refused call changes nothing
   unless_error_shaped : (o : Option Errno) (outcome : Outcome) → Shaped outcome → Shaped (unless_error system o outcome)
   unless_error_shaped None outcome x = x
   unless_error_shaped (Some errno) outcome x = quiet tt
 
-  -- calls that change nothing, one thing, or two
+  -- calls with no change, one change, or two changes
   unless : (reasons : List (Option Errno)) (outcome : Outcome) → Shaped outcome → Shaped (unless_refused system reasons outcome)
   unless reasons outcome x = unless_error_shaped (first_error reasons) outcome x
 

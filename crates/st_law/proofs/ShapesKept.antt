@@ -1,4 +1,4 @@
--- What each shape of changes leaves of threads, processes and numbers.
+-- What each kind of changes leaves of threads, processes and numbers.
 use native.Mathlib.Omega.{arith}
 use Rattle.std.proofs.Common.{◌≡◌, ◌≢◌, ◌<◌, ℕ, suc, Bool, true, false, cond, not, ◌&&◌, ◌||◌, ◌==◌, List, [], ◌∷◌, Option, refl, sym, ap, subst, ◌∙◌}
 use Rattle.std.proofs.lemmas.Bool.{eqb-true, ne_eqb, and_right, or_parts}
@@ -77,7 +77,7 @@ module _ (i : Input) (st : State) (inv : Invariant i st) (u : ℕ) (seq : Option
   -- ---- an execve
 
   module _ (binary : List ℕ) where
-    -- a thread of another process: those of this one are dying but for the caller
+    -- a thread is of another process: those of this process are dying, except the caller
     elsewhere : (t : ℕ) (dying : Bool) → t ≢ u → (dying || ((st.threads u).owner == (st.threads t).owner && not (u == t))) ≡ false → ((st.threads u).owner == (st.threads t).owner) ≡ false
     elsewhere t dying differ e =
         unlike ((st.threads u).owner == (st.threads t).owner) (u == t) (ne_eqb u t (λ same. differ (sym same))) ((or_parts dying ((st.threads u).owner == (st.threads t).owner && not (u == t)) e).1) where

@@ -1,4 +1,4 @@
--- What is known of the arguments of a call that is made: the text of a new link is short, and what is opened or cut is no link.
+-- Facts about the arguments of a call that takes effect: the target of a new link is short, and what is opened or cut is no link.
 use native.Mathlib.Omega.{arith}
 use Rattle.std.proofs.Common.{◌≡◌, ◌≤◌, ℕ, zero, suc, Bool, true, false, cond, not, ◌&&◌, ◌||◌, List, [], ◌∷◌, ◌++◌, length, slice_get, slice_index_or, option_map, unwrap_or, Option, Some, None, refl, sym, ap, subst, ◌∙◌}
 use Rattle.std.proofs.lemmas.List.{append_assoc, append-nil}
@@ -40,13 +40,13 @@ HasShortFirst _ args = Unit {0}
 
 -- ---- texts that words spell
 
--- what is spelled isn't too long
+-- a spelled text isn't too long
 abbrev IsShortSpelled : Spelled → Type 0
 IsShortSpelled (Text text) = length text ≤ LONGEST_TEXT
 IsShortSpelled (Fault errno) = Unit {0}
 IsShortSpelled (More place) = Unit {0}
 
--- by what the words come to
+-- by the spelling
 spelled_short : (at : ℕ) (words : List ℕ) (s : Spelled) → spell_text LONGEST_TEXT at words ≡ s → IsShortSpelled s
 spelled_short at words (Text text) e = short_text_of LONGEST_TEXT at words text e
 spelled_short at words (Fault errno) e = tt
@@ -56,7 +56,7 @@ spelled_short at words (More place) e = tt
 spell_short : (at : ℕ) (words : List ℕ) → IsShortSpelled (spell kind.Plain at words)
 spell_short at words = spelled_short at words (spell_text LONGEST_TEXT at words) refl
 
--- by what comes of a word more
+-- by the spelling with one more word
 on_short : (further : ℕ → Spelled) (s : Spelled) → IsShortSpelled s → ((place : ℕ) → IsShortSpelled (further place)) → IsShortSpelled (spelled_on further s)
 on_short further (Text text) short rest = short
 on_short further (Fault errno) short rest = tt
@@ -69,9 +69,9 @@ within_short (suc count) at bytes words =
     on_short (λ place. spelled_within count kind.Plain at bytes (words ++ word_of bytes place ∷ [])) (spell kind.Plain at words) (spell_short at words)
     (λ place. within_short count at bytes (words ++ word_of bytes place ∷ []))
 
--- ---- arguments that are all there
+-- ---- complete arguments
 
--- the text of the first one, where all are there
+-- the text of the first argument, if all are complete
 abbrev ready_text : Progress → List ℕ
 ready_text (Word part place) = []
 ready_text (Look part name) = []
@@ -82,7 +82,7 @@ ready_text (Ready args) = first_text args
 abbrev target_spec : ArgSpec
 target_spec = argument String 0 kind.Plain
 
--- a text in front of the other arguments
+-- a text before the other arguments
 with_short : (text : List ℕ) (rest : Progress) → length text ≤ LONGEST_TEXT → length (ready_text (with_arg (text_arg target_spec text) rest)) ≤ LONGEST_TEXT
 with_short text (Word part place) short = omega arith
 with_short text (Look part name) short = omega arith
@@ -101,24 +101,24 @@ part_short asked tree (Text text) rest short = with_short text rest short
 part_short asked tree (Fault errno) rest short = omega arith
 part_short asked tree (More place) rest short = omega arith
 
--- aliases leave the rule of a call that makes a link
+-- aliasing doesn't change the rule of a call that makes a link
 symlink_rule : (regs : List ℕ) (aliasing : Bool) → rule_of Symlink regs aliasing ≡ Call Symlink
 symlink_rule regs true = refl
 symlink_rule regs false = refl
 
--- of a held call
+-- the arguments of a held call
 held_short : (asked : ArgRequest) (words : ℕ → List ℕ) (lookups : ℕ → List SeenText) → asked.rule ≡ Call Symlink → length (ready_text (progress asked words lookups)) ≤ LONGEST_TEXT
 held_short asked words lookups is =
     subst (λ rule. length (ready_text (progress_from 0 (args_of rule) asked words lookups)) ≤ LONGEST_TEXT) (sym is)
     (held_part_short asked.cwd (follows asked.call asked.regs 0) (lookups 0) (spell kind.Plain (slice_index_or asked.regs 0 0) (words 0)) _ (spell_short (slice_index_or asked.regs 0 0) (words 0)))
 
--- of a call that isn't held
+-- the arguments of a call that isn't held
 unheld_short : (asked : ArgRequest) (around : Surroundings) → asked.rule ≡ Call Symlink → length (ready_text (arguments_in asked around)) ≤ LONGEST_TEXT
 unheld_short asked around is =
     subst (λ rule. length (ready_text (parts_from 0 (args_of rule) asked around)) ≤ LONGEST_TEXT) (sym is)
     (part_short asked around.tree (spelled_in around.bytes kind.Plain (slice_index_or asked.regs 0 0)) _ (within_short SPACE_WORDS (slice_index_or asked.regs 0 0) around.bytes []))
 
--- the arguments of a call that isn't held, once they are there
+-- the complete arguments of a call that isn't held
 pub arguments_short : (i : Input) (st : State) (t : ℕ) (call : SysCall) (regs : List ℕ) (found : List ArgText) → arguments_now i st t call regs ≡ Ready found → HasShortFirst call found
 arguments_short i st t Symlink regs found ready =
     let asked : ArgRequest = record { rule = rule_of Symlink regs i.options.aliasing; call = Symlink; regs = regs; cwd = (process_in st t).cwd } in
@@ -152,9 +152,9 @@ pub copies_short : (i : Input) (st : State) (q : ℕ) (s : Snapshot) (call : Sys
 copies_short i st q s Symlink rule copies is = copies_by i q s (st.messages q).head (st.messages q).words (st.messages q).lookups rule copies is
 copies_short i st q s _ rule copies is = tt
 
--- ---- names that meet no link
+-- ---- names without a link in the way
 
--- where no link is met on the way to a name, it has none itself
+-- if no link is on the way to a name, whose end is followed, the name itself is no link's
 unlinked_along : (tree : Tree) (done rest : Components) → is_link_at tree done ≡ false → link_along tree true done rest ≡ None → is_link_at tree (done ++ rest) ≡ false
 unlinked_along tree done [] here none = ap (is_link_at tree) (append-nil done) ∙ here
 unlinked_along tree done (part ∷ rest) here none =
@@ -165,7 +165,7 @@ unlinked_along tree done (part ∷ rest) here none =
       by true e = cc
       by false e = (refl, e)
 
--- where neither of two is there, the first is not
+-- if neither of two names exists, the first does not
 first_none : (o other : Option Components) → first_of_two o other ≡ None → o ≡ None
 first_none None other e = refl
 first_none (Some name) other e = cc
@@ -175,7 +175,7 @@ root_unlinked : (nodes : List Node) → IsPlainAt nodes 0 → is_link_node (slic
 root_unlinked [] plain = absurd plain
 root_unlinked (node ∷ nodes) plain = plain
 
--- a name that is followed to its end is no link's, where no link is met
+-- a name that is followed to its end is no link's, if no link is in the way
 first_unlinked : (tree : Tree) (call : SysCall) (regs : List ℕ) (args : List ArgText) → IsPlainAt tree.objects 0 → follows call regs 0 ≡ true → link_among tree call regs (filename ∷ []) args ≡ None → is_link_at tree (components_of (first_text args)) ≡ false
 first_unlinked tree call regs [] root follow none = root_unlinked tree.objects root
 first_unlinked tree call regs (arg ∷ args) root follow none =
@@ -183,7 +183,7 @@ first_unlinked tree call regs (arg ∷ args) root follow none =
     unlinked_along tree [] (components_of arg.text) (root_unlinked tree.objects root)
     (subst (λ b. link_on_way tree b (components_of arg.text) ≡ None) follow way)
 
--- what is opened or cut has one name
+-- the argument of an open is one name
 open_args : (regs : List ℕ) (aliasing : Bool) → args_of (rule_of Open regs aliasing) ≡ filename ∷ []
 open_args regs true = by (reads_alone (slice_index_or regs 1 0)) where
   by : (b : Bool) → args_of (cond b FsRead FsWrite) ≡ filename ∷ []
@@ -191,12 +191,12 @@ open_args regs true = by (reads_alone (slice_index_or regs 1 0)) where
   by false = refl
 open_args regs false = refl
 
--- the same of what is cut
+-- the argument of a truncate is one name
 truncate_args : (regs : List ℕ) (aliasing : Bool) → args_of (rule_of Truncate regs aliasing) ≡ filename ∷ []
 truncate_args regs true = refl
 truncate_args regs false = refl
 
--- the arguments of a call that meets no link
+-- the arguments of a call without a link in its way
 pub fit_arguments : (i : Input) (st : State) (t : ℕ) (call : SysCall) (regs : List ℕ) (args : List ArgText) (ids : Ids) → IsPlainAt st.tree.objects 0 → link_now i st call regs args ≡ None → HasShortFirst call args → HasFitArguments (system_of i st) (request_of i st t regs args ids) call
 fit_arguments i st t Open regs args ids root none short = λ unexcluded.
     first_unlinked st.tree Open regs args root (ap not unexcluded)

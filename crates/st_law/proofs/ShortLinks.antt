@@ -1,4 +1,4 @@
--- The links of the tree of every lawful run are short, so that a look at one of them shows few components.
+-- The links of the tree of every lawful run are short, so a look at one of them shows few components.
 use native.Mathlib.Omega.{arith}
 use Rattle.std.proofs.Common.{◌≡◌, ◌≤◌, ℕ, zero, suc, Bool, true, false, cond, ◌==◌, List, [], ◌∷◌, ◌++◌, slice_get, option_map, Option, Some, None, refl, sym, subst}
 use Rattle.std.specs.List.{fold, range_with_len}
@@ -41,8 +41,8 @@ use Rattle.st_law.proofs.ShortOutcomes.{Fits, fits_of}
 use Rattle.st_law.proofs.ShortTables.{HasPlainFiles, files_then, close_all_plain, start_plain}
 use Rattle.st_law.proofs.ShortTrees.{IsShortContent, AreShort, HasShortLinks, IsPlainAt, IsShortStep, AreFit, steps_of, short_rows}
 
--- what holds of the record of every lawful run: links are short, neither the root nor what is open is a link, and the rule of a
--- held call is that of its call and registers
+-- an invariant of every lawful run: links are short, neither the root nor an open file is a link, and the rule of a held call is that of
+-- its call and registers
 pub record Short (i : Input) (st : State) : Type 0 where
   pub links : HasShortLinks st.tree
   pub root : IsPlainAt st.tree.objects 0
@@ -52,7 +52,7 @@ pub record Short (i : Input) (st : State) : Type 0 where
 -- ---- heads
 
 module _ (i : Input) where
-  -- a renewed head has the rule that it had
+  -- a renewed head keeps its rule
   rule_renewed : (process : Process) (o : Option Head) → HasRule i o → HasRule i (option_map (renewed_head process) o)
   rule_renewed process None rule = tt
   rule_renewed process (Some head) rule = rule
@@ -71,7 +71,7 @@ module _ (i : Input) where
     rule_changes before [] rule = rule
     rule_changes before (c ∷ changes) rule = rule_changes (head_after_change heads process q before c) changes (rule_change before c rule)
 
-  -- the head of a call that is held
+  -- the head of a held call
   rule_entered : (processes : ℕ → Process) (m t : ℕ) (call : SysCall) (regs : List ℕ) (way : Way) (heads : ℕ → Option Head) → ((q : ℕ) → HasRule i (heads q)) → (q : ℕ) → HasRule i (head_after i processes m heads (Entered t call regs way) q)
   rule_entered processes m t call regs Fast heads rules q = rules q
   rule_entered processes m t call regs Untraced heads rules q = rules q
@@ -88,7 +88,7 @@ module _ (i : Input) (st : State) (x : Short i st) where
     abbrev outcome : Outcome
     outcome = effect (system_of i st) call (request_of i st t regs args ids)
 
-    -- behind changes that fit
+    -- after changes that fit
     used_short : (result : CallResult) (changes : List Change) → AreFit st.tree.objects changes → HasPlainFiles (tree_after st.tree changes).objects (new result changes).descriptors → Short i (new result changes)
     used_short result changes fit files =
         let step : IsShortStep st.tree.objects (tree_after st.tree changes).objects = steps_of st.tree changes fit in record {
@@ -133,12 +133,12 @@ module _ (i : Input) (st : State) (x : Short i st) where
 
   -- ---- every entry
 
-  -- what is open behind the end of a thread
+  -- the open files after the end of a thread
   ended_files : (t : ℕ) (b : Bool) → HasPlainFiles st.tree.objects (cond b (table_after_close_all st.descriptors (st.threads t).owner) st.descriptors)
   ended_files t true = close_all_plain st.tree.objects st.descriptors (st.threads t).owner x.files
   ended_files t false = x.files
 
-  -- what holds of the record holds behind each lawful entry
+  -- the invariant is kept by each lawful entry
   pub short_behind : (e : Entry) → IsLawful i st e → Short i (state_after i st e)
   short_behind (Used t seq call regs args ids result changes) y = call_short t seq call regs args ids result changes y
   short_behind (Entered t call regs way) y = record { links = x.links; root = x.root; files = x.files; rules = λ q. rule_entered i st.processes (st.threads t).owner t call regs way (λ p. (st.messages p).head) x.rules q }
@@ -155,7 +155,7 @@ module _ (i : Input) (st : State) (x : Short i st) where
 
 -- ---- every lawful history
 
--- it holds of the record before the first entry
+-- the invariant holds before the first entry
 short_first : (i : Input) → IsStartable i → Short i (first_state i)
 short_first i startable =
     let step : IsShortStep root_only.objects (first_tree i).objects = short_rows i.start.tree root_only startable.targets in record {
@@ -165,7 +165,7 @@ short_first i startable =
       rules = λ q. tt;
     }
 
--- it holds of what looking back on a lawful history says
+-- the invariant holds after each lawful history
 pub short_of : (i : Input) → IsStartable i → (h : History) → IsLawfulBack i h → Short i (looking_back i h)
 short_of i startable [] lawful = short_first i startable
 short_of i startable (e ∷ h) lawful = short_behind i (looking_back i h) (short_of i startable h lawful.1) e lawful.0
@@ -176,18 +176,18 @@ links_short i startable h lawful = (short_of i startable h lawful).links
 
 -- ---- looks
 
--- an object, if there is one, is no link with a long target
+-- a node, if there is one, is no link with a long target
 abbrev IsShortNode : Option Node → Type 0
 IsShortNode None = Unit {0}
 IsShortNode (Some node) = IsShortContent node.kind node.content
 
--- the object at a place
+-- the node at an index
 get_short : (nodes : List Node) (place : ℕ) → AreShort nodes → IsShortNode (slice_get nodes place)
 get_short [] place all = tt
 get_short (node ∷ nodes) zero all = all.0
 get_short (node ∷ nodes) (suc place) all = get_short nodes place all.1
 
--- the object of a number
+-- the node of an object's number
 at_short : (tree : Tree) (o : Option ℕ) → HasShortLinks tree → IsShortNode (node_at tree o)
 at_short tree None all = tt
 at_short tree (Some zero) all = tt
@@ -217,6 +217,6 @@ along_short : (tree : Tree) (done rest : Components) → HasShortLinks tree → 
 along_short tree done [] all = seen_short (node_of tree done) (at_short tree (object_of tree done) all)
 along_short tree done (part ∷ rest) all = through_short (node_of tree done) (look_along tree (done ++ part ∷ []) rest) (along_short tree (done ++ part ∷ []) rest all)
 
--- what is seen of a name of a tree with short links has at most 128 components
+-- a look at a name of a tree with short links shows at most 128 components
 pub looked_short : (tree : Tree) (name : Components) → HasShortLinks tree → link_parts (look tree name) ≤ 128
 looked_short tree name all = along_short tree [] name all

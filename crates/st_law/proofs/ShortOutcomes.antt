@@ -1,4 +1,4 @@
--- What each call leaves of short links and of open files that are no links.
+-- Each call keeps links short, and leaves no open file that is a link.
 use Rattle.std.proofs.Common.{◌≡◌, ◌≤◌, ℕ, ◌+◌, Bool, true, false, cond, not, ◌&&◌, ◌==◌, List, [], ◌∷◌, ◌++◌, length, Option, Some, None, refl}
 use Rattle.st_base.specs.Errno.{first_error, error_if}
 use Rattle.st_base.specs.declared.errno.Errno.{Errno}
@@ -35,12 +35,12 @@ use Rattle.st_law.specs.Inputs.{HasShortTarget}
 use Rattle.st_law.proofs.ShortTables.{IsPlainFile, HasPlainFiles, IfFile, files_then, file_plain, open_plain, close_plain, dup_plain, copy_plain, seek_plain, bind_plain, connect_plain}
 use Rattle.st_law.proofs.ShortTrees.{IsPlain, IsFit, AreFit, steps_of, plain_new, IfObject, object_plain}
 
--- what a call leaves: changes that fit the tree that it found, and open files none of which is a link of the tree that it leaves
+-- the outcome of a call fits: its changes fit the tree before it, and no open file is a link of the tree after it
 pub record Fits (system : System) (outcome : Outcome) : Type 0 where
   pub changes : AreFit system.tree.objects outcome.changes
   pub files : HasPlainFiles (tree_after system.tree outcome.changes).objects outcome.descriptors
 
--- what has to be known of the arguments of a call: the target of a link is short, and what is opened or cut is no link
+-- what the arguments of a call have to be: the target of a link is short, and what is opened or cut is no link
 abbrev pub HasFitArguments : System → Request → SysCall → Type 0
 HasFitArguments system request Open =
     (has_flag (register request 1) O_CREAT && has_flag (register request 1) O_EXCL) ≡ false → is_link_at system.tree (arg_name_at request 0) ≡ false
@@ -49,14 +49,14 @@ HasFitArguments system request Truncate = is_link_at system.tree (arg_name_at re
 HasFitArguments system request _ = Unit {0}
 
 module _ (system : System) (request : Request) (plain : HasPlainFiles system.tree.objects system.descriptors) where
-  -- changes that fit, and a table whose open files were no links before
+  -- changes that fit, and a table whose open files weren't links before
   some : (result : CallResult) (table : Table) (changes : List Change) → HasPlainFiles system.tree.objects table → AreFit system.tree.objects changes → Fits system (record { result = result; changes = changes; descriptors = table })
   some result table changes files fit = record {
     changes = fit;
     files = files_then system.tree.objects (tree_after system.tree changes).objects (steps_of system.tree changes fit) table.files files;
   }
 
-  -- a call that is refused changes nothing
+  -- a refused call changes nothing
   unless_error_fits : (o : Option Errno) (outcome : Outcome) → Fits system outcome → Fits system (unless_error system o outcome)
   unless_error_fits None outcome x = x
   unless_error_fits (Some errno) outcome x = record { changes = tt; files = plain }
@@ -65,12 +65,12 @@ module _ (system : System) (request : Request) (plain : HasPlainFiles system.tre
   unless : (reasons : List (Option Errno)) (outcome : Outcome) → Fits system outcome → Fits system (unless_refused system reasons outcome)
   unless reasons outcome x = unless_error_fits (first_error reasons) outcome x
 
-  -- a call whose first reason for refusal isn't met
+  -- a call whose first reason for refusal doesn't hold
   unless_first : (b : Bool) (errno : Errno) (reasons : List (Option Errno)) (outcome : Outcome) → (b ≡ false → Fits system outcome) → Fits system (unless_refused system (error_if b errno ∷ reasons) outcome)
   unless_first true errno reasons outcome x = record { changes = tt; files = plain }
   unless_first false errno reasons outcome x = unless reasons outcome (x refl)
 
-  -- calls that change nothing, one thing, or two
+  -- no change
   none : (result : CallResult) (table : Table) → HasPlainFiles system.tree.objects table → Fits system (record { result = result; changes = []; descriptors = table })
   none result table files = record { changes = tt; files = files }
 
@@ -91,7 +91,7 @@ module _ (system : System) (request : Request) (plain : HasPlainFiles system.tre
   on : (name : Components) (outcome : Object → Outcome) → ((object : Object) → Fits system (outcome object)) → Fits system (on_object system name outcome)
   on name outcome x = found outcome x (object_at system.tree name)
 
-  -- the same for an object of which something is known
+  -- the same for an object with a known property
   found_if : (P : Object → Type 0) (outcome : Object → Outcome) → ((object : Object) → P object → Fits system (outcome object)) → (o : Option Object) → IfObject P o → Fits system (on_found system outcome o)
   found_if P outcome x None known = record { changes = tt; files = plain }
   found_if P outcome x (Some object) known = x object known
@@ -103,7 +103,7 @@ module _ (system : System) (request : Request) (plain : HasPlainFiles system.tre
 
   -- ---- calls on descriptors
 
-  -- whether an open refuses a name that has something
+  -- whether an open refuses a name that has an object
   abbrev excluded : Bool
   excluded = has_flag (register request 1) O_CREAT && has_flag (register request 1) O_EXCL
 
@@ -111,7 +111,7 @@ module _ (system : System) (request : Request) (plain : HasPlainFiles system.tre
   abbrev PlainObject : Object → Type 0
   PlainObject object = IsPlain system.tree.objects object.number
 
-  -- what is opened may be cut
+  -- an opened file may be cut
   truncation_fits : (obj : ℕ) (b : Bool) → IsPlain system.tree.objects obj → AreFit system.tree.objects (cond b (Cut obj 0 ∷ []) [])
   truncation_fits obj true x = (x, tt)
   truncation_fits obj false x = tt
@@ -133,12 +133,12 @@ module _ (system : System) (request : Request) (plain : HasPlainFiles system.tre
             (files_then system.tree.objects nodes (steps_of system.tree changes (tt, tt)) system.descriptors.files plain);
       }
 
-  -- what an open makes of the object of its name, if it has one
+  -- the outcome of an open, by the object of its name, if it has one
   open_fits : (o : Option Object) → (excluded ≡ false → IfObject PlainObject o) → Fits system (open_node_outcome system request o)
   open_fits None known = search (unless, made_fits)
   open_fits (Some object) known = unless_first excluded EEXIST _ _ (λ e. opened_fits object (known e))
 
-  -- bytes that are put into memory
+  -- bytes are put into memory
   put_fits : (space at : ℕ) (bytes : List ℕ) → AreFit system.tree.objects (put_changes space at bytes)
   put_fits space at [] = tt
   put_fits space at (byte ∷ bytes) = (tt, tt)
@@ -148,7 +148,7 @@ module _ (system : System) (request : Request) (plain : HasPlainFiles system.tre
   read_fits None = record { changes = tt; files = plain }
   read_fits (Some file) = search (unless, some, put_fits, seek_plain, plain)
 
-  -- a write, by what is open: only an object has its bytes changed
+  -- a write, by the kind of the open file: only an object has its bytes changed
   write_kind_fits : (file : OpenFile) (k : FileKind) → IsPlainFile system.tree.objects k → Fits system (write_kind_outcome system request file k)
   write_kind_fits file kind.Console x = record { changes = tt; files = plain }
   write_kind_fits file (kind.Node obj) x = either (register request 2 == 0) (success system 0 []) (write_bytes_outcome system request obj (write_offset system.tree obj file)) (record { changes = tt; files = plain }) (written_fits x) where
@@ -161,32 +161,32 @@ module _ (system : System) (request : Request) (plain : HasPlainFiles system.tre
   write_fits None x = record { changes = tt; files = plain }
   write_fits (Some file) x = search (unless, write_kind_fits, x)
 
-  -- an offset, by the place that it leads to
+  -- a seek, by the offset that it leads to
   sought_fits : (o : Option ℕ) → Fits system (seek_outcome system request o)
   sought_fits None = record { changes = tt; files = plain }
   sought_fits (Some place) = record { changes = tt; files = seek_plain system.tree.objects system.descriptors request.pid (register request 0) place plain }
 
-  -- an offset, by the open file of its descriptor
+  -- a seek, by the open file of its descriptor
   seek_fits : (o : Option OpenFile) → Fits system (seek_file_outcome system request o)
   seek_fits None = record { changes = tt; files = plain }
   seek_fits (Some file) = sought_fits (seek_offset system.tree request file file.kind)
 
   -- ---- calls on names
 
-  -- a new object whose target is short
+  -- a new object with a short target
   make_fits : (name : Components) (k : NewKind) (mode : ℕ) → HasShortTarget k → Fits system (make_outcome system request name k mode)
   make_fits name k mode x = search (unless, one, x)
 
-  -- a name that takes the place of another
+  -- a name that replaces another
   moved_fits : (old new : Components) (object other : Object) → Fits system (move_outcome system request old new object (Some other))
   moved_fits old new object other = search (either, unless, none, two, plain)
 
-  -- a name that moves
+  -- a name that is renamed
   move_fits : (old new : Components) (object : Object) (o : Option Object) → Fits system (move_outcome system request old new object o)
   move_fits old new object None = search (unless, one)
   move_fits old new object (Some other) = moved_fits old new object other
 
-  -- what a cut makes of the object that its name has
+  -- the outcome of a truncate, by the object of its name
   abbrev cut_outcome : Object → Outcome
   cut_outcome object =
       unless_refused system (
@@ -194,11 +194,11 @@ module _ (system : System) (request : Request) (plain : HasPlainFiles system.tre
       error_if (not (is_allowed_at request.ids object.node want.Write)) EACCES ∷ [])
       (success system 0 (Cut object.number (register request 1) ∷ []))
 
-  -- the cut of an object that is no link
+  -- the truncate of an object that is no link
   cut_fits : (object : Object) → PlainObject object → Fits system (cut_outcome object)
   cut_fits object x = search (unless, one, x)
 
-  -- the cut of the object of a name, if it has one
+  -- the truncate of the object of a name, if it has one
   truncate_fits : (o : Option Object) → IfObject PlainObject o → Fits system (on_found system cut_outcome o)
   truncate_fits o x = found_if PlainObject cut_outcome cut_fits o x
 
@@ -214,7 +214,7 @@ module _ (system : System) (request : Request) (plain : HasPlainFiles system.tre
   policy_fits true binary = tt
   policy_fits false binary = (tt, tt)
 
-  -- another program
+  -- another binary
   execed_fits : (result : CallResult) (binary : List ℕ) → Fits system (record { result = result; changes = Execed binary system.next_space ∷ policy_changes request.inherit binary; descriptors = system.descriptors })
   execed_fits result binary = some result system.descriptors (Execed binary system.next_space ∷ policy_changes request.inherit binary) plain (tt, policy_fits request.inherit binary)
 
@@ -226,7 +226,7 @@ module _ (system : System) (request : Request) (plain : HasPlainFiles system.tre
     by true x y = (tt, x)
     by false x y = y
 
-  -- ids that are set
+  -- ids are set
   set_fits : (setting : SysCall) → Fits system (set_ids_outcome setting system request)
   set_fits setting = unless_error_fits (first_error (set_refused setting request.ids (register request 0) ∷ [])) _ (some (Value 0) system.descriptors
       (SetIds (ids_after_set setting request.ids (register request 0)) ∷ renewals request.pid request.tid system.next_number system.held) plain

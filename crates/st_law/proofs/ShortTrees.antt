@@ -1,4 +1,4 @@
--- Trees whose links have short targets, and what changes leave of them: the kind of each object, and the content of each link.
+-- Trees whose links have short targets, and how changes keep this: by the kind of each object, and the content of each link.
 use native.Mathlib.Omega.{arith}
 use Rattle.std.proofs.Common.{◌≡◌, ◌≤◌, ℕ, zero, suc, ◌+◌, ◌-◌, false, List, [], ◌∷◌, ◌++◌, length, slice_get, slice_index_or, slice_set, Option, Some, None, refl, sym, subst, ◌∙◌}
 use Rattle.std.specs.List.{All, fold}
@@ -28,7 +28,7 @@ IsShortContent object_kind.Dir content = Unit {0}
 IsShortContent object_kind.File content = Unit {0}
 IsShortContent object_kind.Link content = length content ≤ LONGEST_TEXT
 
--- each of some objects that is a link has a content that isn't too long
+-- each of these objects that is a link has a content that isn't too long
 abbrev pub AreShort : List Node → Type 0
 AreShort [] = Unit {0}
 AreShort (node ∷ nodes) = IsShortContent node.kind node.content × AreShort nodes
@@ -37,23 +37,23 @@ AreShort (node ∷ nodes) = IsShortContent node.kind node.content × AreShort no
 abbrev pub HasShortLinks : Tree → Type 0
 HasShortLinks tree = AreShort tree.objects
 
--- there is an object at this place, and it is no link
+-- the object at this index exists, and is no link
 abbrev pub IsPlainAt : List Node → ℕ → Type 0
 IsPlainAt [] place = ⊥
 IsPlainAt (node ∷ nodes) zero = is_link node.kind ≡ false
 IsPlainAt (node ∷ nodes) (suc place) = IsPlainAt nodes place
 
--- the object of this number, counted from 1 as changes count it, is there, and it is no link
+-- the object of this number, counted from 1, exists and is no link
 abbrev pub IsPlain : List Node → ℕ → Type 0
 IsPlain nodes number = IsPlainAt nodes (number - 1)
 
--- what is no link may have any content
+-- an object that is no link may have any content
 any_content : (kind : Kind) (content : List ℕ) → is_link kind ≡ false → IsShortContent kind content
 any_content object_kind.Dir content plain = tt
 any_content object_kind.File content plain = tt
 any_content object_kind.Link content plain = cc
 
--- what is made with a short target is short
+-- an object made with a short target is short
 short_made : (kind : NewKind) → HasShortTarget kind → IsShortContent (kind_of_new kind) (content_of_new kind)
 short_made made.Dir short = tt
 short_made (made.File content) short = tt
@@ -64,24 +64,24 @@ short_push : (nodes : List Node) (node : Node) → AreShort nodes → IsShortCon
 short_push [] node all here = (here, tt)
 short_push (first ∷ nodes) node all here = (all.0, short_push nodes node all.1 here)
 
--- an object that was there is no link still
+-- an object that existed before stays no link
 plain_push : (nodes : List Node) (node : Node) (place : ℕ) → IsPlainAt nodes place → IsPlainAt (nodes ++ node ∷ []) place
 plain_push [] node place plain = absurd plain
 plain_push (first ∷ nodes) node zero plain = plain
 plain_push (first ∷ nodes) node (suc place) plain = plain_push nodes node place plain
 
--- the new one is no link where its kind is none
+-- the new object is no link if its kind is none
 plain_last : (nodes : List Node) (node : Node) → is_link node.kind ≡ false → IsPlainAt (nodes ++ node ∷ []) (length nodes)
 plain_last [] node plain = plain
 plain_last (first ∷ nodes) node plain = plain_last nodes node plain
 
--- an object in the place of another
+-- an object replaces another
 short_set : (nodes : List Node) (place : ℕ) (node : Node) → AreShort nodes → IsShortContent node.kind node.content → AreShort (slice_set nodes place node)
 short_set [] place node all here = tt
 short_set (first ∷ nodes) zero node all here = (here, all.1)
 short_set (first ∷ nodes) (suc place) node all here = (all.0, short_set nodes place node all.1 here)
 
--- an object of the same kind leaves which ones are no links
+-- an object of the same kind leaves each object a link or not
 plain_set : (nodes : List Node) (place other : ℕ) (node : Node) → is_link node.kind ≡ is_link (slice_index_or nodes place root_node).kind → IsPlainAt nodes other → IsPlainAt (slice_set nodes place node) other
 plain_set [] place other node same plain = absurd plain
 plain_set (first ∷ nodes) zero zero node same plain = same ∙ plain
@@ -89,13 +89,13 @@ plain_set (first ∷ nodes) zero (suc other) node same plain = plain
 plain_set (first ∷ nodes) (suc place) zero node same plain = plain
 plain_set (first ∷ nodes) (suc place) (suc other) node same plain = plain_set nodes place other node same plain
 
--- the object at a place is short
+-- the object at an index is short
 short_get : (nodes : List Node) (place : ℕ) → AreShort nodes → IsShortContent (slice_index_or nodes place root_node).kind (slice_index_or nodes place root_node).content
 short_get [] place all = tt
 short_get (node ∷ nodes) zero all = all.0
 short_get (node ∷ nodes) (suc place) all = short_get nodes place all.1
 
--- and its kind is no link's, where it is no link
+-- the kind of an object that is no link is no link's
 plain_get : (nodes : List Node) (place : ℕ) → IsPlainAt nodes place → is_link (slice_index_or nodes place root_node).kind ≡ false
 plain_get [] place plain = absurd plain
 plain_get (node ∷ nodes) zero plain = plain
@@ -103,23 +103,23 @@ plain_get (node ∷ nodes) (suc place) plain = plain_get nodes place plain
 
 -- ---- changes
 
--- how the objects before and after some changes belong together
+-- how the objects after some changes follow from those before: short links stay short, and what was no link is none
 pub record IsShortStep (before after : List Node) : Type 0 where
   pub short : AreShort before → AreShort after
   pub plain : (place : ℕ) → IsPlainAt before place → IsPlainAt after place
 
--- changes that leave the objects
+-- no change of the objects
 same_step : (nodes : List Node) → IsShortStep nodes nodes
 same_step nodes = record { short = λ all. all; plain = λ place plain. plain }
 
--- an object is made with a short target, and what is written or cut is no link
+-- a change fits: it makes an object with a short target, or it writes or cuts an object that is no link
 abbrev pub IsFit : List Node → Change → Type 0
 IsFit nodes (Made name obj kind uid gid mode) = HasShortTarget kind
 IsFit nodes (Written obj at bytes) = IsPlain nodes obj
 IsFit nodes (Cut obj len) = IsPlain nodes obj
 IsFit nodes _ = Unit {0}
 
--- the same for each of some changes
+-- each of these changes fits
 abbrev pub AreFit : List Node → List Change → Type 0
 AreFit nodes changes = Each (IsFit nodes) changes
 
@@ -161,7 +161,7 @@ step_of tree (Dying pid) fit = same_step tree.objects
 step_of tree (Renewed old new) fit = same_step tree.objects
 step_of tree (Policy binary) fit = same_step tree.objects
 
--- what fits the objects before a change fits those after it
+-- a change that fits the objects before another change fits those after it
 fit_then : (before after : List Node) → IsShortStep before after → (c : Change) → IsFit before c → IsFit after c
 fit_then before after step (Made name obj kind uid gid mode) fit = fit
 fit_then before after step (Written obj at bytes) fit = step.plain (obj - 1) fit
@@ -184,7 +184,7 @@ steps_of tree (c ∷ changes) fit =
       plain = λ place plain. rest.plain place (first.plain place plain);
     }
 
--- a new object that is no link, by the number that it has
+-- a new object that is no link, by its number
 pub plain_new : (nodes : List Node) (node : Node) → is_link node.kind ≡ false → IsPlain (nodes ++ node ∷ []) (length nodes + 1)
 plain_new nodes node plain = subst (IsPlainAt (nodes ++ node ∷ [])) (omega arith) (plain_last nodes node plain)
 
@@ -204,7 +204,7 @@ short_rows (row ∷ rows) tree all =
 
 -- ---- names
 
--- what holds of an object, if there is one
+-- a property of an object, if there is one
 abbrev pub IfObject : (Object → Type 0) → Option Object → Type 0
 IfObject P None = Unit {0}
 IfObject P (Some object) = P object

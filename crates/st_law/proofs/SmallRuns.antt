@@ -1,4 +1,4 @@
--- Small runs, each for one word of a definition: with another word in its place the run would be another one.
+-- Small runs, each for one word of a definition: with another word in its place the run would differ.
 use Rattle.std.proofs.Common.{◌≡◌, true, false, [], ◌∷◌, ◌++◌, Some, None, refl, codes}
 use Rattle.std.specs.Fmt.{digits}
 use Rattle.st_base.specs.declared.errno.Errno.TheVariants.{EEXIST}
@@ -23,7 +23,7 @@ use Rattle.st_law.proofs.Scripts.{etc_files, passwd_only, opens, user, root, fil
 
 -- ---- replies, and what is learnt
 
--- a reply for another binary is passed over
+-- a reply for another binary is skipped
 abbrev asker : Input
 asker = input (plainly AskText) [] etc_files (traced "/bin/cat" 1000 1000 "/" ∷ []) (thread_in 1 (opens "/etc/passwd") ∷ []) (reply "/bin/sh" passwd_only ∷ reply "/bin/cat" passwd_only ∷ [])
 
@@ -35,7 +35,7 @@ a_reply_is_for_its_binary : trace asker (rest ∷ []) ≡ Some (
     Ended 1 ∷ [])
 a_reply_is_for_its_binary = refl
 
--- a filter that is learnt is its call's policy's alone
+-- a learnt filter is for the policy of its call alone
 abbrev learners : Input
 learners = input (plainly Learn) [] etc_files (traced "/bin/cat" 1000 1000 "/" ∷ traced "/bin/sh" 1000 1000 "/" ∷ [])
     (thread_in 1 (opens "/etc/passwd") ∷ thread_in 2 (opens "/etc/passwd") ∷ []) []
@@ -49,7 +49,7 @@ learnt_for_its_policy : judgements_of (trace learners (rest ∷ [])) ≡
     Used 2 (Some 2) Open (regs 0 0 0) (filename "/etc/passwd") user (Value 3) [] ∷ []
 learnt_for_its_policy = refl
 
--- of a call without arguments a plain permit is learnt
+-- from a call without arguments a plain permit is learnt
 abbrev twice : Input
 twice = input (plainly Learn) [] [] (traced "/bin/cat" 1000 1000 "/" ∷ []) (thread_in 1 (call GetPid 0 0 0 ∷ call GetPid 0 0 0 ∷ []) ∷ []) []
 
@@ -68,7 +68,7 @@ learnt_without_arguments = refl
 the_operator_waits : trace twice (thread 1 1 ∷ operator 1 ∷ []) ≡ None
 the_operator_waits = refl
 
--- and answers no question of a thread that is dying
+-- the operator answers no question of a dying thread
 abbrev killed_asking : Input
 killed_asking = input (plainly Learn) [] [] (traced "/bin/cat" 1000 1000 "/" ∷ untraced "/bin/evil" 0 0 "/" ∷ []) (thread_in 1 (call GetPid 0 0 0 ∷ []) ∷ thread_in 2 (call Kill 1 9 0 ∷ []) ∷ []) []
 
@@ -85,7 +85,7 @@ a_question_ends_with_its_thread = refl
 
 -- ---- processes
 
--- a message that is stuck at a fault isn't ready: once its thread is dying its worker is idle
+-- a message with a fault isn't ready: once its thread is dying its worker is idle
 abbrev killer : Input
 killer = input (plainly Enforce) (policy "/bin/cat" (passwd_only ∷ []) ∷ []) etc_files (traced "/bin/cat" 1000 1000 "/" ∷ untraced "/bin/evil" 0 0 "/" ∷ [])
     (thread_in 1 (opens "/no/f") ∷ thread_in 2 (call Kill 1 9 0 ∷ []) ∷ []) []
@@ -103,7 +103,7 @@ killed_at_its_fault : trace killer (thread 1 2 ∷ worker 1 3 ∷ thread 2 2 ∷
 unfolding digits
 killed_at_its_fault = refl
 
--- ids that the options give are for traced processes alone
+-- ids given by the options are for traced processes alone
 abbrev given_ids : Input
 given_ids = input (record { mode = Enforce; inherit = false; aliasing = true; ids = Some (30, 30); workers = 1 }) [] [] (untraced "/bin/evil" 5 6 "/" ∷ [])
     (thread_in 1 (call Exit 0 0 0 ∷ []) ∷ []) []
@@ -114,7 +114,7 @@ ids_of_an_untraced_process : trace given_ids (rest ∷ []) ≡ Some (
     Ended 1 ∷ [])
 ids_of_an_untraced_process = refl
 
--- whether a link is followed is told by the registers of the call: with O_CREAT and O_EXCL a last link isn't
+-- the registers of the call say whether a link is followed: with O_CREAT and O_EXCL a last link isn't
 abbrev exclusive_maker : Input
 exclusive_maker = input (plainly Enforce) [] (link "/l" 0 0 "/x" ∷ []) (untraced "/bin/evil" 0 0 "/" ∷ []) (thread_in 1 (put 0 "/l" ++ call Open 0 2560 0 ∷ []) ∷ []) []
 
@@ -125,7 +125,7 @@ a_link_that_is_not_followed : trace exclusive_maker (rest ∷ []) ≡ Some (
     Ended 1 ∷ [])
 a_link_that_is_not_followed = refl
 
--- a new binary takes the next memory, and a child the one after it
+-- a new binary takes the next space, and a child the one after it
 abbrev forker : Input
 forker = input (plainly Enforce) [] (dir "/bin" 0 0 493 ∷ file "/bin/ls" 0 0 493 (codes "ls") ∷ []) (untraced "/bin/sh" 0 0 "/" ∷ [])
     (thread_in 1 (put 0 "/bin/ls" ++ call Execve 0 64 0 ∷ instr.Fork 2 ∷ []) ∷ forked_thread [] ∷ []) []
@@ -143,7 +143,7 @@ a_fork_after_an_execve = refl
 
 -- ---- schedules
 
--- a line outside the grammar is bad where all before it are enabled, and a choice that isn't enabled makes its own line bad
+-- a line outside the grammar is bad if all choices before it are enabled; a choice that isn't enabled makes its own line bad
 a_line_outside_the_grammar : played given_ids (record { lines = rest ∷ []; bad = Some 4 }) ≡ BadLine 4
 a_line_outside_the_grammar = refl
 

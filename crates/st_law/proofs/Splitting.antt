@@ -1,4 +1,4 @@
--- What it takes to read a part of a run off its history: a step for an entry that touches the part, and one for an entry that doesn't.
+-- How a part of the state is read off the history: by one lemma for an entry that touches the part, and one for an entry that doesn't.
 use Rattle.std.proofs.Common.{◌≡◌, ◌⊎◌, ℕ, Bool, true, false, cond, ◌||◌, ◌&&◌, ◌==◌, List, [], ◌∷◌, ◌++◌, fold, refl, ap, sym, ◌∙◌, inl, inr}
 use Rattle.std.proofs.lemmas.Bool.{true≢false, eq-eqb, ne_eqb, eqb-true, and_from}
 use Rattle.st_trace.specs.declared.entry.Change.{Change}
@@ -25,7 +25,7 @@ other_part p q i j x y differ = by (p == q) (i == j) (λ e f. differ (eqb-true p
     by true false none = refl
     by false b none = refl
 
--- the arms of a test that agree
+-- a test whose two branches have the same part
 pub when_either : {A B : Type 0} (part : A → B) (b : Bool) (x y : A) → part x ≡ part y → part (cond b x y) ≡ part y
 when_either part true x y e = e
 when_either part false x y e = refl
@@ -55,21 +55,21 @@ pub fold_apart : {S : Type 0} (f : S → Change → S) (s : S) (before after : L
 fold_apart f s [] after = refl
 fold_apart f s (c ∷ before) after = fold_apart f (f s c) before after
 
--- a part of what changes make
+-- a part of what changes fold to
 module _ {S V : Type 0} (part : S → V) (f : S → Change → S) (Is : Change → Type 0) (step : (s : S) (c : Change) → (Is c → ⊥) → part (f s c) ≡ part s) where
-  -- changes that don't touch it leave it
+  -- changes that don't touch the part leave it
   pub fold_kept : (s : S) (changes : List Change) → NoneIn Is changes → part (fold f s changes) ≡ part s
   fold_kept s [] none = refl
   fold_kept s (c ∷ changes) none = fold_kept (f s c) changes none.1 ∙ step s c none.0
 
-  -- the last one that touches it gives it its value
+  -- the last change that touches the part gives it its value
   pub fold_last : (Gives : List Change → Change → V → Type 0) (s : S) → ((before : List Change) (c : Change) (v : V) → Gives before c v → part (f (fold f s before) c) ≡ v)
       → (changes : List Change) (v : V) → LastGives Is Gives changes v → part (fold f s changes) ≡ v
   fold_last Gives s gives changes v x =
       ap (λ all. part (fold f s all)) x.split ∙ ap part (fold_apart f s x.before (x.change ∷ x.after))
       ∙ fold_kept (f (fold f s x.before) x.change) x.after x.last ∙ gives x.before x.change v x.gives
 
--- a flag that some change raises
+-- a flag that some change sets
 module _ (f : Bool → Change → Bool) (Is : Change → Type 0) (up : (b : Bool) (c : Change) → Is c → f b c ≡ true)
     (stays : (b : Bool) (c : Change) → b ≡ true → f b c ≡ true) (only : (b : Bool) (c : Change) → f b c ≡ true → Is c ⊎ (b ≡ true)) where
   pub flag_stays : (b : Bool) (changes : List Change) → b ≡ true → fold f b changes ≡ true

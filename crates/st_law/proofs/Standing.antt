@@ -1,4 +1,4 @@
--- What stands once it is there: the copies of a number that was answered, and a decision. Lists of filters grow at their end alone.
+-- What later entries don't change: the copies of an answered number, and a decision. Lists of filters grow only at their end.
 use Rattle.std.proofs.Common.{◌≡◌, ◌≢◌, ℕ, suc, Bool, true, false, cond, ◌&&◌, ◌||◌, ◌==◌, List, [], ◌∷◌, ◌++◌, length, Some, refl, sym, ap, subst, ◌∙◌}
 use Rattle.std.proofs.lemmas.Option.{same_Some}
 use Rattle.std.proofs.lemmas.Bool.{eq-eqb, ne_eqb, or_right}
@@ -36,7 +36,7 @@ use Rattle.st_law.proofs.Whole.{Whole, whole_of}
 -- ---- copies
 
 module _ (i : Input) (st : State) (whole : Whole i st) (q : ℕ) (answered : (st.messages q).answered ≡ true) where
-  -- who works on a number works on another than one that was answered
+  -- the number of a turn isn't the answered number
   other : (w p : ℕ) → st.turns w ≡ Some p → p ≢ q
   other w p turn same = unlike (st.messages q).answered answered (subst (λ n. (st.messages n).answered ≡ false) same (whole.turns.unanswered w p turn))
 
@@ -45,7 +45,7 @@ module _ (i : Input) (st : State) (whole : Whole i st) (q : ℕ) (answered : (st
       let head = moved.heads q (whole.turns.low q (answered_claimed i st whole.calls whole.turns q answered)) in
       λ k. snapshot_of_progress q (head k) (progress_of_head (head k) (words k) (lookups k))
 
-  -- the copies of a number that was answered stay behind each lawful entry
+  -- the copies of an answered number are kept by each lawful entry
   pub copies_after : (e : Entry) → IsLawful i st e → snapshot_in (state_after i st e) q ≡ snapshot_in st q
   copies_after (Copied p part place word) y =
       let differ : p ≢ q = other y.served.number p (turn_of st (st.turns y.served.number) p y.served.at) in
@@ -66,7 +66,7 @@ module _ (i : Input) (st : State) (whole : Whole i st) (q : ℕ) (answered : (st
   copies_after (Learned p n) y = headed (state_after i st (Learned p n)) (moves i st whole.calls (Learned p n) y) refl refl
   copies_after (Replied p reply n) y = headed (state_after i st (Replied p reply n)) (moves i st whole.calls (Replied p reply n) y) refl refl
 
-  -- and it stays answered
+  -- the number stays answered
   pub answered_after_entry : (e : Entry) → ((state_after i st e).messages q).answered ≡ true
   answered_after_entry (Answered w s v applied) = or_right (s.seq == q && applied) (st.messages q).answered answered
   answered_after_entry (Stored u place word) = answered
@@ -81,7 +81,7 @@ module _ (i : Input) (st : State) (whole : Whole i st) (q : ℕ) (answered : (st
   answered_after_entry (Copied p part place word) = answered
   answered_after_entry (Looked p part name seen) = answered
 
--- the copies that an answer was for stand behind whatever comes later
+-- the copies that an answer was for stay its number's copies in every later state
 pub record Stands (i : Input) (h : History) (s : Snapshot) : Type 0 where
   pub answered : ((looking_back i h).messages s.seq).answered ≡ true
   pub copies : snapshot_in (looking_back i h) s.seq ≡ Some s
@@ -97,7 +97,7 @@ answer_stands i startable (e ∷ later) earlier w s v lawful =
 
 -- ---- decisions
 
--- where the filters that were read decide, they decide whatever the session has
+-- if the filters that were read decide, they decide whatever the session has
 pub read_decides : (read session : List FilterValue) (s : Snapshot) (v : Verdict) → verdict read s ≡ v → v ≢ Unmatched → decision read session s ≡ v
 read_decides read session s (Permit n ids) e some = ap (λ w. verdict_or w (verdict_from (suc (length read)) session s)) e
 read_decides read session s (Refuse n errno) e some = ap (λ w. verdict_or w (verdict_from (suc (length read)) session s)) e
@@ -115,13 +115,13 @@ or_append (Permit n ids) first more same some = refl
 or_append (Refuse n errno) first more same some = refl
 or_append Unmatched first more same some = same some
 
--- a decision stands where the session grows at its end
+-- a decision is kept when the session grows at its end
 pub decision_append : (read fs gs : List FilterValue) (s : Snapshot) → decision read fs s ≢ Unmatched → decision read (fs ++ gs) s ≡ decision read fs s
 decision_append read fs gs s some = or_append (verdict read s) (verdict_from (suc (length read)) fs s) (verdict_from (suc (length read)) (fs ++ gs) s) (from_append (suc (length read)) fs gs s) some
 
--- ---- the session grows at its end alone
+-- ---- the session grows only at its end
 
--- the session behind later entries is the session with more at its end
+-- the session after later entries is the session with more filters appended
 abbrev Grows : Input → History → History → Type 0
 Grows i later earlier = (more : List SessionFilter) × (session_at i (later ++ earlier) ≡ session_at i earlier ++ more)
 
@@ -143,14 +143,14 @@ session_grows i (Used u seq call regs args ids result changes ∷ later) earlier
 session_grows i (Denied u seq errno cause ∷ later) earlier = session_grows i later earlier
 session_grows i (Ended u ∷ later) earlier = session_grows i later earlier
 
--- a decision stands behind whatever comes later
+-- a decision is kept by all later entries
 pub decision_stands : (i : Input) (later earlier : History) (s : Snapshot) → decision_in i (looking_back i earlier) s ≢ Unmatched → decision_in i (looking_back i (later ++ earlier)) s ≡ decision_in i (looking_back i earlier) s
 decision_stands i later earlier s some = let x : Grows i later earlier = session_grows i later earlier in
     ap (λ session. decision (read_for i s.policy s.rule) (session_filters session s.policy s.rule) s) x.1
     ∙ ap (λ fs. decision (read_for i s.policy s.rule) fs s) (session_append (session_at i earlier) x.0 s.policy s.rule)
     ∙ decision_append (read_for i s.policy s.rule) (session_filters (session_at i earlier) s.policy s.rule) (session_filters x.0 s.policy s.rule) s some
 
--- ---- what was answered is what is used
+-- ---- a call is made as it was answered
 
 module _ (i : Input) (startable : IsStartable i) (later earlier : History) (w : ℕ) (s : Snapshot) (v : Verdict) where
   abbrev behind : History
@@ -160,7 +160,7 @@ module _ (i : Input) (startable : IsStartable i) (later earlier : History) (w : 
   answer_verdict [] lawful = lawful.0.verdict_is
   answer_verdict (e ∷ later) lawful = answer_verdict later lawful.1
 
-  -- the copies that are decided on are those that the answer was for, and the decision is its verdict where that is one
+  -- the copies that are decided on are those that the answer was for, and the decision is the answer's verdict if that decides
   pub same_copies : IsLawfulBack i behind → (u : Snapshot) → snapshot_in (looking_back i behind) s.seq ≡ Some u → u ≡ s
   same_copies lawful u e = same_Some u s (sym e ∙ (answer_stands i startable later earlier w s v lawful).copies)
 
@@ -177,7 +177,7 @@ module _ (i : Input) (startable : IsStartable i) (later earlier : History) (w : 
         ids_are = λ some. (y.permitted.filter, sym (same_decision lawful.1 some) ∙ sym (ap (decision_in i (looking_back i behind)) same) ∙ y.permitted.permitted);
       }
 
-  -- and a filter that is the cause of its denial is the one that the answer named
+  -- a filter that is the cause of the denial is the one that the answer named
   pub denied_as_answered : (t : ℕ) (errno : Errno) (n : ℕ) → IsLawfulBack i (Denied t (Some s.seq) errno (Filter n) ∷ behind) → v ≢ Unmatched → v ≡ Refuse n errno
   denied_as_answered t errno n lawful some =
       let y : IsDeniedHeld i (looking_back i behind) t s.seq errno (Filter n) = lawful.0 in

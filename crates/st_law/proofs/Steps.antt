@@ -1,8 +1,8 @@
--- Facts about the entry that a step adds, where it adds one.
+-- Facts about the entry that a step adds, if it adds one.
 use Rattle.std.proofs.Common.{◌≡◌, Bool, true, false, cond, Option, Some, None, refl}
 use Rattle.st_trace.specs.declared.entry.Entry.{Entry}
 
--- the fact holds of the entry, where there is one
+-- the fact holds of the entry, if there is one
 abbrev pub Says : (Entry → Type 0) → Option Entry → Type 0
 Says P None = Unit {0}
 Says P (Some e) = P e

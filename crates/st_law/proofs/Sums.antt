@@ -1,9 +1,9 @@
--- Sums over numbers in a row.
+-- Sums over consecutive numbers.
 use native.Mathlib.Omega.{arith}
 use Rattle.std.proofs.Common.{◌≡◌, ◌≢◌, ◌≤◌, ◌<◌, ℕ, zero, suc, ◌+◌, ◌*◌, Bool, true, false, ◌==◌, refl, sym, ap, subst}
 use Rattle.std.proofs.lemmas.Bool.{eqb-true, eqb-false}
 
--- the sum over so many numbers from a on
+-- the sum over `count` numbers from a on
 abbrev pub total : (ℕ → ℕ) → ℕ → ℕ → ℕ
 total f a zero = 0
 total f a (suc count) = f a + total f (suc a) count
@@ -25,7 +25,7 @@ drop_at f g a count p d low drop false e rest =
     let later = rest (eqb-false a p e) in
     omega (arith, here, later)
 
--- where one item is less by so much, the sum is
+-- if one item is lower by at least d and no other is higher, the sum is lower by at least d
 pub total_drop : (f g : ℕ → ℕ) (a count p d : ℕ) → ((n : ℕ) → a ≤ n → n < a + count → f n ≤ g n) → a ≤ p → p < a + count → f p + d ≤ g p → total f a count + d ≤ total g a count
 total_drop f g a zero p d low at below drop = absurd (omega (arith, at, below))
 total_drop f g a (suc count) p d low at below drop = drop_at f g a count p d low drop (a == p) refl
@@ -46,7 +46,7 @@ total_more f a (suc count) more =
     let counted : total f a (suc count + more) ≡ total f a (suc (count + more)) = ap (total f a) (let e : suc count + more ≡ suc (count + more) = omega arith in e) in
     omega (arith, rest, moved, counted)
 
--- a sum of messages, none of which has more left than a new one
+-- a sum over messages, none of which has more steps left than a new one
 pub total_most : (f : ℕ → ℕ) (a count : ℕ) → ((n : ℕ) → f n ≤ 9605) → total f a count ≤ 9605 * count
 total_most f a zero most = omega arith
 total_most f a (suc count) most = let here = most a in let rest = total_most f (suc a) count most in omega (arith, here, rest)

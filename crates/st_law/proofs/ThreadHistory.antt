@@ -1,4 +1,4 @@
--- What a run says of a thread is read off the entries.
+-- The state of a thread is read off the entries.
 use Rattle.std.proofs.Common.{◌≡◌, ◌≢◌, ◌⊎◌, ℕ, Bool, true, false, cond, not, ◌&&◌, ◌==◌, List, [], ◌∷◌, ◌++◌, drop, fold, Option, Some, None, refl, ap, sym, ◌∙◌, inl, inr}
 use Rattle.std.proofs.lemmas.Bool.{eq-eqb, ne_eqb, eqb-true, eqb-false, and_from}
 use Rattle.st_effects.specs.Changes.{owner_after_change, dying_after_change, seq_after_change}

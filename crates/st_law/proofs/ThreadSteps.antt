@@ -36,7 +36,7 @@ use Rattle.st_law.proofs.Steps.{Says, says-unless, says-when, says-either}
 nonzero : (n : ℕ) → (n == 0) ≡ false → n ≢ 0
 nonzero n h e = let t : (n == 0) ≡ true = eq-eqb n 0 e in cc
 
--- ---- copies are of their head
+-- ---- copies agree with their head
 
 abbrev call_in : SysCall → Option Snapshot → SysCall
 call_in other None = other
@@ -67,7 +67,7 @@ copies_of st q head posted s e =
     copy_of q head (progress_in st q) s (subst (λ o. snapshot_of_progress q o (progress_in st q) ≡ Some s) posted e)
 
 module _ (i : Input) (st : State) (t : ℕ) (running : IsRunning st t) where
-  -- what the effect of a call of the thread gives under the process's own ids
+  -- the outcome of a call of the thread under the process's own ids
   abbrev outcome_with : SysCall → List ℕ → List ArgText → Outcome
   outcome_with call regs args = effect (system_of i st) call (request_of i st t regs args (process_in st t).ids)
 
@@ -77,7 +77,7 @@ module _ (i : Input) (st : State) (t : ℕ) (running : IsRunning st t) where
   ended_by over = record { started = running.started; unended = running.unended; over = over }
 
   module _ (idle : (st.threads t).pending ≡ None) (call : SysCall) (regs : List ℕ) (instruction : Instr) (later : List Instr) (next : (st.threads t).left ≡ instruction ∷ later) (makes : IsCallOf instruction call regs) where
-    -- a call that is entered goes the way that its policy says
+    -- an entered call goes the way that its policy gives
     traced_by : (process_in st t).traced ≡ true → (given : FastAnswer) → answer_in i st (process_in st t) call regs ≡ given → IsLawful i st (Entered t call regs (way_of_answer (suc st.posted) given))
     traced_by traced answer.Permit e = record { running = running; idle = idle; instruction = instruction; later = later; next = next; makes = makes; way_is = (traced, e) }
     traced_by traced (answer.Refuse errno) e = record { running = running; idle = idle; instruction = instruction; later = later; next = next; makes = makes; way_is = (traced, refl, errno, e) }

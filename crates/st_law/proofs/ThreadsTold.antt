@@ -29,7 +29,7 @@ use Rattle.st_law.specs.Threads.{PendingCall}
 use Rattle.st_law.proofs.Invariant.{IsOpen, IfPending, Fine, Invariant}
 use Rattle.st_law.proofs.ThreadSteps.{IsCopyOf, copies_of}
 
--- the way of a call is the one that the kernel's own answer gives it
+-- the way of a call is the one that the kernel's own answer gives
 way_told : (traced : Bool) (next : ℕ) (way : Way) (given : FastAnswer) → IsWay traced next way given → cond traced (way_of_answer next given) Untraced ≡ way
 way_told traced next Untraced given x = λ k. cond (x k) (way_of_answer next given) Untraced
 way_told traced next Fast given x = λ k. cond (x.0 k) (way_of_answer next (x.1 k)) Untraced
@@ -37,7 +37,7 @@ way_told traced next (Barred n) given x = (λ k. cond (x.0 k) (way_of_answer nex
 way_told traced next (Held q) given x = (λ k. cond (x.0 k) (way_of_answer next (x.2 k)) Untraced) ∙ ap Held (sym x.1)
 
 module _ (i : Input) (st : State) (t : ℕ) where
-  -- a thread that runs goes on, by its pending call
+  -- a running thread goes on, by its pending call
   goes_on : IsRunning st t → (o : Option PendingCall) → (st.threads t).pending ≡ o → thread_entry i st t ≡ running_entry i st t o
   goes_on running o e =
       λ k. cond (ne_eqb (st.threads t).owner 0 running.started k || running.unended k) None (cond (running.undying k) (Some (Ended t)) (running_entry i st t (e k)))
@@ -64,12 +64,12 @@ module _ (i : Input) (st : State) (t : ℕ) where
     by false e (inl dying) = absurd (true≢false (sym dying ∙ e))
     by false e (inr over) = ap (running_entry i st t) over.1 ∙ ap (next_instruction_entry i st t) over.0
 
-  -- ---- calls that were entered
+  -- ---- entered calls
 
   pending_told : (call : SysCall) (regs : List ℕ) (way : Way) → IsRunning st t → IsPending st t call regs way → thread_entry i st t ≡ pending_entry i st t call regs way
   pending_told call regs way running entered = goes_on running (Some (record { call = call; regs = regs; way = way; child = entered.0 })) entered.1
 
-  -- a call that is made has the result and the changes of its effect
+  -- a call that takes effect has the result and the changes of its effect
   effect_told : (seq : Option ℕ) (call : SysCall) (regs : List ℕ) (args : List ArgText) (ids : Ids) (result : CallResult) (changes : List Change) → IsEffect i st t call regs ids args result changes
       → used_entry t seq call regs args ids (effect (system_of i st) call (request_of i st t regs args ids)) ≡ Used t seq call regs args ids result changes
   effect_told seq call regs args ids result changes x = λ k. Used t seq call regs args ids (sym x.result_is k) (sym x.changes_are k)
@@ -90,7 +90,7 @@ module _ (i : Input) (st : State) (t : ℕ) where
     unheld_told (Stuck errno) x = ap Some (failed_told errno x)
     unheld_told (Ready found) x = ap Some (unlinked_told found (link_now i st call regs found) x)
 
-    -- it is made at once, under the process's own ids
+    -- the call is made at once, under the process's own ids
     at_once : (way : Way) → IsUnheld way → pending_entry i st t call regs way ≡ unheld_entry i st t call regs (process_in st t).ids (arguments_now i st t call regs)
     at_once Fast x = refl
     at_once Untraced x = refl
@@ -121,7 +121,7 @@ module _ (i : Input) (st : State) (t : ℕ) where
       ∙ ap Some (effect_told (Some q) call regs args ids result changes x.outcome)
 
   module _ (inv : Invariant i st) (q : ℕ) (call : SysCall) (regs : List ℕ) (running : IsRunning st t) (held : IsHeld st t q call regs) where
-    -- the copies of the number that a thread holds are those of its pending call
+    -- the copies of a thread's held number have the same first link in the way as its pending call with their arguments
     same_link : (s : Snapshot) → IsJudged st q s → link_now i st s.call s.regs s.parts ≡ link_now i st call regs s.parts
     same_link s judged =
         let fine : Fine i st t (record { call = call; regs = regs; way = Held held.first; child = held.entered.0 }) = subst (IfPending (Fine i st t)) held.entered.1 (inv.fine t) in

@@ -1,4 +1,4 @@
--- What the machine keeps is what looking back says.
+-- The state that the machine keeps is the state that looking back gives.
 use Rattle.std.proofs.Common.{◌≡◌, refl, [], ◌∷◌}
 use Rattle.st_law.specs.declared.input.Input.{Input}
 use Rattle.st_law.specs.History.{looking_back}

@@ -1,5 +1,5 @@
--- The law and the machine say the same: an entry after a lawful history is lawful exactly where the choice that it tells adds it, and so a
--- trace is lawful exactly where it is the run of the choices that it tells.
+-- The law and the machine agree: an entry after a lawful history is lawful exactly when the choice that it implies adds it, and so a trace
+-- is lawful exactly when it is the run of the choices that it implies.
 use Rattle.std.proofs.Common.{◌≡◌, ◌↔◌, List, [], ◌∷◌, ◌++◌, reverse, Some, refl, sym, ap, subst, ◌∙◌}
 use Rattle.std.proofs.lemmas.List.{append_assoc, reverse-append, reverse-reverse}
 use Rattle.st_trace.specs.declared.entry.Choice.{Choice}
@@ -23,7 +23,7 @@ use Rattle.st_law.proofs.WorkersTold.{answered_told, claimed_told, copied_told, 
 
 -- ---- one entry
 
--- a lawful entry is added by the choice that it tells
+-- a lawful entry is added by the choice that it implies
 entry_told : (i : Input) (st : State) → Whole i st → (e : Entry) → IsLawful i st e → entry_of i st (choice_of i st e) ≡ Some e
 entry_told i st whole (Stored t place word) x = stored_told i st t place word x
 entry_told i st whole (Entered t call regs way) x = entered_told i st t call regs way x
@@ -42,7 +42,7 @@ module _ (i : Input) (startable : IsStartable i) where
   told_back : (h : History) → IsLawfulBack i h → (e : Entry) → IsLawful i (looking_back i h) e → entry_of i (looking_back i h) (choice_of i (looking_back i h) e) ≡ Some e
   told_back h lawful e x = entry_told i (looking_back i h) (whole_of i startable h lawful) e x
 
-  -- an entry after a lawful history is lawful exactly where the choice that it tells adds it
+  -- an entry after a lawful history is lawful exactly when the choice that it implies adds it
   pub law_of_entry : (h : History) → IsLawfulBack i h → (e : Entry) → IsLawful i (looking_back i h) e ↔ (entry_of i (looking_back i h) (choice_of i (looking_back i h) e) ≡ Some e)
   law_of_entry h lawful e = (told_back h lawful e, added) where
     added : entry_of i (looking_back i h) (choice_of i (looking_back i h) e) ≡ Some e → IsLawful i (looking_back i h) e
@@ -50,7 +50,7 @@ module _ (i : Input) (startable : IsStartable i) where
 
   -- ---- traces
 
-  -- a lawful history is that of the choices that it tells
+  -- a lawful history is that of the choices that it implies
   history_told : (h : History) → IsLawfulBack i h → history i (choices_back i h) ≡ h
   history_told [] lawful = refl
   history_told (e ∷ h) lawful =
@@ -63,15 +63,15 @@ module _ (i : Input) (startable : IsStartable i) where
   run_told : (trace : List Entry) → Lawful i trace → run i (choices_told i trace) ≡ trace
   run_told trace lawful = ap reverse (history_of_trace trace lawful) ∙ reverse-reverse trace
 
-  -- a trace is lawful exactly where it is the run of the choices that it tells
+  -- a trace is lawful exactly when it is the run of the choices that it implies
   pub law_of_trace : (trace : List Entry) → Lawful i trace ↔ (run i (choices_told i trace) ≡ trace)
   law_of_trace trace = (run_told trace, λ same. subst (Lawful i) same (run_lawful i startable (choices_told i trace)))
 
-  -- and so exactly where it is a run
+  -- a trace is lawful exactly when it is a run
   pub lawful_is_run : (trace : List Entry) → Lawful i trace ↔ ((choices : List Choice) × (run i choices ≡ trace))
   lawful_is_run trace = (λ lawful. (choices_told i trace, run_told trace lawful), λ x. subst (Lawful i) x.1 (run_lawful i startable x.0))
 
-  -- each choice that a lawful trace tells adds its entry at its turn
+  -- each choice that a lawful trace implies adds its entry at its turn
   pub told_at_its_turn : (front rest : List Entry) (e : Entry) → Lawful i (front ++ e ∷ rest) → entry_of i (state_of_run i (choices_told i front)) (choice_of i (looking_back i (reverse front)) e) ≡ Some e
   told_at_its_turn front rest e lawful =
       let so_far : Lawful i ((front ++ e ∷ []) ++ rest) = subst (Lawful i) (sym (append_assoc front (e ∷ []) rest)) lawful in

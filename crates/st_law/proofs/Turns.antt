@@ -1,5 +1,5 @@
--- What holds of the turns of workers in every lawful run: a number is at most one worker's, is neither answered nor faulted while it is
--- somebody's, and what was answered keeps its copies.
+-- The invariant of the turns of workers in every lawful run: a number is at most one worker's turn, it is neither answered nor faulted as
+-- long as it is one, and an answered number keeps its copies.
 use native.Mathlib.Omega.{arith}
 use Rattle.std.proofs.Common.{◌≡◌, ◌⊎◌, ◌≤◌, ◌<◌, ℕ, Bool, true, false, cond, ◌||◌, [], Option, Some, None, refl, sym, ap, ◌∙◌, inl, inr}
 use Rattle.std.specs.Prelude.{nat_lt, nat_le}
@@ -10,7 +10,7 @@ use Rattle.st_law.specs.State.{State, Message, is_live_by, is_live, progress_of_
 use Rattle.st_law.proofs.Invariant.{Invariant}
 use Rattle.st_law.proofs.Moves.{Moves, live_before}
 
--- a number that isn't claimed has nothing yet
+-- a number that isn't claimed has no words, no lookups and no fault
 pub record IsFresh (message : Message) : Type 0 where
   pub words : (j : ℕ) → message.words j ≡ []
   pub lookups : (j : ℕ) → message.lookups j ≡ []
@@ -32,7 +32,7 @@ pub record Turns (i : Input) (st : State) : Type 0 where
 pub unlike : (b : Bool) → b ≡ true → b ≡ false → ⊥
 unlike b x y = cc
 
--- the numbers of workers are 1 and so on, to how many there are
+-- workers are numbered from 1 to their count
 pub worker_range : (i : Input) (w : ℕ) → is_worker i w ≡ true → (1 ≤ w) × (w ≤ i.options.workers)
 worker_range i w e = let parts = and_parts (nat_lt 0 w) (nat_le w i.options.workers) e in
     let low = ltb-true 0 w parts.0 in (omega (arith, low), leb-true w i.options.workers parts.1)
@@ -47,11 +47,11 @@ turn_of st (Some p) q e = by (is_live st p || is_ready (progress_in st p)) e whe
   by true f = f
   by false f = cc
 
--- a worker whose turn is a number that lives is at it
+-- a worker whose turn is a live number is at that number
 pub at_live : (st : State) (w q : ℕ) → st.turns w ≡ Some q → is_live st q ≡ true → worker_at st w ≡ Some q
 at_live st w q turn live = ap (seq_at_work st) turn ∙ ap (λ b. cond b (Some q) None) (or_left (is_live st q) (is_ready (progress_in st q)) live)
 
--- the head of a number that lives was posted
+-- a live number was posted
 pub live_low : (i : Input) (st : State) → Invariant i st → (q : ℕ) → is_live st q ≡ true → q ≤ st.posted
 live_low i st inv q live = by (cases_lt st.posted q) where
   by : (st.posted < q) ⊎ (q ≤ st.posted) → q ≤ st.posted
@@ -67,7 +67,7 @@ some_inj p q e = ap value e where
 -- ---- entries that leave messages and turns
 
 module _ (i : Input) (st : State) (inv : Invariant i st) (x : Turns i st) where
-  -- behind an entry by which no message is claimed, copied, looked up, answered or faulted
+  -- after an entry by which no message is claimed, copied, looked up, answered or faulted
   pub turns_moved : (new : State) → Moves st new → (new.turns ≡ st.turns) → ((q : ℕ) → (new.messages q).claimed ≡ (st.messages q).claimed) → ((q : ℕ) → (new.messages q).words ≡ (st.messages q).words) → ((q : ℕ) → (new.messages q).lookups ≡ (st.messages q).lookups) → ((q : ℕ) → (new.messages q).fault ≡ (st.messages q).fault) → ((q : ℕ) → (new.messages q).answered ≡ (st.messages q).answered) → Turns i new
   turns_moved new moved turns claimed words lookups fault answered = record {
     worker = λ w q e. x.worker w q (sym (turn w) ∙ e);

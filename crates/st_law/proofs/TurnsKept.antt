@@ -1,4 +1,4 @@
--- What holds of the turns of workers holds behind each lawful entry.
+-- The invariant of the turns of workers is kept by each lawful entry.
 use Rattle.std.proofs.Common.{◌≡◌, ◌≢◌, ◌⊎◌, ◌≤◌, ℕ, Bool, true, false, cond, ◌&&◌, ◌||◌, ◌==◌, [], ◌∷◌, ◌++◌, Option, Some, None, refl, sym, ap, subst, ◌∙◌, inl, inr}
 use Rattle.std.proofs.lemmas.Bool.{eqb-true, eqb-false, eq-eqb, ne_eqb, or_parts, or_left, or_right}
 use Rattle.st_base.specs.declared.errno.Errno.{Errno}
@@ -18,7 +18,7 @@ use Rattle.st_law.proofs.Moves.{moves}
 use Rattle.st_law.proofs.Turns.{IsFresh, Turns, turn_of, at_live, live_low, unlike, some_inj, turns_moved}
 
 module _ (i : Input) (st : State) (inv : Invariant i st) (x : Turns i st) where
-  -- what was answered was claimed
+  -- an answered number was claimed
   pub answered_claimed : (q : ℕ) → (st.messages q).answered ≡ true → (st.messages q).claimed ≡ true
   answered_claimed q e = by (st.messages q).claimed refl where
     by : (b : Bool) → (st.messages q).claimed ≡ b → (st.messages q).claimed ≡ true
@@ -31,7 +31,7 @@ module _ (i : Input) (st : State) (inv : Invariant i st) (x : Turns i st) where
     abbrev claimed_state : State
     claimed_state = state_after i st (Claimed w q)
 
-    -- the number of a turn behind the claim: the claimed one, or one that another worker had
+    -- the number of a turn after the claim: the claimed one, or one that another worker had
     turn_cases : (v p : ℕ) (b : Bool) → (w == v) ≡ b → cond b (Some q) (st.turns v) ≡ Some p → ((w ≡ v) × (q ≡ p)) ⊎ ((w ≢ v) × (st.turns v ≡ Some p))
     turn_cases v p true e f = inl (eqb-true w v e, some_inj q p f)
     turn_cases v p false e f = inr (eqb-false w v e, f)
@@ -39,7 +39,7 @@ module _ (i : Input) (st : State) (inv : Invariant i st) (x : Turns i st) where
     q_fresh : IsFresh (st.messages q)
     q_fresh = x.fresh q y.unclaimed
 
-    -- a number that somebody has isn't the one that is claimed
+    -- a number that a worker already has isn't the one that is claimed
     taken_other : (v p : ℕ) → st.turns v ≡ Some p → q ≢ p
     taken_other v p turn same = unlike (st.messages p).claimed (x.claimed v p turn) (subst (λ n. (st.messages n).claimed ≡ false) same y.unclaimed)
 
@@ -49,7 +49,7 @@ module _ (i : Input) (st : State) (inv : Invariant i st) (x : Turns i st) where
     one_by u v p (inr a) (inl b) = absurd (taken_other u p a.1 b.1)
     one_by u v p (inr a) (inr b) = x.one u v p a.1 b.1
 
-    -- the worker that had a live number has it still: an idle one had none
+    -- the worker that had a live number still has it: an idle worker had none
     kept_turn : (v p : ℕ) → st.turns v ≡ Some p → is_live st p ≡ true → (b : Bool) → (w == v) ≡ b → cond b (Some q) (st.turns v) ≡ Some p
     kept_turn v p turn live true e = absurd (idle_busy (subst (λ n. worker_at st n ≡ None) (eqb-true w v e) y.idle) (at_live st v p turn live)) where
       idle_busy : {o : Option ℕ} → o ≡ None → o ≡ Some p → ⊥
@@ -85,13 +85,13 @@ module _ (i : Input) (st : State) (inv : Invariant i st) (x : Turns i st) where
       low_by p true e f = subst (λ n. n ≤ st.posted) (eqb-true q p e) (live_low i st inv q y.live)
       low_by p false e f = x.low p f
 
-  -- ---- a word that is copied, and a name that is looked up
+  -- ---- a word is copied, or a name is looked up
 
   module _ (w q : ℕ) (at : worker_at st w ≡ Some q) where
     turn : st.turns w ≡ Some q
     turn = turn_of st (st.turns w) q at
 
-    -- a number that was answered, or is unclaimed, isn't the one that is worked on
+    -- a number that was answered or isn't claimed isn't the one that is worked on
     answered_other : (p : ℕ) → (st.messages p).answered ≡ true → q ≢ p
     answered_other p e same = unlike (st.messages p).answered e (subst (λ n. (st.messages n).answered ≡ false) same (x.unanswered w q turn))
 
@@ -174,7 +174,7 @@ module _ (i : Input) (st : State) (inv : Invariant i st) (x : Turns i st) where
     own_turn : st.turns w ≡ Some s.seq
     own_turn = turn_of st (st.turns w) s.seq y.at
 
-    -- the number of a turn behind the answer is another worker's, and another number
+    -- the number of a turn after the answer is another worker's, and another number
     other_turn : (u p : ℕ) (b : Bool) → (w == u) ≡ b → cond b None (st.turns u) ≡ Some p → (st.turns u ≡ Some p) × (s.seq ≢ p)
     other_turn u p true e f = cc
     other_turn u p false e f = (f, λ same. eqb-false w u e (x.one w u p (own_turn ∙ ap Some same) f))
@@ -197,7 +197,7 @@ module _ (i : Input) (st : State) (inv : Invariant i st) (x : Turns i st) where
     sound_by p (inl same) = subst (λ n. (st.messages n).fault ≡ None) same (x.unfaulted w s.seq own_turn)
     sound_by p (inr e) = x.sound p e
 
-    -- an answer to a number that lives is applied
+    -- an answer to a live number is applied
     served_at : (p : ℕ) → (st.messages p).claimed ≡ true → is_live st p ≡ true → (st.messages p).fault ≡ None → (a : Bool) → (s.seq == p) ≡ a → ((a && applied) || (st.messages p).answered) ≡ false → (u : ℕ) × (answered_state.turns u ≡ Some p)
     served_at p claimed live unfaulted true e f =
         absurd (unlike applied (y.applied_is ∙ subst (λ n. is_live st n ≡ true) (sym (eqb-true s.seq p e)) live) ((or_parts applied (st.messages p).answered f).0))
@@ -222,7 +222,7 @@ module _ (i : Input) (st : State) (inv : Invariant i st) (x : Turns i st) where
       sound = λ p e. sound_by p (answered_cases p (s.seq == p) applied refl e);
     }
 
-  -- what holds of turns holds behind each lawful entry
+  -- the invariant of turns is kept by each lawful entry
   pub turns_behind : (e : Entry) → IsLawful i st e → Turns i (state_after i st e)
   turns_behind (Claimed w q) y = behind_claimed w q y
   turns_behind (Copied q part place word) y = behind_copied y.served.number q y.served.at part place word

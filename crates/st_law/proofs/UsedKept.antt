@@ -1,4 +1,4 @@
--- What holds of the record of a lawful run holds behind a call that is made.
+-- The invariant of the state of a lawful run is kept by a call that is made.
 use native.Mathlib.Omega.{arith}
 use Rattle.std.proofs.Common.{◌≡◌, ◌≢◌, ◌≤◌, ◌<◌, ℕ, Bool, true, false, cond, ◌||◌, ◌==◌, List, Option, Some, None, refl, sym, ◌∙◌}
 use Rattle.std.proofs.lemmas.Bool.{eqb-false, ne_eqb}
@@ -21,12 +21,12 @@ use Rattle.st_law.proofs.HeldCalls.{IsHolder}
 use Rattle.st_law.proofs.Invariant.{IsOpen, Fine, IfPending, HasChild, Invariant}
 use Rattle.st_law.proofs.QuietChanges.{AreMute, seq_mute, head_mute, renewed_mute, posted_mute, undying_before}
 
--- a call that is held has this number, and is open: what is known of the number of an entry that makes or denies a call
+-- if the entry that makes or denies a call names a number, the thread's held call has it, and is open
 abbrev pub IsOpenSeq : State → ℕ → Option ℕ → Type 0
 IsOpenSeq st u None = Unit {0}
 IsOpenSeq st u (Some r) = (call : SysCall) × (regs : List ℕ) × IsOpen st u call regs × ((st.threads u).number ≡ r)
 
--- the number of another thread's open call isn't that of the entry, and neither is one that wasn't posted
+-- the number of another thread's open call isn't that of the entry, and neither is a number that wasn't posted
 pub not_closed_by : (st : State) (u t : ℕ) (seq : Option ℕ) → IsOpenSeq st u seq → t ≢ u → (call : SysCall) (regs : List ℕ) → IsOpen st t call regs → is_number (st.threads t).number seq ≡ false
 not_closed_by st u t None x differ call regs y = refl
 not_closed_by st u t (Some r) x differ call regs y =
@@ -44,19 +44,19 @@ module _ (i : Input) (st : State) (inv : Invariant i st) (u : ℕ) (seq : Option
   abbrev pub new : List Change → State
   new changes = state_after i st (made changes)
 
-  -- what is asked of the changes of a call: of threads, processes and numbers
+  -- what the changes of a call have to keep of threads, processes and numbers
   pub record Keeps (changes : List Change) : Type 0 where
     pub started : (t : ℕ) → ((new changes).threads t).owner ≢ 0 → IsThread i t
     pub owners : (t : ℕ) → ((new changes).threads t).owner < (new changes).next_process
     pub posted : st.posted ≤ (new changes).posted
     pub heads : (q : ℕ) → (new changes).posted < q → ((new changes).messages q).head ≡ None
-    -- a number that was posted has its head
+    -- a posted number keeps its head
     pub stays : (q : ℕ) → q ≤ st.posted → ((new changes).messages q).head ≡ (st.messages q).head
     pub closed : (q : ℕ) → (new changes).posted < q → ((new changes).messages q).closed ≡ false
-    -- a thread that had started and isn't dying then has its process, under the same policy
+    -- a thread that had started keeps its process and, unless it made the call or is dying then, the process's policy
     pub owner : (t : ℕ) → (st.threads t).owner ≢ 0 → ((new changes).threads t).owner ≡ (st.threads t).owner
     pub policy : (t : ℕ) → (st.threads t).owner ≢ 0 → t ≢ u → ((new changes).threads t).dying ≡ false → (process_in (new changes) t).policy ≡ (process_in st t).policy
-    -- and its held call stays open
+    -- the held call of another thread that isn't dying then stays open
     pub opened : (t : ℕ) (c : SysCall) (r : List ℕ) → (st.threads t).owner ≢ 0 → IsHolder st t → t ≢ u → ((new changes).threads t).dying ≡ false → IsOpen st t c r → IsOpen (new changes) t c r
 
   undying_then : (t : ℕ) (changes : List Change) → ((new changes).threads t).dying ≡ false → (st.threads t).dying ≡ false
@@ -78,7 +78,7 @@ module _ (i : Input) (st : State) (inv : Invariant i st) (u : ℕ) (seq : Option
   child_at t true = tt
   child_at t false = inv.children t
 
-  -- what holds of the record holds behind the call
+  -- the invariant is kept by the call
   pub used_kept : (changes : List Change) → Keeps changes → Invariant i (new changes)
   used_kept changes keeps = record {
     started = keeps.started;

@@ -1,4 +1,4 @@
--- How many numbers a call posts: none, or, where it sets ids, one for each held call at most.
+-- How many numbers a call posts: none or, if it sets ids, at most one for each held call.
 use native.Mathlib.Omega.{arith}
 use Rattle.std.proofs.Common.{◌≡◌, ◌⊎◌, ◌≤◌, ℕ, suc, ◌+◌, Bool, true, false, List, ◌∷◌, Option, refl, sym, ap, subst, inl, inr}
 use Rattle.std.specs.List.{fold}
@@ -24,7 +24,7 @@ module _ (i : Input) (st : State) (few : thread_count i ≤ 64) (u : ℕ) (call 
   abbrev posted_by : List Change → ℕ
   posted_by changes = fold posted_after_change st.posted changes
 
-  -- no number is posted, or ids are set and at most 64 are
+  -- no number is posted, or ids are set and at most 64 are posted
   abbrev pub PostsFew : List Change → Type 0
   PostsFew changes = (posted_by changes ≡ st.posted) ⊎ ((sets_ids call ≡ true) × (posted_by changes ≤ st.posted + 64))
 

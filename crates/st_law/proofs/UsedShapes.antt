@@ -1,4 +1,4 @@
--- A call that is made has the changes of its effect; one that fails before it is made has none.
+-- A call that takes effect has the changes of its effect; one that fails before has none.
 use Rattle.std.proofs.Common.{ℕ, List, Option, Some, None, sym, subst}
 use Rattle.st_base.specs.declared.errno.Errno.{Errno}
 use Rattle.st_base.specs.declared.ids.Ids.{Ids}

@@ -1,4 +1,4 @@
--- All that holds of the record of a lawful run, together.
+-- All invariants of the state of a lawful run, together.
 use native.Mathlib.Omega.{arith}
 use Rattle.std.proofs.Common.{◌≡◌, ◌≤◌, ℕ, zero, suc, Bool, true, false, ◌||◌, ◌==◌, [], ◌∷◌, Option, Some, None, refl, ap, subst, ◌∙◌}
 use Rattle.std.proofs.lemmas.Bool.{eqb-true}
@@ -19,19 +19,19 @@ use Rattle.st_law.proofs.Preserved.{behind}
 use Rattle.st_law.proofs.Turns.{Turns, unlike}
 use Rattle.st_law.proofs.TurnsKept.{turns_behind}
 
--- no message has the number 0, and one that was claimed has a head
+-- no message has the number 0, and each claimed number has a head
 pub record Posted (st : State) : Type 0 where
   pub zero : (st.messages 0).head ≡ None
   pub claimed : (q : ℕ) → (st.messages q).claimed ≡ true → (head : Head) × ((st.messages q).head ≡ Some head)
 
--- a number that lives has a head
+-- a live number has a head
 pub live_head : (st : State) (q : ℕ) → is_live st q ≡ true → (head : Head) × ((st.messages q).head ≡ Some head)
 live_head st q live = by (st.messages q).head refl live where
   by : (o : Option Head) → (st.messages q).head ≡ o → is_live_by o (st.messages q).closed (λ t. (st.threads t).dying) ≡ true → (head : Head) × ((st.messages q).head ≡ Some head)
   by None e x = cc
   by (Some head) e x = (head, e)
 
--- so a number that lives isn't 0
+-- a live number isn't 0
 pub live_number : (st : State) → Posted st → (q : ℕ) → is_live st q ≡ true → 1 ≤ q
 live_number st posted zero live = absurd (unlike (is_live st 0) live (ap (λ o. is_live_by o (st.messages 0).closed (λ t. (st.threads t).dying)) posted.zero))
 live_number st posted (suc q) live = omega arith
@@ -64,7 +64,7 @@ module _ (i : Input) (st : State) (whole : Whole i st) where
   posted_behind (Learned q n) y moved = record { zero = moved.heads 0 (omega arith) ∙ whole.posted.zero; claimed = λ p f. kept_head (state_after i st (Learned q n)) moved p f }
   posted_behind (Replied q reply n) y moved = record { zero = moved.heads 0 (omega arith) ∙ whole.posted.zero; claimed = λ p f. kept_head (state_after i st (Replied q reply n)) moved p f }
 
-  -- all of it holds behind each lawful entry
+  -- all invariants are kept by each lawful entry
   pub whole_behind : (e : Entry) → IsLawful i st e → Whole i (state_after i st e)
   whole_behind e y = record {
     calls = behind i st whole.calls e y;
@@ -86,7 +86,7 @@ turns_first i = record {
   sound = λ q e. cc;
 }
 
--- all of it holds of what looking back on a lawful history says
+-- all invariants hold after a lawful history
 pub whole_of : (i : Input) → IsStartable i → (h : History) → IsLawfulBack i h → Whole i (looking_back i h)
 whole_of i startable [] lawful = record { calls = at_first i startable; turns = turns_first i; posted = record { zero = refl; claimed = λ q e. cc } }
 whole_of i startable (e ∷ h) lawful = whole_behind i (looking_back i h) (whole_of i startable h lawful.1) e lawful.0

@@ -1,4 +1,4 @@
--- A part that is read in one step comes to an end.
+-- A part that is read in one step gives a text or a fault.
 use native.Mathlib.Omega.{arith}
 use Rattle.std.proofs.Common.{◌≡◌, ◌≤◌, ℕ, zero, suc, ◌+◌, Bool, true, false, List, [], ◌∷◌, ◌++◌, length, refl, length-append}
 use Rattle.st_calls.specs.declared.argument.PartKind.{PartKind}
@@ -8,7 +8,7 @@ use Rattle.st_model.specs.Memory.{word_of}
 use Rattle.st_model.proofs.Words.{few_words_of}
 use Rattle.st_law.specs.Arguments.{spelled_on, spelled_within, spelled_in}
 
--- whether a word is asked for
+-- whether one more word is needed
 abbrev pub asks_word : Spelled → Bool
 asks_word (Text text) = false
 asks_word (Fault errno) = false
@@ -28,6 +28,6 @@ ends_within : (count : ℕ) (k : PartKind) (at : ℕ) (bytes : ℕ → ℕ) (wor
 ends_within zero k at bytes words enough = asks_no_more (spell k at words) (λ place e. let few = few_words_of k at words place e in omega (arith, few, enough))
 ends_within (suc count) k at bytes words enough = ends_on _ (spell k at words) (λ place. ends_within count k at bytes (words ++ word_of bytes place ∷ []) (let more = length-append words (word_of bytes place ∷ []) in omega (arith, more, enough)))
 
--- a part that is read in one step comes to an end: a text or a fault
+-- a part that is read in one step needs no further word: it is a text or a fault
 pub ends_in : (bytes : ℕ → ℕ) (k : PartKind) (at : ℕ) → asks_word (spelled_in bytes k at) ≡ false
 ends_in bytes k at = ends_within SPACE_WORDS k at bytes [] (omega arith)

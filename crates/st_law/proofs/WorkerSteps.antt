@@ -1,4 +1,4 @@
--- Each step of a worker, and each of the operator, is lawful.
+-- Each step of a worker or of the operator is lawful.
 use Rattle.std.proofs.Common.{◌≡◌, ℕ, suc, ◌+◌, Bool, true, false, not, ◌&&◌, length, List, Option, Some, None, refl}
 use Rattle.st_calls.specs.declared.argument.ArgText.{ArgText}
 use Rattle.st_calls.specs.declared.judged.Snapshot.{Snapshot}

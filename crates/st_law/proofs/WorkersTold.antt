@@ -23,12 +23,12 @@ use Rattle.st_law.proofs.MessageHistory.{number_is, number_only}
 use Rattle.st_law.proofs.Turns.{live_low, worker_range}
 use Rattle.st_law.proofs.Whole.{Whole, live_number}
 
--- what was claimed where it lives isn't waiting
+-- a number that was claimed if it is live isn't waiting
 not_waiting : (live claimed : Bool) → (live ≡ true → claimed ≡ true) → (live && not claimed) ≡ false
 not_waiting true claimed given = ap not (given refl)
 not_waiting false claimed given = refl
 
--- copies are there once all arguments are
+-- if there are copies, all arguments are complete
 ready_of : (q : ℕ) (o : Option Head) (pr : Progress) (s : Snapshot) → snapshot_of_progress q o pr ≡ Some s → (args : List ArgText) × (pr ≡ Ready args)
 ready_of q None pr s e = cc
 ready_of q (Some head) (Word part place) s e = cc

@@ -1,4 +1,4 @@
--- Short words for inputs and traces, so that a computed run reads like its script and its trace.
+-- Short notations for inputs and traces, so that a computed run reads like its script and its trace.
 use Prim.Native.String.{String}
 use Rattle.std.proofs.Common.{ℕ, zero, suc, ◌+◌, Bool, true, false, List, [], ◌∷◌, ◌++◌, Option, Some, None, codes}
 use Rattle.std.specs.Prelude.{◌/◌, take, drop, length, replicate}
@@ -45,7 +45,7 @@ name text = components_of (codes text)
 abbrev pub object : String → NewKind → ℕ → ℕ → ℕ → TreeRow
 object text kind uid gid mode = record { name = name text; new = record { kind = kind; uid = uid; gid = gid; mode = mode } }
 
--- a directory, a file and a link: its name, owner, group and mode (in decimal), and its content or target
+-- a directory, a file and a link: name, owner, group, mode in decimal, and content or target
 abbrev pub dir : String → ℕ → ℕ → ℕ → TreeRow
 dir text uid gid mode = object text kind.Dir uid gid mode
 
@@ -71,7 +71,7 @@ thread_in p body = record { process = Some p; body = body }
 abbrev pub forked_thread : List Instr → ThreadRow
 forked_thread body = record { process = None; body = body }
 
--- the stores of so many words of bytes, from a place on
+-- the stores of `count` words of these bytes, from a word index on
 abbrev pub stores_of : ℕ → ℕ → List ℕ → List Instr
 stores_of zero place bytes = []
 stores_of (suc count) place bytes = Store place (from_le_bytes w64 (take 8 (bytes ++ replicate 8 0))) ∷ stores_of count (suc place) (drop 8 bytes)
@@ -83,7 +83,7 @@ put_bytes at bytes = stores_of (length bytes / 8 + 1) (at / 8) bytes
 abbrev pub put : ℕ → String → List Instr
 put at text = put_bytes at (codes text)
 
--- six registers, of which these are the first
+-- six registers that begin with these three
 abbrev pub regs : ℕ → ℕ → ℕ → List ℕ
 regs a b c = a ∷ b ∷ c ∷ 0 ∷ 0 ∷ 0 ∷ []
 
@@ -95,7 +95,7 @@ call made a b c = Call made (regs a b c)
 abbrev pub policy : String → List FilterValue → BinaryPolicy
 policy binary filters = record { binary = codes binary; filters = filters }
 
--- a filter of a rule: its expression and action
+-- a filter of a rule, with its expression and action
 abbrev pub when : Rule → Formula → Action → FilterValue
 when rule formula action =
     record { name = filter_name.Rule rule; formula = formula; action = action; grant = None; log = false; predicate = None }
@@ -124,7 +124,7 @@ reply binary filter = record { binary = codes binary; filter = filter }
 
 -- ---- options
 
--- a mode with one worker, aliases, and nothing else
+-- a mode with one worker, aliasing, and no other option
 abbrev pub plainly : Mode → Options
 plainly mode = record { mode = mode; inherit = false; aliasing = true; ids = None; workers = 1 }
 
@@ -153,7 +153,7 @@ operator count = line choice.Operator count
 abbrev pub rest : ScheduleLine
 rest = record { what = Rest; count = 1; line = 0 }
 
--- the trace of what a schedule comes to, none where a choice of it isn't enabled
+-- the trace of a schedule's outcome, none if a choice isn't enabled
 abbrev pub trace_of_outcome : Input → ScheduleOutcome → Option (List Entry)
 trace_of_outcome i (Choices choices) = Some (run i choices)
 trace_of_outcome i (BadLine bad) = None

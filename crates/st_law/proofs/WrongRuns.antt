@@ -1,5 +1,5 @@
--- Wrong rules: for each, a trace that it would give, and that this trace isn't lawful. The wrong entry is the last. What stands before
--- it is a run, and the right run goes on from there with another entry.
+-- Wrong rules: for each, a trace that it would give, and the proof that this trace isn't lawful. The wrong entry is the last. The entries
+-- before it are a run, which the right rule continues with another entry.
 use native.Mathlib.Omega.{arith}
 use Rattle.std.proofs.Common.{◌≡◌, ℕ, true, false, List, [], ◌∷◌, ◌++◌, Option, Some, None, refl, codes, ◌⊎◌, inl, inr, suc, sym, ap, ◌∙◌, ◌==◌}
 use Rattle.std.specs.Fmt.{digits}
@@ -46,7 +46,7 @@ use Rattle.st_law.proofs.ProcessRuns.{killer, setter, set_ids, root_permitted, s
 use Rattle.st_law.proofs.SessionRuns.{learner}
 use Rattle.st_law.proofs.Scripts.{etc_files, tmp_dir, passwd_only, cat_input, asking_input, opens, user, root, filename, cat_copies, opened, passwd_copied}
 
--- ---- what can't be
+-- ---- impossible equalities
 
 not_true : false ≡ true → ⊥
 not_true e = cc
@@ -72,13 +72,13 @@ not_unmatched n errno e = cc
 permit_decides : (n : ℕ) (granted : Ids) → Permit n granted ≡ Unmatched → ⊥
 permit_decides n granted e = cc
 
--- what is said of the copies of a number: they are these, of which this is so
+-- the copies of a number are these, so what holds of the copies found holds of these
 said_of : {R : Type 0} (said : Snapshot → R) (s u : Snapshot) (v w : R) → Some s ≡ Some u → said s ≡ v → said u ≡ w → v ≡ w
 said_of said s u v w e is so = sym is ∙ ap said (same_Some s u e) ∙ so
 
 -- ---- the use of a name
 
--- a link is put in after the check
+-- a link is put in place after the check
 abbrev linked_late : List Entry
 linked_late = tmp_permitted ++ tmp_linked
 
@@ -86,12 +86,12 @@ meets_the_link : trace linker (thread 1 2 ∷ worker 1 5 ∷ thread 2 7 ∷ thre
     ≡ Some (linked_late ++ Denied 1 (Some 1) ELOOP (cause.Link (name "/tmp/f")) ∷ [])
 meets_the_link = refl
 
--- the call follows it: whatever it gives and changes
+-- the call follows the link, with any result and changes
 follows_the_link : (result : CallResult) (changes : List Change) → Lawful linker (
     linked_late ++ Used 1 (Some 1) Open (regs 0 0 0) (filename "/tmp/f") user result changes ∷ []) → ⊥
 follows_the_link result changes l = not_none (name "/tmp/f") l.0.unlinked
 
--- texts of which one is longer than the other
+-- two lists of arguments differ if their texts have different lengths in total
 other_text : (s u : Snapshot) (args : List ArgText) → (sum_by (λ a. length a.text) args == sum_by (λ a. length a.text) s.parts) ≡ false →
     Some s ≡ Some u → args ≡ u.parts → ⊥
 other_text s u args differ e are = unequal (sum_by (λ a. length a.text) args) (sum_by (λ a. length a.text) s.parts) differ
@@ -108,7 +108,7 @@ uses_the_copy : trace rewriter (thread 1 3 ∷ worker 1 6 ∷ thread 2 2 ∷ thr
     ≡ Some (rewritten_late ++ opened 1 "/etc/passwd" user 3 ∷ [])
 uses_the_copy = refl
 
--- the call reads its name from the memory again
+-- the call reads its name from memory again
 reads_the_name_again : (result : CallResult) (changes : List Change) → Lawful rewriter (
     rewritten_late ++ Used 1 (Some 1) Open (regs 0 0 0) (filename "/etc/spwd") user result changes ∷ []) → ⊥
 reads_the_name_again result changes l =
@@ -116,7 +116,7 @@ reads_the_name_again result changes l =
 
 -- ---- copying
 
--- the first word of a name is copied, and then both are rewritten
+-- the first word of a name is copied, and then both words are rewritten
 abbrev half_copied : List Entry
 half_copied =
     Stored 1 0 8314049735936992559 ∷ Stored 1 1 6584179 ∷ Entered 1 Open (regs 0 0 0) (Held 1) ∷ Claimed 1 1 ∷
@@ -127,7 +127,7 @@ copies_the_word_of_now : trace rewriter (thread 1 3 ∷ worker 1 2 ∷ thread 2 
     ≡ Some (half_copied ++ Copied 1 0 1 100 ∷ [])
 copies_the_word_of_now = refl
 
--- a word is copied from the memory as it was when the call entered
+-- a word is copied from the memory as it was when the call was entered
 copies_the_old_word : Lawful rewriter (half_copied ++ Copied 1 0 1 6584179 ∷ []) → ⊥
 copies_the_old_word l = unequal 6584179 100 refl l.0.word_is
 
@@ -137,13 +137,13 @@ claimed = Stored 1 0 8314049735936992559 ∷ Stored 1 1 6584179 ∷ Entered 1 Op
 copies_the_first_word : trace rewriter (thread 1 3 ∷ worker 1 2 ∷ []) ≡ Some (claimed ++ Copied 1 0 0 8314049735936992559 ∷ [])
 copies_the_first_word = refl
 
--- or as it was at the beginning
+-- a word is copied from the memory as it was at the beginning
 copies_zeros : Lawful rewriter (claimed ++ Copied 1 0 0 0 ∷ []) → ⊥
 copies_zeros l = unequal 0 8314049735936992559 refl l.0.word_is
 
--- ---- answers that are stale
+-- ---- stale answers
 
--- the thread is killed once all is copied
+-- the thread is killed after all its words and lookups are taken
 abbrev killed : List Entry
 killed =
     Stored 1 0 112353935717423 ∷ Entered 1 Open (regs 0 0 0) (Held 1) ∷ Claimed 1 1 ∷ Copied 1 0 0 112353935717423 ∷
@@ -156,7 +156,7 @@ answers_too_late_for_the_thread : trace killer (thread 1 2 ∷ worker 1 4 ∷ th
 unfolding digits
 answers_too_late_for_the_thread = refl
 
--- the answer counts though the thread is dying
+-- the answer is applied though the thread is dying
 counts_for_a_dying_thread : Lawful killer (killed ++ Answered 1 (cat_copies 1 user "/tmp/f") (Permit 1 user) true ∷ []) → ⊥
 counts_for_a_dying_thread l = not_false l.0.applied_is
 
@@ -166,7 +166,7 @@ ids_set changes =
     Entered 2 SetUid (regs 1000 0 0) Fast ∷
     Used 2 None SetUid (regs 1000 0 0) (arg Uid 0 "1000" ∷ []) root (Value 0) (SetIds set_ids ∷ changes) ∷ []
 
--- they are set once all is copied
+-- the ids are set after all words are copied
 abbrev renewed_early : List Entry
 renewed_early = passwd_copied ++ ids_set (Renewed 1 2 ∷ [])
 
@@ -175,11 +175,11 @@ answers_too_late_for_the_number : trace setter (thread 1 3 ∷ worker 1 5 ∷ th
 unfolding digits
 answers_too_late_for_the_number = refl
 
--- the answer counts though it is for the old number
+-- the answer is applied though it is for the old number
 counts_for_an_old_number : Lawful setter (renewed_early ++ Answered 1 (cat_copies 1 root "/etc/passwd") (Permit 1 root) true ∷ []) → ⊥
 counts_for_an_old_number l = not_false l.0.applied_is
 
--- they are set after the answer
+-- the ids are set after the answer
 abbrev renewed : List Entry
 renewed = root_permitted ++ ids_set (Renewed 1 2 ∷ [])
 
@@ -192,12 +192,12 @@ goes_on_under_the_old_number : (result : CallResult) (changes : List Change) →
     renewed ++ Used 1 (Some 1) Open (regs 0 0 0) (filename "/etc/passwd") root result changes ∷ []) → ⊥
 goes_on_under_the_old_number result changes l = unequal 2 1 refl l.0.held.number
 
--- or by that answer under the new number
+-- the thread goes on by the old answer under the new number
 goes_on_under_the_new_number : (result : CallResult) (changes : List Change) → Lawful setter (
     renewed ++ Used 1 (Some 2) Open (regs 0 0 0) (filename "/etc/passwd") root result changes ∷ []) → ⊥
 goes_on_under_the_new_number result changes l = not_true l.0.permitted.judged.answered
 
--- they are set while the open waits for a worker
+-- the ids are set while the open waits for a worker
 abbrev waiting : List Entry
 waiting = Stored 1 0 8314049735936992559 ∷ Stored 1 1 6584179 ∷ Entered 1 Open (regs 0 0 0) (Held 1) ∷ []
 
@@ -212,7 +212,7 @@ renews_nothing l = not_empty (Renewed 1 2) [] (ap (drop 1) l.0.outcome.1.changes
 
 -- ---- filters
 
--- two filters hold of a name: the first refuses it
+-- two filters hold of a name, and the first refuses it
 abbrev denied : List Entry
 denied = passwd_copied ++ Answered 1 (cat_copies 1 user "/etc/passwd") (Refuse 1 EPERM) true ∷ []
 
@@ -225,7 +225,7 @@ answers_by_the_last_filter : Lawful etc_denier (
     passwd_copied ++ Answered 1 (cat_copies 1 user "/etc/passwd") (Permit 2 user) true ∷ []) → ⊥
 answers_by_the_last_filter l = not_permit 1 2 EPERM user (sym l.0.verdict_is)
 
--- and where the call is made
+-- the last filter that holds decides: when the call is made
 uses_by_the_last_filter : (result : CallResult) (changes : List Change) → Lawful etc_denier (
     denied ++ Used 1 (Some 1) Open (regs 0 0 0) (filename "/etc/passwd") user result changes ∷ []) → ⊥
 uses_by_the_last_filter result changes l = not_permit 1 l.0.permitted.filter EPERM user
@@ -235,11 +235,11 @@ uses_by_the_last_filter result changes l = not_permit 1 l.0.permitted.filter EPE
 same_ids : (n m : ℕ) (granted other : Ids) → Permit n granted ≡ Permit m other → granted ≡ other
 same_ids n m granted other e = cc
 
--- permits that are the same grant the same
+-- equal permits grant equal ids
 euid_of : (n m : ℕ) (granted other : Ids) → Permit n granted ≡ Permit m other → granted.euid ≡ other.euid
 euid_of n m granted other e = ap (λ x. x.euid) (same_ids n m granted other e)
 
--- a bind is made as root, and the next is permitted as it is
+-- a bind is made as root, and the next is permitted without a grant
 abbrev bound_twice : List Entry
 bound_twice = bound ++ bound_again
 
@@ -285,14 +285,14 @@ asked = passwd_copied ++ Answered 1 (cat_copies 1 user "/etc/passwd") Unmatched 
 learns_the_next_number : trace learner (thread 1 3 ∷ worker 1 6 ∷ operator 1 ∷ []) ≡ Some (asked ++ Learned 1 1 ∷ [])
 learns_the_next_number = refl
 
--- the filter that is learnt has another number
+-- the learnt filter has a wrong number
 learns_a_wrong_number : Lawful learner (asked ++ Learned 1 2 ∷ []) → ⊥
 learns_a_wrong_number l =
     let count : Snapshot → ℕ = filter_count learner (looking_back learner (reverse asked)) in
     unequal 2 1 refl (l.0.asked.number ∙ ap suc (sym
     (said_of count (cat_copies 1 user "/etc/passwd") l.0.copies 0 (count l.0.copies) l.0.asked.copies refl refl)))
 
--- a name that is a link is opened, and learnt, and then the name that it leads to is opened
+-- a name that is a link is opened and learnt, and then the name that it leads to is opened
 abbrev both_opener : Input
 both_opener = asking_input Learn (etc_files ++ tmp_dir ∷ link "/tmp/l" 0 0 "/etc/passwd" ∷ [])
     (thread_in 1 (opens "/tmp/l" ++ opens "/etc/passwd") ∷ []) []
@@ -316,7 +316,7 @@ the_learnt_name_is_permitted = refl
 learns_the_name_as_written : Lawful both_opener (both_answered ++ Learned 2 2 ∷ []) → ⊥
 learns_the_name_as_written l = not_true l.0.asked.question
 
--- or is denied
+-- the first name is learnt as it was written, so that the second is denied
 denies_the_name_as_written : Lawful both_opener (both_answered ++ Denied 1 (Some 2) EPERM NoFilter ∷ []) → ⊥
 denies_the_name_as_written l = permit_decides 1 user
     (said_of (decision_in both_opener (looking_back both_opener (reverse both_answered))) (cat_copies 2 user "/etc/passwd")
@@ -324,7 +324,7 @@ denies_the_name_as_written l = permit_decides 1 user
 
 -- ---- denials
 
--- each denial says that no filter decides: where a filter refuses
+-- each denial says that no filter decides: here although a filter refuses
 hides_the_filter : Lawful etc_denier (denied ++ Denied 1 (Some 1) EPERM NoFilter ∷ []) → ⊥
 hides_the_filter l = not_unmatched 1 EPERM
     (said_of (decision_in etc_denier (looking_back etc_denier (reverse denied))) (cat_copies 1 user "/etc/passwd") l.0.cause_is.0
@@ -336,11 +336,11 @@ tells_the_bar = refl
 filter_decides : (n : ℕ) → NoFilter ≡ cause.Filter n → ⊥
 filter_decides n e = cc
 
--- where a call is barred
+-- here although a call is barred
 hides_the_bar : Lawful barred (Entered 1 GetUid (regs 0 0 0) (Barred 1) ∷ Denied 1 None EPERM NoFilter ∷ []) → ⊥
 hides_the_bar l = filter_decides 1 l.0.cause_is
 
--- where a name is faulty
+-- here although a name is faulty
 abbrev faulted : List Entry
 faulted = Entered 1 Open (regs 0 0 0) (Held 1) ∷ Claimed 1 1 ∷ Copied 1 0 0 0 ∷ Faulted 1 ENOENT ∷ []
 
@@ -350,7 +350,7 @@ tells_the_fault = refl
 hides_the_fault : Lawful nameless (faulted ++ Denied 1 (Some 1) EPERM NoFilter ∷ []) → ⊥
 hides_the_fault l = not_none ENOENT l.0.cause_is.1.unfaulted
 
--- neither of two things that don't hold
+-- neither of two false alternatives holds
 neither : {A : Type 0} {left : List A} {P : Type 0} (dying : Bool) → dying ≡ false → (a : A) → left ≡ a ∷ [] → (dying ≡ true) ⊎ ((left ≡ []) × P) → ⊥
 neither dying d a f (inl e) = cc
 neither dying d a f (inr e) = let g = e.0 in cc
@@ -376,7 +376,7 @@ asks e = cc
 holds_each_call : Lawful (maker GetPid (permits (Rule.Call GetPid))) (Entered 1 GetPid (regs 0 0 0) (Held 1) ∷ []) → ⊥
 holds_each_call l = permits_itself l.0.way_is.2
 
--- a first filter that logs, that asks for the ids, and that grants others
+-- first filters that log, that have a predicate, and that have a grant
 abbrev logging : Input
 logging = maker GetPid (logged (permits (Rule.Call GetPid)))
 
@@ -390,7 +390,7 @@ such_calls_are_held : map (λ i. trace i (thread 1 1 ∷ [])) (logging ∷ askin
     replicate 3 (Some (Entered 1 GetPid (regs 0 0 0) (Held 1) ∷ []))
 such_calls_are_held = refl
 
--- such a call is fast
+-- a call with such a filter is fast
 is_fast_and_logs : Lawful logging (Entered 1 GetPid (regs 0 0 0) Fast ∷ []) → ⊥
 is_fast_and_logs l = asks l.0.way_is.1
 
@@ -400,7 +400,7 @@ is_fast_and_asks_for_ids l = asks l.0.way_is.1
 is_fast_and_grants_ids : Lawful granting_ids (Entered 1 GetPid (regs 0 0 0) Fast ∷ []) → ⊥
 is_fast_and_grants_ids l = asks l.0.way_is.1
 
--- ---- what is seen
+-- ---- lookups
 
 abbrev copied_name : List Entry
 copied_name = claimed ++ Copied 1 0 0 8314049735936992559 ∷ Copied 1 0 1 6584179 ∷ []
@@ -414,14 +414,14 @@ not_file e = cc
 not_missing : Missing ≡ Dir → ⊥
 not_missing e = cc
 
--- a file or nothing is seen in its place
+-- a file or nothing is seen in place of the directory
 sees_a_file : Lawful rewriter (copied_name ++ Looked 1 0 (name "/etc") File ∷ []) → ⊥
 sees_a_file l = not_file l.0.seen_is
 
 sees_nothing : Lawful rewriter (copied_name ++ Looked 1 0 (name "/etc") Missing ∷ []) → ⊥
 sees_nothing l = not_missing l.0.seen_is
 
--- ---- what a call shows
+-- ---- the record of a call
 
 abbrev value_of : CallResult → ℕ
 value_of (Value n) = n
@@ -440,7 +440,7 @@ made_under_other_ids l = unequal 1000 0 refl (ap (λ x. x.euid) l.0.identity)
 gives_another_number : Lawful plain (Entered 1 GetPid (regs 0 0 0) Fast ∷ Used 1 None GetPid (regs 0 0 0) [] root (Value 2) [] ∷ []) → ⊥
 gives_another_number l = unequal 2 1 refl (ap value_of l.0.outcome.1.result_is)
 
--- a held call gives another descriptor, or changes what it doesn't change
+-- a held call gives another descriptor, or makes a change that isn't its own
 gives_another_descriptor : Lawful rewriter (rewritten_late ++ opened 1 "/etc/passwd" user 4 ∷ []) → ⊥
 gives_another_descriptor l = unequal 4 3 refl (ap value_of l.0.outcome.result_is)
 
@@ -448,7 +448,7 @@ removes_what_it_opens : Lawful rewriter (
     rewritten_late ++ Used 1 (Some 1) Open (regs 0 0 0) (filename "/etc/passwd") user (Value 3) (Removed (name "/etc/passwd") ∷ []) ∷ []) → ⊥
 removes_what_it_opens l = not_empty (Removed (name "/etc/passwd")) [] (sym l.0.outcome.changes_are)
 
--- a call whose name is faulty shows it
+-- a call whose name is faulty records its name
 abbrev fast_nameless : Input
 fast_nameless = cat_input (permits FsRead ∷ []) etc_files (thread_in 1 (call Open 0 0 0 ∷ []) ∷ [])
 
@@ -483,7 +483,7 @@ denies_a_link_with_another_error l = not_eperm l.0.cause_is.4
 
 -- ---- ends
 
--- neither of two things that a pending call keeps from holding
+-- neither of two alternatives holds while a call is pending
 unended : {A : Type 0} {P : Type 0} (dying : Bool) → dying ≡ false → (a : A) (pending : Option A) → pending ≡ Some a → (dying ≡ true) ⊎ (P × (pending ≡ None)) → ⊥
 unended dying d a pending e (inl x) = cc
 unended dying d a pending e (inr x) = let none = x.1 in cc
@@ -505,12 +505,12 @@ gives_the_first_reply = refl
 abbrev left_in : Input → ℕ → Snapshot → Bool
 left_in i r s = is_reply_left i (looking_back i (reverse asked)) s.policy s.rule r
 
--- the second is given first
+-- the second reply is given first
 gives_a_later_reply : Lawful two_replies (asked ++ Replied 1 2 1 ∷ []) → ⊥
 gives_a_later_reply l = not_false (said_of (left_in two_replies 1) (cat_copies 1 user "/etc/passwd") l.0.copies true false
     l.0.asked.copies refl (l.0.first 1 (omega arith) (omega arith)))
 
--- or one for another binary
+-- a reply for another binary is given
 abbrev other_reply : Input
 other_reply = asking_input AskText etc_files (thread_in 1 (opens "/etc/passwd") ∷ []) (reply "/bin/sh" passwd_only ∷ reply "/bin/cat" passwd_only ∷ [])
 
@@ -521,7 +521,7 @@ gives_a_reply_of_another_binary : Lawful other_reply (asked ++ Replied 1 1 1 ∷
 gives_a_reply_of_another_binary l = not_true (said_of (left_in other_reply 1) (cat_copies 1 user "/etc/passwd") l.0.copies false true
     l.0.asked.copies refl l.0.there)
 
--- it learns where it has to reply, and replies where it has to learn
+-- the operator learns where it has to reply, and replies where it has to learn
 not_learning : AskText ≡ Learn → ⊥
 not_learning e = cc
 

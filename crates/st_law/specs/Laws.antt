@@ -68,7 +68,7 @@ HasBegun t (Stored u place word ∷ h) begun = IsBegun u t (λ instruction. inst
 HasBegun t (Entered u call regs way ∷ h) begun = IsBegun u t (λ instruction. IsCallOf instruction call regs) (HasBegun t h) begun
 HasBegun t (_ ∷ h) begun = HasBegun t h begun
 
--- ---- what a call finds
+-- ---- what a call sees
 
 -- a thread of the script
 abbrev pub IsOneOf : Input → ℕ → Type 0

@@ -212,7 +212,7 @@ abbrev pub answer_entry : Input → State → ℕ → ℕ → Option Snapshot �
 answer_entry i st w q None = None
 answer_entry i st w q (Some s) = Some (Answered w s (verdict (read_for i s.policy s.rule) s) (is_live st q))
 
--- a worker copies the next word, looks up the next name, reports the fault, or answers
+-- a worker copies the next word, looks up the next name, finds a fault, or answers
 abbrev pub working_entry : Input → State → ℕ → ℕ → Progress → Option Entry
 working_entry i st w q (Word part place) = Some (Copied q part place (word_for st q place))
 working_entry i st w q (Look part name) = Some (Looked q part name (look st.tree name))

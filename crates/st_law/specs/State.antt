@@ -242,7 +242,7 @@ is_open_question i st (Some s) = is_undecided (decision_in i st s) && is_asked i
 abbrev pub is_question : Input → State → ℕ → Bool
 is_question i st q = is_live st q && (st.messages q).answered && is_open_question i st (snapshot_in st q)
 
--- ---- the modelled system, as a call finds it
+-- ---- the modelled system, as a call sees it
 
 -- the held call of a thread, by its way; none if the thread is dying, whose number isn't live any more
 abbrev pub held_by_way : State → ℕ → Way → List HeldCall

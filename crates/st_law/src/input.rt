@@ -15,9 +15,9 @@ pub struct Input {
 /// What happens to a call that no filter decides, by the options of systrace(1).
 #[derive(Clone, Copy, Debug, PartialEq, Eq)]
 pub enum Mode {
-    /// It is denied (`-a`).
+    /// The call is denied (`-a`).
     Enforce,
-    /// It is permitted, and a filter that permits it is added to the session (`-A`).
+    /// The call is permitted, and a filter that permits it is added to the session (`-A`).
     Learn,
     /// The script's next reply for it is added to the session (`-t`).
     AskText,

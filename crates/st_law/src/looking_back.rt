@@ -13,7 +13,7 @@ ghost use Rattle.st_law.specs.Threads.{History, body_of, first_owner, has_ended_
 ghost use Rattle.st_law.specs.declared.input.Input.{Input};
 ghost use Rattle.st_trace.specs.declared.entry.Entry.{Entry};
 
-/// The record of a thread, read off the entries. Its process is the first that it was started in. It goes through its body. It holds its
+/// The state of a thread, read off the entries. Its process is the first that it was started in. It goes through its body. It holds its
 /// call under the number that the call was entered with, or was renewed as. It is dying, or has ended, exactly after an entry that makes it
 /// so.
 pub fn a_thread_is_its_history()
@@ -28,7 +28,7 @@ pub fn a_thread_is_its_history()
     ensures ended { (t : ℕ) → IsTrueBehind (λ h. has_ended_at h t) (IsEnd t) }
 {}
 
-/// The record of a process, read off the changes: each part has the value that the last change of this part gave it. The same holds of the
+/// The state of a process, read off the changes: each part has the value that the last change of this part gave it. The same holds of the
 /// numbers of the next process and of the next space.
 pub fn a_process_is_its_history()
     ensures traced { (i : Input) (p : ℕ) → IsLastChanged (λ h. (process_at i h p).traced) (first_process i p).traced (GivesTraced i p) }
@@ -48,7 +48,7 @@ pub fn memory_and_files_are_what_was_written()
     ensures descriptors { (i : Input) → IsLastOf (descriptors_at i) (first_descriptors i) (GivesTable i) }
 {}
 
-/// The record of a number's message and of a worker's turn, read off the entries.
+/// The state of a number's message and of a worker's turn, read off the entries.
 pub fn a_message_is_its_history()
     ensures head { (i : Input) (q : ℕ) → IsLastGiven (λ h. head_at i h q) None (Posts q) (GivesHead i q) }
     ensures posted { (h : History) → posted_at h ≡ length (numbers_so_far h) }

@@ -56,8 +56,8 @@ pub fn what_the_kernel_answers_by_itself()
     ensures refuses { (i : Input) (st : State) (process : Process) (call : SysCall) (regs : List ℕ) (errno : Errno) → (answer_in i st process call regs ≡ answer.Refuse errno) ↔ ((f : FilterValue) × IsFirstFilter i st process.policy (rule_of call regs i.options.aliasing) f × IsPlainDenial errno f) }
 {}
 
-/// The filters that were read decide, otherwise those of the session, which are numbered on. The filters of a policy and a rule are counted
-/// the same way.
+/// The filters that were read decide, otherwise those of the session, which are numbered on. The count of filters of a policy and a rule
+/// includes both.
 pub fn what_the_filters_decide()
     ensures read { (i : Input) (st : State) (s : Snapshot) → verdict (read_filters i.policies s.policy s.rule) s ≢ Unmatched → decision_in i st s ≡ verdict (read_filters i.policies s.policy s.rule) s }
     ensures session { (i : Input) (st : State) (s : Snapshot) → verdict (read_filters i.policies s.policy s.rule) s ≡ Unmatched → decision_in i st s ≡ verdict_from (1 + length (read_filters i.policies s.policy s.rule)) (session_filters st.session s.policy s.rule) s }
