@@ -1,4 +1,4 @@
--- A number that a renewal draws is that of the thread whose number it renews.
+-- A number that a renewal draws belongs to the thread whose number it renews.
 use native.Mathlib.Omega.{arith}
 use Rattle.std.proofs.Common.{◌≡◌, ◌≢◌, ◌≤◌, ◌⊎◌, ℕ, zero, suc, ◌+◌, Bool, true, false, cond, ◌||◌, ◌==◌, List, [], ◌∷◌, ◌++◌, Option, Some, None, option_map, refl, sym, ap, ◌∙◌, inl, inr}
 use Rattle.std.proofs.lemmas.Bool.{eq-eqb, eqb-true, ne_eqb, or_right, true≢false}
@@ -28,7 +28,7 @@ renewed_stays : (q : ℕ) (c : Change) → is_renewed_by q true c ≡ true
 renewed_stays q (Renewed old new) = or_right (old == q) true refl
 renewed_stays q _ = refl
 
--- one renewal more, by whether it is of this number
+-- one more renewal, by whether it is of this number
 seq_by : (n new : ℕ) (before : Bool) (changes : List Change) (b : Bool) → fold (is_renewed_by n) (b || before) changes ≡ false → (fold (is_renewed_by n) before changes ≡ false → seq_after n changes ≡ n) → seq_after (cond b new n) changes ≡ n
 seq_by n new before changes true e later = absurd (true≢false (sym (fold_stays (is_renewed_by n) true (renewed_stays n) changes) ∙ e))
 seq_by n new before changes false e later = later e
@@ -38,18 +38,18 @@ seq_kept n before [] e = refl
 seq_kept n before (Renewed old new ∷ changes) e = seq_by n new before changes (old == n) e (seq_kept n before changes)
 seq_kept n before (_ ∷ changes) e = seq_kept n before changes e
 
--- ---- held calls have numbers of their own
+-- ---- held calls have different numbers
 
--- the thread of a held call comes behind this one
+-- the thread of a held call is t or a later one
 abbrev IsBehind : ℕ → HeldCall → Type 0
 IsBehind t held = t ≤ held.tid
 
--- held calls of threads, each in front of later ones'
+-- held calls in the order of their threads
 abbrev Rising : List HeldCall → Type 0
 Rising [] = Unit {0}
 Rising (held ∷ more) = EachHeld (IsBehind (suc held.tid)) more × Rising more
 
--- held calls with a number each
+-- held calls with different numbers
 abbrev pub Apart : List HeldCall → Type 0
 Apart [] = Unit {0}
 Apart (held ∷ more) = EachHeld (λ other. held.number ≢ other.number) more × Apart more
@@ -113,14 +113,14 @@ module _ (i : Input) (st : State) (inv : Invariant i st) where
   pub apart : (a count : ℕ) → Apart (held_from st a count)
   apart a count = apart_by (held_from st a count) (items st a count) (rising st a count)
 
--- ---- which held call a new number is of
+-- ---- which held call a new number is for
 
 each_both : (P Q : HeldCall → Type 0) (helds : List HeldCall) → EachHeld P helds → EachHeld Q helds → EachHeld (λ held. P held × Q held) helds
 each_both P Q [] x y = tt
 each_both P Q (held ∷ more) x y = ((x.0, y.0), each_both P Q more x.1 y.1)
 
 module _ (m u : ℕ) (heads : ℕ → Option Head) (process : Process) (q : ℕ) where
-  -- these renewals give number q to a held call of this kind, with its head renewed
+  -- these renewals give number q to a held call with this property, with its head renewed
   pub record IsDrawn (P : HeldCall → Type 0) (before : Option Head) (changes : List Change) : Type 0 where
     pub held : HeldCall
     pub item : P held
@@ -128,7 +128,7 @@ module _ (m u : ℕ) (heads : ℕ → Option Head) (process : Process) (q : ℕ)
     pub number : seq_after held.number changes ≡ q
     pub head : fold (head_after_change heads process q) before changes ≡ option_map (renewed_head process) (heads held.number)
 
-  -- the head of number q is as before, or one of them is given the number
+  -- the head of number q is unchanged, or one of the held calls is given the number
   abbrev pub SameOrDrawn : (HeldCall → Type 0) → Option Head → List Change → Type 0
   SameOrDrawn P before changes = (fold (head_after_change heads process q) before changes ≡ before) ⊎ IsDrawn P before changes
 
@@ -143,7 +143,7 @@ module _ (m u : ℕ) (heads : ℕ → Option Head) (process : Process) (q : ℕ)
         ∙ head_below m u heads process q (option_map (renewed_head process) (heads held.number)) (next + 1) more (omega (arith, same));
   }
 
-  -- one of the later ones is, and the first of them another number
+  -- one of the later held calls is given the number, and the first another number
   drawn_later : (P : HeldCall → Type 0) (before : Option Head) (next : ℕ) (held : HeldCall) (changes : List Change) → (next == q) ≡ false → SameOrDrawn (λ other. P other × held.number ≢ other.number) before changes → SameOrDrawn P before (Renewed held.number next ∷ changes)
   drawn_later P before next held changes away (inl same) =
       inl (ap (λ b. fold (head_after_change heads process q) (cond b (option_map (renewed_head process) (heads held.number)) before) changes) away ∙ same)

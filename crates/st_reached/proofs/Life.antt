@@ -1,4 +1,4 @@
--- Which numbers live behind each lawful entry.
+-- Which numbers are live after each lawful entry.
 use native.Mathlib.Omega.{arith}
 use Rattle.std.proofs.Common.{◌≡◌, ◌≤◌, ℕ, suc, ◌+◌, Bool, true, false, cond, not, ◌&&◌, ◌||◌, ◌==◌, List, [], ◌∷◌, Option, Some, None, option_map, refl, sym, ap, subst, ◌∙◌}
 use Rattle.std.proofs.lemmas.Bool.{and_parts, eq-eqb, eqb-false, eqb-true, false_from_ne_true, ne_eqb, or_parts, true≢false}
@@ -42,7 +42,7 @@ eqb-sym m n = by (m == n) refl where
 
 -- ---- a call is entered, made or denied
 
--- a number that is closed lives no more
+-- a closed number isn't live
 pub closed_life : (s closed : Bool) (o : Option Head) (dying : ℕ → Bool) → is_live_by o (s || closed) dying ≡ cond s false (is_live_by o closed dying)
 closed_life true closed None dying = refl
 closed_life true closed (Some head) dying = refl
@@ -50,7 +50,7 @@ closed_life false closed o dying = refl
 
 -- ---- changes that renew nothing
 
--- a number of a process that is killed, or that runs another binary, lives no more
+-- a number of a process that is killed, or that executes another binary, isn't live any more
 killed_life : (x c b : Bool) → cond x false (not c && not b) ≡ (not c && not (b || x))
 killed_life true true b = refl
 killed_life true false true = refl
@@ -80,7 +80,7 @@ module _ (st : State) (u other : ℕ) where
   abbrev m : ℕ
   m = (st.threads u).owner
 
-  -- a number without a head doesn't live
+  -- a number without a head isn't live
   headless : (st.messages other).head ≡ None → (changes : List Change) → Each IsNoRenewal changes → (alive : ℕ → Bool) → alive other ≡ false → life_after_changes st m alive changes other ≡ false
   headless none [] calm alive e = e
   headless none (Dying p ∷ changes) calm alive e = headless none changes calm.1 (life_after_change st m alive (Dying p)) (dead (is_number_of st p other) (alive other) e)
@@ -95,7 +95,7 @@ module _ (st : State) (u other : ℕ) where
     abbrev p : ℕ
     p = (st.threads t).owner
 
-    -- a number lives still where its thread isn't dying, and it isn't closed
+    -- a number stays live if its thread isn't dying and it isn't closed
     calm_life : (changes : List Change) → Each IsNoRenewal changes → (alive : ℕ → Bool) (c b : Bool) → alive other ≡ (not c && not b) → ((u == t) ≡ true → (not c && not b) ≡ false)
         → life_after_changes st m alive changes other ≡ (not c && not (dying_after t p u m b changes))
     calm_life [] calm alive c b e mine = e
@@ -120,7 +120,7 @@ renewal_life false true o fresh s c dying alive e unclosed lives = closed s o wh
 renewal_life false false o fresh s c dying alive e unclosed lives = e
 
 module _ (st : State) (m u : ℕ) (heads : ℕ → Option Head) (process : Process) (dying : ℕ → Bool) (other : ℕ) (s : Bool) where
-  -- a held call lives under the number that it is renewed as
+  -- a held call's renewed number is live
   abbrev LivesOn : HeldCall → Type 0
   LivesOn held = is_live_by (option_map (renewed_head process) (heads held.number)) false dying ≡ true
 
@@ -172,7 +172,7 @@ module _ (i : Input) (st : State) (inv : Invariant i st) (owned : Owned st) (oth
     held_life true same = (λ k. not (inv.closed other (let is = eqb-true p other same in let drawn : p ≡ suc st.posted = y.way_is.1 in omega (arith, is, drawn)) k) && not (y.running.undying k))
     held_life false same = refl
 
-    -- the next number lives, and each other does as before
+    -- the next number is live, and each other number is as before
     pub entered_life : is_live (state_after i st (Entered u call regs (Held p))) other ≡ cond (other == p) true (is_live st other)
     entered_life = held_life (p == other) refl ∙ ap (λ b. cond b true (is_live st other)) (eqb-sym p other)
 
@@ -248,7 +248,7 @@ module _ (i : Input) (st : State) (inv : Invariant i st) (owned : Owned st) (oth
     pub used_life : is_live (state_after i st made) other ≡ life_after st made other
     used_life = used_by (used_shape i st u call regs args ids result changes seq y)
 
-  -- which numbers live behind a lawful entry
+  -- which numbers are live after a lawful entry
   pub life_behind : (e : Entry) → IsLawful i st e → is_live (state_after i st e) other ≡ life_after st e other
   life_behind (Entered u call regs Fast) y = refl
   life_behind (Entered u call regs Untraced) y = refl

@@ -1,4 +1,4 @@
--- Which numbers live behind each kind of entry, as a function of the number.
+-- Which numbers are live after each kind of entry, as a function of the number.
 use Rattle.std.proofs.Common.{◌≡◌, ℕ, suc, Bool, true, false, cond, ◌==◌, List, [], ◌∷◌, Option, Some, None, refl, ap, ◌∙◌}
 use Rattle.st_base.specs.declared.errno.Errno.{Errno}
 use Rattle.st_base.specs.declared.ids.Ids.{Ids}
@@ -21,7 +21,7 @@ use Rattle.st_reached.specs.Reached.{is_number_of, life_after_changes, life_with
 use Rattle.st_reached.proofs.Life.{closed_life, entered_life, eqb-sym, used_life}
 use Rattle.st_reached.proofs.Reached.{Reached}
 
--- an entry by which no number begins or ends to live
+-- an entry that neither enters nor denies a held call and makes none: the same numbers are live after it
 abbrev pub LeavesNumbers : Entry → Type 0
 LeavesNumbers (Entered t call regs (Held q)) = ⊥
 LeavesNumbers (Used t seq call regs args ids result changes) = ⊥
@@ -57,7 +57,7 @@ plain_same st m alive (Renewed old new ∷ changes) plain other = absurd plain.0
 plain_same st m alive (_ ∷ changes) plain other = plain_same st m alive changes plain.1 other
 
 module _ (i : Input) (st : State) (reached : Reached i st) where
-  -- a call that is held posts its number
+  -- a held call posts its number
   pub held_life : (u p : ℕ) (call : SysCall) (regs : List ℕ) → IsEntered i st u call regs (Held p) → (other : ℕ) → is_live (state_after i st (Entered u call regs (Held p))) other ≡ cond (other == p) true (is_live st other)
   held_life u p call regs y other = entered_life i st reached.whole.calls reached.owned other u p call regs y
 
@@ -68,11 +68,11 @@ module _ (i : Input) (st : State) (reached : Reached i st) where
     abbrev life_then : List Change → ℕ → Bool
     life_then changes other = is_live (state_after i st (Used u seq call regs args ids result changes)) other
 
-    -- by its changes, one after the other
+    -- the numbers that are live after a call, by its changes, one after the other
     pub life_is : (changes : List Change) → Made changes → (other : ℕ) → life_then changes other ≡ life_after_changes st (st.threads u).owner (life_without st seq) changes other
     life_is changes y other = used_life i st reached.whole.calls reached.owned other u seq call regs args ids result changes y
 
-    -- by changes of which none is an end of processes' numbers or a renewal
+    -- the numbers that are live after changes none of which ends a process's numbers or renews one
     pub plain_life : (changes : List Change) → Each IsPlain changes → Made changes → (other : ℕ) → life_then changes other ≡ life_without st seq other
     plain_life changes plain y other = life_is changes y other ∙ plain_same st (st.threads u).owner (life_without st seq) changes plain other
 

@@ -1,4 +1,4 @@
--- How many processes and memories a run makes: a call makes one of each at most.
+-- How many processes and spaces a run makes: a call makes at most one of each.
 use native.Mathlib.Omega.{arith}
 use Rattle.std.proofs.Common.{◌≡◌, ◌≤◌, ℕ, suc, ◌+◌, Bool, true, false, List, [], ◌∷◌, length, refl, sym, ap, subst}
 use Rattle.std.proofs.lemmas.List.Sums.{sum_by-cons}
@@ -58,7 +58,7 @@ space_quiet : (n : ℕ) (changes : List Change) → AreQuiet changes → next_sp
 space_quiet n changes all = fold_same next_space_after_change IsQuiet space_still n changes all
 
 module _ (i : Input) (st : State) (u : ℕ) (regs : List ℕ) (args : List ArgText) (ids : Ids) (call : SysCall) where
-  -- one process more at most
+  -- at most one more process
   abbrev OneProcess : List Change → Type 0
   OneProcess changes = next_process_after st.next_process changes ≤ st.next_process + 1
 
@@ -74,7 +74,7 @@ module _ (i : Input) (st : State) (u : ℕ) (regs : List ℕ) (args : List ArgTe
       (let same : next_process_after st.next_process (SetIds set ∷ renewals (st.threads u).owner u (suc st.posted) (held_from st 1 (thread_count i))) ≡ st.next_process =
       renewals_same (st.threads u).owner u next_process_after_change (λ n old fresh. refl) st.next_process (suc st.posted) (held_from st 1 (thread_count i)) in omega (arith, same))
 
-  -- one memory more at most
+  -- at most one more space
   abbrev OneSpace : List Change → Type 0
   OneSpace changes = next_space_after st.next_space changes ≤ st.next_space + 1
 
@@ -107,14 +107,14 @@ makes_spaces i = record {
 }
 
 module _ (i : Input) (startable : IsStartable i) (choices : List Choice) where
-  -- no run makes more processes than it has at first and its script has instructions
+  -- no run makes more processes than it has at first plus one for each instruction of its script
   pub few_processes : (state_of_run i choices).next_process ≤ suc (process_count i) + instruction_count i
   few_processes =
       let most = spent_most one_each one_call i startable (λ st. st.next_process) (makes_processes i) choices in
       let all = all_ones i.start.threads in
       omega (arith, most, all)
 
-  -- nor more memories
+  -- nor more spaces
   pub few_spaces : (state_of_run i choices).next_space ≤ suc (process_count i) + instruction_count i
   few_spaces =
       let most = spent_most one_each one_call i startable (λ st. st.next_space) (makes_spaces i) choices in

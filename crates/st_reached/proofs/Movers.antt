@@ -1,4 +1,4 @@
--- Whose an entry is: that of the thread that makes it, and no thread's where a worker or the operator does.
+-- The thread of an entry: the thread that makes it, and no thread if a worker or the operator does.
 use native.Mathlib.Omega.{arith}
 use Rattle.std.proofs.Common.{◌≡◌, ◌≢◌, ◌≤◌, ◌∙◌, ◌==◌, ◌||◌, ℕ, List, [], ◌∷◌, Option, Some, None, refl, sym, subst}
 use Rattle.std.proofs.lemmas.Option.{none-some}
@@ -131,7 +131,7 @@ module _ (i : Input) (st : State) where
   operator_nobodys None = tt
   operator_nobodys (Some q) = asked_nobodys q (snapshot_in st q)
 
--- ---- who moves
+-- ---- which choice makes an entry
 
 -- a choice that adds an entry of a thread is that thread's
 pub thread_adds : (i : Input) (st : State) (c : Choice) (e : Entry) → entry_of i st c ≡ Some e → (t : ℕ) → 1 ≤ t → thread_of e ≡ t → thread_entry i st t ≡ Some e
@@ -145,6 +145,6 @@ thread_adds i st choice.Operator e adds t some same =
     let nobodys : thread_of e ≡ 0 = subst (Says IsNobodys) adds (operator_nobodys i st (least_question i st)) in
     absurd (omega (arith, some, same, nobodys))
 
--- so a thread that adds nothing made no entry
+-- a thread that adds no entry didn't make this entry
 pub others_add : (i : Input) (st : State) (c : Choice) (e : Entry) → entry_of i st c ≡ Some e → (t : ℕ) → 1 ≤ t → thread_entry i st t ≡ None → thread_of e ≢ t
 others_add i st c e adds t some none same = none-some e (sym none ∙ thread_adds i st c e adds t some same)

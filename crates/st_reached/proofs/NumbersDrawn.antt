@@ -1,4 +1,4 @@
--- How many numbers a run draws: those that it has drawn, and those that its threads may still draw, are never more than at first.
+-- The bound of numbers of a run: the numbers drawn and those that its threads may still draw are together never more than at first.
 use native.Mathlib.Omega.{arith}
 use Rattle.std.proofs.Common.{◌≡◌, ◌≢◌, ◌≤◌, ℕ, suc, ◌+◌, ◌*◌, Bool, true, false, cond, ◌==◌, List, [], ◌∷◌, drop, length, reverse, Option, Some, None, refl, sym, ap, subst, ◌∙◌, inl, inr}
 use Rattle.std.proofs.lemmas.Bool.{eq-eqb, eqb-true}
@@ -38,16 +38,16 @@ use Rattle.st_law.proofs.UsedPosted.{PostsFew, used_posts}
 use Rattle.st_law.proofs.Whole.{whole_of}
 use Rattle.st_reached.specs.Reached.{most_numbers}
 
--- ---- what is left to be drawn
+-- ---- numbers that may still be drawn
 
--- a call draws a number where it is held, and one that sets ids renews those of 64 threads at most
+-- a call draws one number if it is held, and a call that sets ids renews those of at most 64 threads
 abbrev renewed_most : Bool → ℕ
 renewed_most sets = 64 * cond sets 1 0
 
 abbrev numbers_of_body : List Instr → ℕ
 numbers_of_body body = length body + 64 * count_by is_set_id body
 
--- the number of a call that is pending is drawn already
+-- the number of a pending call is already drawn
 abbrev numbers_of_pending : Option PendingCall → ℕ
 numbers_of_pending None = 0
 numbers_of_pending (Some entered) = renewed_most (sets_ids entered.call)
@@ -62,7 +62,7 @@ numbers_left i st = total (λ t. numbers_of (st.threads t)) 1 (thread_count i)
 one_taken : (x : Instr) (later : List Instr) → numbers_of_body (x ∷ later) ≡ 1 + renewed_most (is_set_id x) + numbers_of_body later
 one_taken x later = let more = sum_by-cons (λ y. cond (is_set_id y) 1 0) x later in omega (arith, more)
 
--- an instruction sets ids where its call does
+-- an instruction sets ids if its call does
 sets_by : (x : Instr) (call : SysCall) (regs : List ℕ) → IsCallOf x call regs → sets_ids call ≡ is_set_id x
 sets_by (Store place word) call regs makes = absurd makes
 sets_by (Call own own_regs) call regs makes = ap sets_ids makes.0
@@ -88,11 +88,11 @@ left_at_first i = first_left i.start.threads (λ t. numbers_of ((first_state i).
 -- ---- from entry to entry
 
 module _ (i : Input) (st : State) (inv : Invariant i st) (few : thread_count i ≤ 64) where
-  -- what is drawn and what is left are no more than before
+  -- the numbers drawn and those left are together no more than before
   abbrev Draws : Entry → Type 0
   Draws e = (state_after i st e).posted + numbers_left i (state_after i st e) ≤ st.posted + numbers_left i st
 
-  -- no more is drawn than what a thread that has started has less left
+  -- no more numbers are drawn than a started thread has fewer left
   draws : (e : Entry) (u d : ℕ) → (st.threads u).owner ≢ 0 → posted_after e st.posted ≤ st.posted + d → ((t : ℕ) → numbers_of ((state_after i st e).threads t) + cond (u == t) d 0 ≤ numbers_of (st.threads t)) → Draws e
   draws e u d started drawn less =
       let thread : IsThread i u = inv.started u started in
@@ -116,7 +116,7 @@ module _ (i : Input) (st : State) (inv : Invariant i st) (few : thread_count i �
   denied_draws : (u : ℕ) (seq : Option ℕ) (errno : Errno) (cause : Cause) → (st.threads u).owner ≢ 0 → Draws (Denied u seq errno cause)
   denied_draws u seq errno cause started = draws (Denied u seq errno cause) u 0 started (omega arith) (λ t. let less = denied_less (u == t) (st.threads t).pending in omega (arith, less))
 
-  -- ---- a call that is entered
+  -- ---- a call is entered
 
   module _ (u : ℕ) (call : SysCall) (regs : List ℕ) (way : Way) (y : IsEntered i st u call regs way) where
     entered_posts : (each : Way) → posted_after (Entered u call regs each) st.posted ≤ st.posted + 1
@@ -141,7 +141,7 @@ module _ (i : Input) (st : State) (inv : Invariant i st) (few : thread_count i �
     entered_draws : Draws (Entered u call regs way)
     entered_draws = draws (Entered u call regs way) u 1 y.running.started (entered_posts way) (λ t. entered_less t (u == t) refl)
 
-  -- ---- a call that is made
+  -- ---- a call is made
 
   module _ (u : ℕ) (seq : Option ℕ) (call : SysCall) (regs : List ℕ) (args : List ArgText) (ids : Ids) (result : CallResult) (changes : List Change) where
     used_most : PostsFew i st few u call changes → fold posted_after_change st.posted changes ≤ st.posted + renewed_most (sets_ids call)

@@ -1,4 +1,4 @@
--- That a call that sets ids is made under its process's own ids, where no filter for it grants any.
+-- A call that sets ids is made under its process's own ids, if no filter for it has a grant.
 use native.Mathlib.Omega.{arith}
 use Rattle.std.proofs.Common.{◌≡◌, ℕ, zero, suc, ◌&&◌, Bool, true, false, cond, not, List, [], ◌∷◌, ◌++◌, length, map, reverse, Option, Some, None, refl, sym, ap, subst, ◌∙◌}
 use Rattle.std.proofs.lemmas.Bool.{and_parts, true≢false}
@@ -84,7 +84,7 @@ module _ (s : Snapshot) (rule : Rule) (sets : sets_ids_by rule ≡ true) where
   filters_by f later ungranted rest true is n k ids e = first_owns f later (ungranted (for_setting rule f.name sets is)) rest n k ids (holds f s) e
   filters_by f later ungranted rest false is n k ids e = rest n k ids e
 
-  -- the filters of such a rule permit under the ids of the copies
+  -- the filters of a rule that sets ids permit under the ids of the copies
   filters_own : (filters : List FilterValue) → All IsUngrantedForSetting filters → (n k : ℕ) (ids : Ids) → verdict_from n (filters_of rule filters) s ≡ Permit k ids → ids ≡ s.ids
   filters_own [] all n k ids e = cc
   filters_own (f ∷ later) all n k ids e = filters_by f (filters_of rule later) (first_of IsUngrantedForSetting f later all) (filters_own later (rest_of IsUngrantedForSetting f later all)) (is_for rule f.name) refl n k ids e
@@ -121,7 +121,7 @@ copies_rule i q s (Some head) (Ready args) rule e = subst (λ (copies : Snapshot
 
 -- ---- the filters of a session
 
--- a filter of the session grants no ids, if it is kept for a rule that sets ids
+-- a filter of the session has no grant, if it is for a rule that sets ids
 abbrev IsOwnFor : SessionFilter → Type 0
 IsOwnFor kept = sets_ids_by kept.rule ≡ true → kept.filter.grant ≡ None
 
@@ -133,13 +133,13 @@ own_append : (session more : List SessionFilter) → AreOwnFor session → AreOw
 own_append [] more x y = y
 own_append (kept ∷ session) more x y = (x.0, own_append session more x.1 y)
 
--- what is learnt grants none
+-- a learnt filter has no grant
 learnt_own : (o : Option Snapshot) → AreOwnFor (learnt_by o)
 learnt_own None = tt
 learnt_own (Some s) = (λ sets. refl, tt)
 
 module _ (i : Input) (ungranted : RepliesUngranted i.replies) where
-  -- a reply is kept for the rule that it is for
+  -- a reply is added to the session for the rule that it names
   replied_own : (n : ℕ) (r : Option Reply) → item_at_number i.replies n ≡ r → (policy : List ℕ) (rule : Rule) (left : Bool) → (is_reply_for policy rule r && left) ≡ true → (o : Option Snapshot) → ((s : Snapshot) → o ≡ Some s → s.rule ≡ rule) → AreOwnFor (replied_by r o)
   replied_own n None e policy rule left for o same = tt
   replied_own n (Some r) e policy rule left for None same = tt
@@ -166,21 +166,21 @@ module _ (s : Snapshot) (policy : List ℕ) (rule : Rule) (sets : sets_ids_by ru
       first_owns s rule sets kept.filter (session_filters more policy rule) (own (ap sets_ids_by same ∙ sets)) rest n k ids (holds kept.filter s) e
   kept_by kept more own rest false is n k ids e = rest n k ids e
 
-  -- the session's filters of such a rule permit under the ids of the copies
+  -- the session's filters of a rule that sets ids permit under the ids of the copies
   session_permits : (session : List SessionFilter) → AreOwnFor session → (n k : ℕ) (ids : Ids) → verdict_from n (session_filters session policy rule) s ≡ Permit k ids → ids ≡ s.ids
   session_permits [] own n k ids e = cc
   session_permits (kept ∷ more) own n k ids e = kept_by kept more own.0 (session_permits more own.1) (is_kept_for policy rule kept) refl n k ids e
 
--- what is decided is decided by the filters that were read, or else by those of the session
+-- the filters that were read decide, or otherwise those of the session
 either_permits : (v w : Verdict) (k : ℕ) (ids own : Ids) → (v ≡ Permit k ids → ids ≡ own) → (w ≡ Permit k ids → ids ≡ own) → verdict_or v w ≡ Permit k ids → ids ≡ own
 either_permits (Permit n read) w k ids own by_read by_session e = by_read e
 either_permits (Refuse n errno) w k ids own by_read by_session e = cc
 either_permits Unmatched w k ids own by_read by_session e = by_session e
 
--- ---- a call that is made
+-- ---- a call is made
 
 module _ (i : Input) (ungranted : SetIdsUngranted i.policies) (st : State) (session : AreOwnFor st.session) where
-  -- what decides of copies by a rule that sets ids permits under the ids of the copies
+  -- the decision on copies with a rule that sets ids permits under the ids of the copies
   copies_own : (s : Snapshot) (k : ℕ) (ids : Ids) → sets_ids_by s.rule ≡ true → decision_in i st s ≡ Permit k ids → ids ≡ s.ids
   copies_own s k ids sets e =
       either_permits (verdict (read_for i s.policy s.rule) s) (verdict_from (suc (length (read_for i s.policy s.rule))) (session_filters st.session s.policy s.rule) s) k ids s.ids
@@ -200,7 +200,7 @@ module _ (i : Input) (ungranted : SetIdsUngranted i.policies) (st : State) (sess
 
 -- ---- every run
 
--- a call that sets ids is made under its process's own
+-- a call that sets ids is made under its process's own ids
 pub sets_own_ids : (i : Input) → IsStartable i → SetIdsUngranted i.policies → RepliesUngranted i.replies → (choices : List Choice) → SetsOwnIds i (state_of_run i choices)
 sets_own_ids i startable ungranted replies choices =
     let h : History = history i (reverse choices) in

@@ -1,4 +1,4 @@
--- A live number is its thread's own behind each lawful entry too.
+-- After each lawful entry, too, each live number is its thread's own.
 use native.Mathlib.Omega.{arith}
 use Rattle.std.proofs.Common.{◌≡◌, ◌≤◌, ◌<◌, ◌⊎◌, ℕ, suc, Bool, true, false, cond, not, ◌&&◌, ◌||◌, ◌==◌, List, [], ◌∷◌, Option, Some, None, option_map, refl, sym, ap, subst, ◌∙◌, inl, inr}
 use Rattle.std.proofs.lemmas.Bool.{and_parts, cases_lt, eq-eqb, eqb-true, ne_eqb, or_parts, true≢false}
@@ -40,7 +40,7 @@ use Rattle.st_reached.specs.Reached.{IsHolding, Owned}
 use Rattle.st_reached.proofs.Drawn.{SameOrDrawn, apart, drawn, seq_kept}
 use Rattle.st_reached.proofs.Owning.{denied_number, held_lives, live_parts, lives_by, used_number}
 
--- a thread holds its call still, where its parts are as they were
+-- a thread still holds its call if its parts are unchanged
 holding_kept : (st new : State) (t p q : ℕ) → (new.threads t).pending ≡ (st.threads t).pending → (new.threads t).number ≡ q → (new.threads t).owner ≡ (st.threads t).owner → (new.threads t).ended ≡ (st.threads t).ended → IsHolding st t p → IsHolding new t q
 holding_kept st new t p q pending number owner ended x = record {
   entered = x.entered;
@@ -52,12 +52,12 @@ holding_kept st new t p q pending number owner ended x = record {
   unended = ended ∙ x.unended;
 }
 
--- before the first entry nothing lives
+-- before the first entry no number is live
 pub owned_first : (i : Input) → Owned (first_state i)
 owned_first i = record { own = λ q head live posted. cc }
 
 module _ (i : Input) (st : State) (inv : Invariant i st) (owned : Owned st) where
-  -- ---- entries that leave messages, and of threads what they hold
+  -- ---- entries that leave messages, and what threads hold
 
   kept_by : (e : Entry) → ((t : ℕ) → ((state_after i st e).threads t).pending ≡ (st.threads t).pending) → ((t : ℕ) → ((state_after i st e).threads t).number ≡ (st.threads t).number)
       → ((t : ℕ) → ((state_after i st e).threads t).owner ≡ (st.threads t).owner) → ((t : ℕ) → ((state_after i st e).threads t).ended ≡ (st.threads t).ended)
@@ -203,13 +203,13 @@ module _ (i : Input) (st : State) (inv : Invariant i st) (owned : Owned st) wher
     abbrev process : Process
     process = process_after st.processes m m changes
 
-    -- where nothing is renewed, no number is new
+    -- if nothing is renewed, no number is new
     mute_high : (q : ℕ) (head : Head) → st.posted < q → (made.messages q).head ≡ Some head → AreMute changes → ⊥
     mute_high q head high posted mute = none (sym (head_mute heads process q changes mute ∙ inv.heads q high) ∙ posted) where
       none : None ≡ Some head → ⊥
       none e = cc
 
-    -- a new number is that of the thread whose number it renews
+    -- a new number belongs to the thread whose number it renews
     renewed_high : (set : Ids) → changes ≡ SetIds set ∷ renewals m u (suc st.posted) helds → (q : ℕ) (head : Head) → st.posted < q → (made.messages q).head ≡ Some head → SameOrDrawn m u heads process q (IsItem st) (heads q) (renewals m u (suc st.posted) helds) → IsHolding made head.tid q
     renewed_high set e q head high posted (inl same) = absurd (none (sym (ap (λ cs. fold (head_after_change heads process q) (heads q) cs) e ∙ same ∙ inv.heads q high) ∙ posted)) where
       none : None ≡ Some head → ⊥
@@ -239,7 +239,7 @@ module _ (i : Input) (st : State) (inv : Invariant i st) (owned : Owned st) wher
       by q head live posted (inl high) = used_high q head high posted (used_shape i st u call regs args ids result changes seq y)
       by q head live posted (inr low) = used_low u seq call regs args ids result changes y q head low live posted
 
-  -- each live number is its thread's own behind each lawful entry
+  -- after each lawful entry each live number is its thread's own
   pub owned_behind : (e : Entry) → IsLawful i st e → Owned (state_after i st e)
   owned_behind (Entered u call regs way) y = entered_kept u call regs way y
   owned_behind (Used u seq call regs args ids result changes) y = used_kept u seq call regs args ids result changes y

@@ -1,4 +1,4 @@
--- Whose a live number is, and what follows where each is its thread's own.
+-- Which thread a live number belongs to, and what follows if each is its thread's own.
 use Rattle.std.proofs.Common.{◌≡◌, ◌≢◌, ℕ, Bool, true, false, not, List, Option, Some, None, refl, sym, ap, subst, ◌∙◌}
 use Rattle.std.proofs.lemmas.Bool.{and_parts, eq-eqb, false_from_ne_true}
 use Rattle.std.proofs.lemmas.Option.{same_Some}
@@ -26,19 +26,19 @@ pub not_so : (b : Bool) → not b ≡ true → b ≡ false
 not_so true e = cc
 not_so false e = refl
 
--- ---- what lives
+-- ---- what is live
 
--- a number that lives is open, and its thread isn't dying
+-- a live number is open, and its thread isn't dying
 pub live_parts : (st : State) (q : ℕ) (head : Head) → is_live st q ≡ true → (st.messages q).head ≡ Some head → ((st.messages q).closed ≡ false) × ((st.threads head.tid).dying ≡ false)
 live_parts st q head live posted =
     let parts = and_parts (not (st.messages q).closed) (not (st.threads head.tid).dying) (subst (λ o. is_live_by o (st.messages q).closed (λ t. (st.threads t).dying) ≡ true) posted live) in
     (not_so (st.messages q).closed parts.0, not_so (st.threads head.tid).dying parts.1)
 
--- and one that is, lives
+-- an open number whose thread isn't dying is live
 pub lives_by : (st : State) (q : ℕ) (head : Head) → (st.messages q).head ≡ Some head → (st.messages q).closed ≡ false → (st.threads head.tid).dying ≡ false → is_live st q ≡ true
 lives_by st q head posted unclosed undying = (λ k. is_live_by (posted k) (unclosed k) (λ t. (st.threads t).dying)) ∙ ap not undying
 
--- the number of a held call lives, while its thread isn't dying
+-- the number of a held call is live, while its thread isn't dying
 pub held_lives : (i : Input) (st : State) → Invariant i st → (t : ℕ) → IsHolder st t → is_live st (st.threads t).number ≡ true
 held_lives i st inv t x = let y : IsOpen st t x.entered.call x.entered.regs = open_of i st inv t x in
     lives_by st (st.threads t).number y.head y.posted y.unclosed (ap (λ n. (st.threads n).dying) y.own.tid_is ∙ x.undying)
@@ -61,7 +61,7 @@ module _ (st : State) (owned : Owned st) where
   pub own_process : (i : Input) → Invariant i st → (q : ℕ) (head : Head) → is_live st q ≡ true → (st.messages q).head ≡ Some head → head.pid ≡ (st.threads head.tid).owner
   own_process i inv q head live posted = let x : IsHolding st head.tid q = owned.own q head live posted in (own_head i inv q head live posted x.entered x.pending).pid_is
 
-  -- two live numbers of one thread are one
+  -- two live numbers of one thread are equal
   pub one_number : (p q : ℕ) (head other : Head) → is_live st p ≡ true → is_live st q ≡ true → (st.messages p).head ≡ Some head → (st.messages q).head ≡ Some other → head.tid ≡ other.tid → p ≡ q
   one_number p q head other lives live posted other_posted same =
       sym (owned.own p head lives posted).number ∙ ap (λ t. (st.threads t).number) same ∙ (owned.own q other live other_posted).number
@@ -71,17 +71,17 @@ module _ (st : State) (owned : Owned st) where
   none_by t none q head posted same = false_from_ne_true (is_live st q) (λ live.
       let x : IsHolding st t q = subst (λ n. IsHolding st n q) same (owned.own q head live posted) in none x.entered x.first x.pending x.way)
 
-  -- nor has one without a pending call
+  -- a thread without a pending call has no live number
   pub none_pending : (t : ℕ) → (st.threads t).pending ≡ None → (q : ℕ) (head : Head) → (st.messages q).head ≡ Some head → head.tid ≡ t → is_live st q ≡ false
   none_pending t idle q head posted same = none_by t (λ entered first pending. absurd (clash entered (sym idle ∙ pending))) q head posted same where
     clash : (entered : PendingCall) → None ≡ Some entered → ⊥
     clash entered e = cc
 
-  -- nor one whose pending call goes another way
+  -- a thread whose pending call goes another way has no live number
   pub none_unheld : (t : ℕ) (entered : PendingCall) → (st.threads t).pending ≡ Some entered → ((first : ℕ) → entered.way ≢ Held first) → (q : ℕ) (head : Head) → (st.messages q).head ≡ Some head → head.tid ≡ t → is_live st q ≡ false
   none_unheld t entered pending unheld q head posted same = none_by t (λ other first is way. unheld first (ap (λ (call : PendingCall). call.way) (same_Some entered other (sym pending ∙ is)) ∙ way)) q head posted same
 
--- ---- a number that a thread holds is that of the call that it makes or is denied
+-- ---- a thread's number is that of the call that it makes or is denied
 
 module _ (i : Input) (st : State) (u q : ℕ) (holding : IsHolding st u q) where
   way_is : (call : SysCall) (regs : List ℕ) (way : Way) → IsPending st u call regs way → way ≡ Held holding.first

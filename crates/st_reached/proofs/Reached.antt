@@ -1,4 +1,4 @@
--- What holds of every state that a run reaches, together, to be carried from entry to entry.
+-- All invariants of a state that a run reaches, together, to be carried from entry to entry.
 use Rattle.std.proofs.Common.{◌≡◌, ℕ, List, [], ◌∷◌, reverse, Some, sym, subst}
 use Rattle.st_trace.specs.declared.entry.Choice.{Choice}
 use Rattle.st_trace.specs.declared.entry.Choice.TheVariants as choice
@@ -24,7 +24,7 @@ use Rattle.st_reached.proofs.Life.{life_behind}
 use Rattle.st_reached.proofs.OwnedKept.{owned_first, owned_behind}
 use Rattle.st_reached.proofs.Owning.{held_lives}
 
--- all that holds of the state behind a lawful history, and that each live number is its thread's own
+-- all invariants of the state after a lawful history, and that each live number is its thread's own
 pub record Reached (i : Input) (st : State) : Type 0 where
   pub whole : Whole i st
   pub owned : Owned st
@@ -50,11 +50,11 @@ module _ (i : Input) (st : State) (reached : Reached i st) where
   pub reached_more : (c : Choice) (e : Entry) → entry_of i st c ≡ Some e → Reached i (state_after i st e)
   reached_more c e is = reached_behind e (lawful_entry c e is)
 
-  -- which numbers live behind it
+  -- which numbers are live after the entry that a choice adds
   pub life_more : (c : Choice) (e : Entry) → entry_of i st c ≡ Some e → (other : ℕ) → is_live (state_after i st e) other ≡ life_after st e other
   life_more c e is other = life_behind i st reached.whole.calls reached.owned other e (lawful_entry c e is)
 
-  -- the number of a held call lives, and its message is that of the thread
+  -- the number of a held call is live, and its message is that of the thread
   pub held_live : AllHeldLive st
   held_live = record {
     held = λ t entered first pending way undying.

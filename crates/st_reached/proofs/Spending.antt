@@ -1,6 +1,6 @@
--- What the calls of a script spend: a number of the state that grows only where a call is made, and by no more than the call is worth,
--- is never more than it was at first and all instructions are worth. What it is, and what the instructions and the pending calls of all
--- threads are still worth, never grows.
+-- What the calls of a script spend: a number that each state has. If it grows only when a call is made, and by no more than the call is
+-- worth, then it is never more than at first plus the worth of all instructions. Its value, plus the worth of the instructions and the
+-- pending calls that all threads have left, never grows.
 use native.Mathlib.Omega.{arith}
 use Rattle.std.proofs.Common.{◌≡◌, ◌≢◌, ◌≤◌, ℕ, suc, ◌+◌, Bool, true, false, cond, ◌==◌, List, [], ◌∷◌, drop, length, reverse, Option, Some, None, refl, sym, ap, subst, ◌∙◌}
 use Rattle.std.proofs.lemmas.Bool.{eq-eqb, eqb-true}
@@ -53,8 +53,8 @@ module _ (worth : Instr → ℕ) (call_worth : PendingCall → ℕ) where
   abbrev pub all_of : List ThreadRow → ℕ
   all_of rows = sum_by (λ row. sum_by worth row.body) rows
 
-  -- what the calls of a script spend: a call is worth no more than its instruction, a number of the state stays where nothing is
-  -- changed, and a call that is made raises it by no more than it is worth
+  -- what the calls of a script spend: a call is worth no more than its instruction; the number is unchanged by an entry without changes;
+  -- and a call that is made raises it by no more than the call is worth
   pub record Spends (i : Input) (spent : State → ℕ) : Type 0 where
     pub entered : (x : Instr) (later : List Instr) (call : SysCall) (regs : List ℕ) (way : Way) → IsCallOf x call regs → call_worth (record { call = call; regs = regs; way = way; child = child_of_next (x ∷ later) }) ≤ worth x
     pub still : (st : State) (e : Entry) → changes_of e ≡ [] → spent (state_after i st e) ≡ spent st
@@ -80,11 +80,11 @@ module _ (worth : Instr → ℕ) (call_worth : PendingCall → ℕ) where
   -- ---- from entry to entry
 
   module _ (i : Input) (spent : State → ℕ) (spends : Spends i spent) (st : State) (inv : Invariant i st) where
-    -- what is spent and what is left are no more than before
+    -- what is spent and what is left are together no more than before
     abbrev Bounded : Entry → Type 0
     Bounded e = spent (state_after i st e) + left_of i (state_after i st e) ≤ spent st + left_of i st
 
-    -- no more is spent than what a thread that has started has less left
+    -- no more is spent than a started thread has less left
     bounded : (e : Entry) (u d : ℕ) → (st.threads u).owner ≢ 0 → spent (state_after i st e) ≤ spent st + d → ((t : ℕ) → of_thread ((state_after i st e).threads t) + cond (u == t) d 0 ≤ of_thread (st.threads t)) → Bounded e
     bounded e u d started more less =
         let thread : IsThread i u = inv.started u started in
@@ -113,7 +113,7 @@ module _ (worth : Instr → ℕ) (call_worth : PendingCall → ℕ) where
     denied_bounded u seq errno cause started = bounded (Denied u seq errno cause) u 0 started (let same = spends.still st (Denied u seq errno cause) refl in omega (arith, same))
         (λ t. let less = denied_less (u == t) (st.threads t).pending in omega (arith, less))
 
-    -- ---- a call that is entered
+    -- ---- a call is entered
 
     module _ (u : ℕ) (call : SysCall) (regs : List ℕ) (way : Way) (y : IsEntered i st u call regs way) where
       abbrev Less : List Instr → Type 0
@@ -132,7 +132,7 @@ module _ (worth : Instr → ℕ) (call_worth : PendingCall → ℕ) where
       entered_bounded : Bounded (Entered u call regs way)
       entered_bounded = bounded (Entered u call regs way) u 0 y.running.started (let same = spends.still st (Entered u call regs way) refl in omega (arith, same)) (λ t. let less = entered_less t (u == t) refl in omega (arith, less))
 
-    -- ---- a call that is made
+    -- ---- a call is made
 
     used_less : (u : ℕ) (entered : PendingCall) → (st.threads u).pending ≡ Some entered → (t : ℕ) (b : Bool) → (u == t) ≡ b → of_pending (cond b None (st.threads t).pending) + cond b (call_worth entered) 0 ≤ of_pending (st.threads t).pending
     used_less u entered pending t true same =
@@ -174,7 +174,7 @@ module _ (worth : Instr → ℕ) (call_worth : PendingCall → ℕ) where
         let behind = bounded_behind i spent spends (looking_back i h) (whole_of i startable h lawful.1).calls e lawful.0 in
         omega (arith, before, behind)
 
-    -- what is spent and what is left are no more than at first, in every state that a run reaches
+    -- in every state that a run reaches, what is spent and what is left are together no more than at first
     pub spent_most : (choices : List Choice) → spent (state_of_run i choices) + left_of i (state_of_run i choices) ≤ spent (first_state i) + all_of i.start.threads
     spent_most choices =
         let h : History = history i (reverse choices) in

@@ -1,4 +1,4 @@
--- That a thread starts once, where its script has it start in one way at most: so a fork starts a thread that hasn't started.
+-- A thread starts once, if its script can start it in at most one way: so a fork starts a thread that hasn't started.
 use native.Mathlib.Omega.{arith}
 use Rattle.std.proofs.Common.{◌≡◌, ◌≢◌, ◌≤◌, ℕ, suc, ◌+◌, Bool, true, false, cond, ◌&&◌, ◌==◌, List, [], ◌∷◌, Option, Some, None, refl, sym, ap, subst}
 use Rattle.std.proofs.lemmas.Bool.{eq-eqb, eqb-true, ne_eqb}
@@ -34,7 +34,7 @@ use Rattle.st_reached.specs.Scripts.{StartOnce, is_start_of, starts_by_row, star
 use Rattle.st_reached.proofs.Reached.{reached_run}
 use Rattle.st_reached.proofs.Spending.{Spends, all_of, left_of, of_pending, of_thread, spent_most}
 
--- 1 once a thread has started, by its process
+-- 1 if a thread has started, by its process, otherwise 0
 abbrev started_by : ℕ → ℕ
 started_by owner = cond (owner == 0) 0 1
 
@@ -50,11 +50,11 @@ unstarted owner low = by (owner == 0) refl low where
   by true is low = eqb-true owner 0 is
   by false is low = absurd (omega (arith, low))
 
--- 1 where it is so
+-- 1 if true, otherwise 0
 abbrev one_if : Bool → ℕ
 one_if b = cond b 1 0
 
--- ---- of thread c
+-- ---- the starts of thread c
 
 module _ (c : ℕ) where
   abbrev worth : Instr → ℕ
@@ -66,7 +66,7 @@ module _ (c : ℕ) where
   abbrev started : State → ℕ
   started st = started_by (st.threads c).owner
 
-  -- ---- a call that is made starts it where it is a fork of it
+  -- ---- a call that is made starts the thread if it forks it
 
   module _ (i : Input) (st : State) (u : ℕ) (regs : List ℕ) (args : List ArgText) (ids : Ids) (call : SysCall) (entered : PendingCall) (pending : (st.threads u).pending ≡ Some entered) where
     abbrev owner : ℕ
@@ -126,7 +126,7 @@ module _ (c : ℕ) where
   first_starts : (i : Input) → started (first_state i) + all_of worth call_worth i.start.threads ≤ starts_of i.start c
   first_starts i = let row = row_starts (item_at_number i.start.threads c) in omega (arith, row)
 
-  -- ---- a pending fork of it
+  -- ---- a pending fork of the thread
 
   module _ (i : Input) (st : State) (inv : Invariant i st) (t : ℕ) (entered : PendingCall) (pending : (st.threads t).pending ≡ Some entered) where
     -- the thread of the fork is one of the script
@@ -165,6 +165,6 @@ module _ (i : Input) (startable : IsStartable i) (once : StartOnce i.start) (cho
       let some = some_left c i reached inv t entered pending refl in
       unstarted (reached.threads c).owner (omega (arith, most, first, one, some))
 
-  -- a fork that is pending is of a thread that hasn't started
+  -- a pending fork names a thread that hasn't started
   pub forks_start_new : ForksStartNew reached
   forks_start_new = record { child = new_child }

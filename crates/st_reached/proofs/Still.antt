@@ -1,4 +1,4 @@
--- A thread adds nothing exactly where it is still.
+-- A thread adds no entry exactly when it is still.
 use Rattle.std.proofs.Common.{◌≡◌, ℕ, Bool, true, false, cond, ◌&&◌, ◌||◌, ◌==◌, List, [], ◌∷◌, Option, Some, None, refl, sym, ap, subst, ◌∙◌}
 use Rattle.std.proofs.lemmas.Bool.{and_parts, eq-eqb, eqb-true, or_left, or_right}
 use Rattle.std.proofs.lemmas.Option.{none-some}
@@ -31,7 +31,7 @@ use Rattle.st_reached.specs.Waiting.{IsAsking, IsAwaiting, IsStill, asking, awai
 pub question_answered : (i : Input) (st : State) (q : ℕ) → is_question i st q ≡ true → (st.messages q).answered ≡ true
 question_answered i st q e = (and_parts (is_live st q) (st.messages q).answered (and_parts (is_live st q && (st.messages q).answered) (is_open_question i st (snapshot_in st q)) e).0).1
 
--- ---- a thread that is still adds nothing
+-- ---- a still thread adds no entry
 
 module _ (i : Input) (st : State) (t : ℕ) where
   abbrev goes_on : Option Entry
@@ -75,13 +75,13 @@ module _ (i : Input) (st : State) (t : ℕ) where
   still_none (ended is) = stopped (or_right ((st.threads t).owner == 0) (st.threads t).ended is)
   still_none (awaiting x) = awaiting_none x
 
--- ---- and every other adds an entry
+-- ---- every other thread adds an entry
 
--- what is something isn't none
+-- an option with an entry isn't none
 pub something : (A : Type 0) (o : Option Entry) → Is o → o ≡ None → A
 something A o x none = absurd (none-some x.0 (sym none ∙ x.1))
 
--- arguments that are all there, or faulty
+-- arguments that are complete, or have a fault
 abbrev Ends : Progress → Type 0
 Ends (Word part place) = ⊥
 Ends (Look part name) = ⊥
@@ -105,7 +105,7 @@ module _ (i : Input) (st : State) (whole : Whole i st) (t : ℕ) where
   unheld_now call regs = unheld_is call regs (arguments_now i st t call regs)
       (arguments_end (record { rule = rule_of call regs i.options.aliasing; call = call; regs = regs; cwd = (process_in st t).cwd }) (record { bytes = st.memory (process_in st t).space; tree = st.tree }))
 
-  -- a thread that adds nothing by a verdict has a question
+  -- if a verdict gives no entry, the thread has a question
   decided_asks : (q : ℕ) (s : Snapshot) (v : Verdict) → decided_entry i st t q s v ≡ None → is_question i st q ≡ true
   decided_asks q s (Permit n ids) none = something (is_question i st q ≡ true) (decided_entry i st t q s (Permit n ids)) (_, refl) none
   decided_asks q s (Refuse n errno) none = something (is_question i st q ≡ true) (decided_entry i st t q s (Refuse n errno)) (_, refl) none
@@ -114,7 +114,7 @@ module _ (i : Input) (st : State) (whole : Whole i st) (t : ℕ) where
     by true is none = is
     by false is none = something (is_question i st q ≡ true) (Some (Denied t (Some q) EPERM NoFilter)) (_, refl) none
 
-  -- a message that was answered has its copies
+  -- an answered message has its copies
   answered_asks : (q : ℕ) → (st.messages q).answered ≡ true → answered_entry i st t q (snapshot_in st q) ≡ None → is_question i st q ≡ true
   answered_asks q is none =
       let copies : (s : Snapshot) × (snapshot_in st q ≡ Some s) = whole.turns.ready q is in

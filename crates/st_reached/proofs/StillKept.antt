@@ -1,4 +1,4 @@
--- A thread that is still stays so behind each entry of another that doesn't wake it.
+-- A still thread stays still after each entry of another that doesn't wake it.
 use native.Mathlib.Omega.{arith}
 use Rattle.std.proofs.Common.{◌≡◌, ◌≢◌, ◌≤◌, ◌<◌, ◌⊎◌, ℕ, suc, ◌+◌, Bool, true, false, cond, ◌&&◌, ◌||◌, ◌==◌, List, [], ◌∷◌, ◌++◌, Option, Some, None, refl, sym, ap, subst, ◌∙◌, inl, inr}
 use Rattle.std.proofs.lemmas.Bool.{and_from, and_parts, eq-eqb, ne_eqb, or_parts, true≢false}
@@ -44,7 +44,7 @@ use Rattle.st_reached.proofs.Reached.{Reached, held_live, lawful_entry, reached_
 use Rattle.st_reached.proofs.Still.{none_still, question_answered, still_none}
 use Rattle.st_reached.proofs.Unlike.{are_of_one, asked_on, copies_alike, open_on, reply_there}
 
--- ---- changes that wake nobody
+-- ---- changes that wake no thread
 
 abbrev IsCalm : Change → Type 0
 IsCalm c = wakes_all c ≡ false
@@ -92,7 +92,7 @@ module _ (m u : ℕ) where
 abbrev IsUnmetIn : State → ℕ → Type 0
 IsUnmetIn st q = ((st.messages q).fault ≡ None) × ((st.messages q).answered ≡ false)
 
--- copies are a question by the session, and the replies that were given
+-- whether copies are asked about depends on the replies that were given
 asked_by : (i : Input) (st new : State) → new.replied ≡ st.replied → (s : Snapshot) (mode : Mode) → is_asked i new s mode ≡ is_asked i st s mode
 asked_by i st new replied s Enforce = refl
 asked_by i st new replied s Learn = refl
@@ -109,14 +109,14 @@ module _ (i : Input) (st : State) (reached : Reached i st) (t : ℕ) where
   abbrev IsUnmet : ℕ → Type 0
   IsUnmet q = IsUnmetIn st q
 
-  -- a number that isn't drawn yet has none
+  -- a number that isn't drawn yet was neither faulted nor answered
   unmet_above : (q : ℕ) → st.posted < q → IsUnmet q
   unmet_above q high = by (st.messages q).claimed refl where
     by : (b : Bool) → (st.messages q).claimed ≡ b → IsUnmet q
     by true claimed = absurd (let low = reached.whole.turns.low q claimed in omega (arith, low, high))
     by false unclaimed = let fresh : IsFresh (st.messages q) = reached.whole.turns.fresh q unclaimed in (fresh.fault, fresh.answered)
 
-  -- what an entry leaves of a thread that is still, by which it is still
+  -- what an entry leaves unchanged of a still thread, so that the thread stays still
   pub record Leaves (e : Entry) : Type 0 where
     pub owner : ((state_after i st e).threads t).owner ≡ (st.threads t).owner
     pub over : ((state_after i st e).threads t).ended ≡ (st.threads t).ended
@@ -127,7 +127,7 @@ module _ (i : Input) (st : State) (reached : Reached i st) (t : ℕ) where
     pub renewed : (((state_after i st e).threads t).number ≡ number) ⊎ IsUnmetIn (state_after i st e) ((state_after i st e).threads t).number
     pub question : (s : Snapshot) → snapshot_in st number ≡ Some s → IsAsking i st t → is_open_question i (state_after i st e) (Some s) ≡ is_open_question i st (Some s)
 
-  -- a question is one still where its number is the same, and the operator is to answer for its copies still
+  -- a question stays one if its number is the same, and the operator still has to answer for its copies
   asks_on : (e : Entry) → IsLawful i st e → (leaves : Leaves e) → IsAsking i st t → ((state_after i st e).threads t).number ≡ number → IsAsking i (state_after i st e) t
   asks_on e lawful leaves x same =
       let new : State = state_after i st e in
@@ -152,7 +152,7 @@ module _ (i : Input) (st : State) (reached : Reached i st) (t : ℕ) where
             (and_from (is_live new (new.threads t).number) (new.messages (new.threads t).number).answered live answered) is_open;
       }
 
-  -- and one that is renewed waits for its answer again
+  -- a question that is renewed waits for its answer again
   asks_then : (e : Entry) → IsLawful i st e → (leaves : Leaves e) → IsAsking i st t → (((state_after i st e).threads t).number ≡ number) ⊎ IsUnmetIn (state_after i st e) ((state_after i st e).threads t).number → IsStill i (state_after i st e) t
   asks_then e lawful leaves x (inl same) = asking (asks_on e lawful leaves x same)
   asks_then e lawful leaves x (inr unmet) = awaiting (record {
@@ -179,7 +179,7 @@ module _ (i : Input) (st : State) (reached : Reached i st) (t : ℕ) where
   })
   stays e lawful leaves (asking x) = asks_then e lawful leaves x leaves.renewed
 
-  -- ---- a call of another thread is entered
+  -- ---- another thread enters a call
 
   entered_leaves : (u : ℕ) (call : SysCall) (regs : List ℕ) (way : Way) → (u == t) ≡ false → Leaves (Entered u call regs way)
   entered_leaves u call regs way other = record {
@@ -217,7 +217,7 @@ module _ (i : Input) (st : State) (reached : Reached i st) (t : ℕ) where
     none true = refl
     none false = refl
 
-  -- ---- a call of another thread is made
+  -- ---- another thread makes a call
 
   module _ (u : ℕ) (seq : Option ℕ) (call : SysCall) (regs : List ℕ) (args : List ArgText) (ids : Ids) (result : CallResult) (changes : List Change) where
     number_by : Shape (system_of i st) (request_of i st u regs args ids) call changes → Each IsCalm changes → SameOrNew number (suc st.posted) changes
@@ -380,14 +380,14 @@ module _ (i : Input) (st : State) (reached : Reached i st) (t : ℕ) where
     question = λ s there x. open_by i st (state_after i st (Looked q part name seen)) refl refl s;
   }
 
-  -- a thread that is still stays so behind a lawful entry
+  -- a still thread stays still after a lawful entry
   pub still_behind : IsStill i st t → (e : Entry) → IsLawful i st e → thread_of e ≢ t → wakes st e t ≡ false → IsStill i (state_after i st e) t
   still_behind still e lawful other calm = stays e lawful (leaves e lawful other calm) still
 
-  -- and behind the entry that a choice adds
+  -- a still thread stays still after the entry that a choice adds
   pub still_more : IsStill i st t → (c : Choice) (e : Entry) → entry_of i st c ≡ Some e → thread_of e ≢ t → wakes st e t ≡ false → IsStill i (state_after i st e) t
   still_more still c e is other calm = still_behind still e (lawful_entry i st reached c e is) other calm
 
-  -- so one that adds nothing adds nothing behind the entry either, unless the entry wakes it
+  -- a thread that adds no entry adds none after the entry either, unless the entry wakes it
   pub none_more : 1 ≤ t → thread_entry i st t ≡ None → (c : Choice) (e : Entry) → entry_of i st c ≡ Some e → wakes st e t ≡ false → thread_entry i (state_after i st e) t ≡ None
   none_more some none c e is calm = still_none i (state_after i st e) t (still_more (none_still i st reached.whole t none) c e is (others_add i st c e is t some none) calm)

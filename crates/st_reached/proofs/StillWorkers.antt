@@ -1,4 +1,4 @@
--- A worker adds nothing exactly where it is still.
+-- A worker adds no entry exactly when it is still.
 use Rattle.std.proofs.Common.{◌≡◌, ℕ, Bool, true, false, cond, Option, Some, None, refl, ap, ◌∙◌}
 use Rattle.st_effects.specs.Progress.{Progress, Word, Look, Stuck, Ready}
 use Rattle.st_law.specs.declared.input.Input.{Input}
@@ -11,7 +11,7 @@ use Rattle.st_law.proofs.Whole.{Whole}
 use Rattle.st_reached.specs.Waiting.{IsStillWorker, idle, no_worker}
 use Rattle.st_reached.proofs.Still.{something}
 
--- ---- a worker that is still adds nothing
+-- ---- a still worker adds no entry
 
 module _ (i : Input) (st : State) (w : ℕ) where
   pub worker_none : IsStillWorker i st w → worker_entry i st w ≡ None
@@ -21,10 +21,10 @@ module _ (i : Input) (st : State) (w : ℕ) where
     by true = ap (turn_entry i st w) at ∙ ap (claimed_entry w) none
     by false = refl
 
--- ---- and every other adds an entry
+-- ---- every other worker adds an entry
 
 module _ (i : Input) (st : State) (whole : Whole i st) (w : ℕ) where
-  -- a number that a worker is at has a head, so it is answered once all is there
+  -- a number that a worker is at has a head, so it is answered once its arguments are complete
   working_is : (q : ℕ) (head : Head) → (st.messages q).head ≡ Some head → (pr : Progress) → Is (working_entry i st w q pr)
   working_is q head posted (Word part place) = (_, refl)
   working_is q head posted (Look part name) = (_, refl)

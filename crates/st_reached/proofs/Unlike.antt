@@ -1,4 +1,4 @@
--- What the operator answers for one policy and rule leaves the questions of the others as they are.
+-- An answer of the operator for one policy and rule leaves the questions of others unchanged.
 use Rattle.std.proofs.Common.{◌≡◌, ℕ, Bool, true, false, cond, ◌&&◌, ◌||◌, ◌==◌, List, [], ◌∷◌, ◌++◌, map, length, Option, Some, None, refl, sym, ap, subst, ◌∙◌}
 use Rattle.std.proofs.lemmas.Bool.{and_from, and_parts, eqb-true, true≢false}
 use Rattle.std.proofs.lemmas.List.{append-nil}
@@ -25,11 +25,11 @@ use Rattle.st_law.specs.State.{State, is_asked, is_open_question, is_reply_left,
 use Rattle.st_law.proofs.Growth.{session_append}
 use Rattle.st_reached.specs.Waiting.{are_alike}
 
--- whether two calls are of one policy and one rule
+-- whether two calls have the same policy and the same rule
 abbrev pub are_of_one : Snapshot → Snapshot → Bool
 are_of_one s other = bytes_eq s.policy other.policy && same_rule s.rule other.rule
 
--- ---- copies are of the policy and the rule of their message
+-- ---- copies have the policy and the rule of their message
 
 pub record IsJudgedBy (o : Option Head) (s : Snapshot) : Type 0 where
   pub head : Head
@@ -60,7 +60,7 @@ copies_alike st q p s other copies others =
 
 -- ---- the filters of the session
 
--- one that is for another policy or rule isn't among them
+-- a filter for another policy or rule isn't among them
 pub others_kept : (session : List SessionFilter) (kept : SessionFilter) (policy : List ℕ) (rule : Rule) → is_kept_for policy rule kept ≡ false → session_filters (session ++ kept ∷ []) policy rule ≡ session_filters session policy rule
 others_kept session kept policy rule other =
     session_append session (kept ∷ []) policy rule
@@ -69,12 +69,12 @@ others_kept session kept policy rule other =
 
 -- ---- the replies that are left
 
--- a reply for some policy and rule is there
+-- a reply that is for some policy and rule exists
 pub reply_there : (policy : List ℕ) (rule : Rule) (o : Option Reply) → is_reply_for policy rule o ≡ true → (reply : Reply) × (o ≡ Some reply)
 reply_there policy rule None is = absurd (true≢false (sym is))
 reply_there policy rule (Some reply) is = (reply, refl)
 
--- one that is for a policy and a rule is for no other
+-- a reply that is for a policy and a rule is for no other
 other_reply : (policy other : List ℕ) (rule its : Rule) (o : Option Reply) → (bytes_eq policy other && same_rule rule its) ≡ false → is_reply_for policy rule o ≡ true → is_reply_for other its o ≡ false
 other_reply policy other rule its None apart is = refl
 other_reply policy other rule its (Some reply) apart is = by (is_reply_for other its (Some reply)) refl where
@@ -94,7 +94,7 @@ other_reply policy other rule its (Some reply) apart is = by (is_reply_for other
       ((bytes_eq-Decides policy other).1 (sym (binary_is policy rule is) ∙ binary_is other its e)) ((same_rule-Decides rule its).1 (rule_is e))) ∙ apart))
 
 module _ (i : Input) (st : State) (r : ℕ) (other : List ℕ) (its : Rule) (not_for : is_reply_for other its (item_at_number i.replies r) ≡ false) where
-  -- so those left for another are left once it is given
+  -- the replies left for another policy and rule are still left once this reply is given
   left_by : (n : ℕ) (b : Bool) → (r == n) ≡ b → (is_reply_for other its (item_at_number i.replies n) && not (b || st.replied n)) ≡ is_reply_left i st other its n
   left_by n false e = refl
   left_by n true e =
@@ -115,13 +115,13 @@ module _ (i : Input) (st : State) (r : ℕ) (other : List ℕ) (its : Rule) (not
 -- ---- questions
 
 module _ (i : Input) (st : State) (s other : Snapshot) (apart : are_of_one s other ≡ false) where
-  -- a call of another policy or rule is a question by the same filters, where the same replies are left for it
+  -- a call of another policy or rule is a question by the same filters, if the same replies are left for it
   pub open_on : (new : State) (given : FilterValue) → new.session ≡ st.session ++ kept_for given s ∷ [] → is_asked i new other i.options.mode ≡ is_asked i st other i.options.mode → is_open_question i new (Some other) ≡ is_open_question i st (Some other)
   open_on new given session asked =
       let filters : session_filters new.session other.policy other.rule ≡ session_filters st.session other.policy other.rule =
       ap (λ kept. session_filters kept other.policy other.rule) session ∙ others_kept st.session (kept_for given s) other.policy other.rule apart in
       λ k. is_undecided (decision (read_for i other.policy other.rule) (filters k) other) && asked k
 
-  -- and those are the same that were left before a reply was given for this one
+  -- the replies left for it are the same as before the reply was given
   pub asked_on : (new : State) (r : ℕ) → new.replied ≡ (λ n. r == n || st.replied n) → is_reply_for s.policy s.rule (item_at_number i.replies r) ≡ true → (mode : Mode) → is_asked i new other mode ≡ is_asked i st other mode
   asked_on new r replied is = asked_same i st r other.policy other.rule (other_reply s.policy other.policy s.rule other.rule (item_at_number i.replies r) apart is) other refl refl new replied

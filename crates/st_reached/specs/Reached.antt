@@ -1,5 +1,5 @@
--- What holds of every state that a run reaches: which thread a live number is of, that a held call has one, which numbers live behind each
--- entry, how many are drawn at most, that a fork starts a new thread, and whose ids ids are set under.
+-- Invariants of every state that a run reaches: which thread a live number belongs to, that a held call has a live number, which numbers
+-- are live after each entry, how many are drawn at most, that a fork starts a new thread, and under which ids a call sets ids.
 use Rattle.std.specs.Prelude.{◌≡◌, ◌≢◌, ℕ, ◌+◌, ◌*◌, Bool, true, false, ◌==◌, if◌then◌else◌, List, Option, Some, None}
 use Rattle.std.specs.List.{fold}
 use Rattle.st_base.specs.declared.ids.Ids.{Ids}
@@ -20,9 +20,9 @@ use Rattle.st_law.specs.Schedules.{instruction_count, set_id_count, sets_ids}
 use Rattle.st_law.specs.State.{State, is_live, process_in}
 use Rattle.st_law.specs.Threads.{PendingCall}
 
--- ---- whose a live number is
+-- ---- which thread a live number belongs to
 
--- a thread that has started and not ended has its pending call held under this number
+-- a thread that has started and hasn't ended has its pending call held under this number
 pub record IsHolding (st : State) (t q : ℕ) : Type 0 where
   pub entered : PendingCall
   pub pending : (st.threads t).pending ≡ Some entered
@@ -36,9 +36,9 @@ pub record IsHolding (st : State) (t q : ℕ) : Type 0 where
 pub record Owned (st : State) : Type 0 where
   pub own : (q : ℕ) (head : Head) → is_live st q ≡ true → (st.messages q).head ≡ Some head → IsHolding st head.tid q
 
--- ---- which number a held call has
+-- ---- the number of a held call
 
--- the number of a thread lives, and its message is the thread's own
+-- the number of a thread is live, and its message is the thread's own
 pub record HasLiveNumber (st : State) (t : ℕ) : Type 0 where
   pub live : is_live st (st.threads t).number ≡ true
   pub head : Head
@@ -51,56 +51,56 @@ pub record AllHeldLive (st : State) : Type 0 where
 
 -- ---- which thread a fork starts
 
--- each fork that is pending names a thread that hasn't started
+-- each pending fork names a thread that hasn't started
 pub record ForksStartNew (st : State) : Type 0 where
   pub child : (t : ℕ) (entered : PendingCall) → (st.threads t).pending ≡ Some entered → entered.call ≡ Fork → (st.threads entered.child).owner ≡ 0
 
 -- ---- under which ids a call sets ids
 
--- each call that sets ids, where it is made as the law says, is made under its process's own ids
+-- each call that sets ids, if it is made according to the law, is made under its process's own ids
 pub record SetsOwnIds (i : Input) (st : State) : Type 0 where
   pub own : (t : ℕ) (seq : Option ℕ) (call : SysCall) (regs : List ℕ) (args : List ArgText) (ids : Ids) (result : CallResult) (changes : List Change)
       → IsUsed i st t seq call regs args ids result changes → sets_ids call ≡ true → ids ≡ (process_in st t).ids
 
 -- ---- how many numbers are drawn
 
--- no run draws more: an instruction's call draws one where it is held, and one that sets ids renews the numbers of held calls, of which
--- there are at most as many as threads, so 64
+-- the bound of numbers: no run draws more. An instruction's call draws one number if it is held. A call that sets ids renews the numbers of
+-- held calls, and there are at most as many of these as threads, so at most 64.
 abbrev pub most_numbers : Input → ℕ
 most_numbers i = instruction_count i + 64 * set_id_count i
 
--- ---- which numbers live behind an entry
+-- ---- which numbers are live after an entry
 
--- whether the thread of a head is of process p
+-- whether the thread of a head belongs to process p
 abbrev pub is_head_of : State → ℕ → Option Head → Bool
 is_head_of st p None = false
 is_head_of st p (Some head) = p == (st.threads head.tid).owner
 
--- whether the thread of a number is of process p
+-- whether the thread of a number belongs to process p
 abbrev pub is_number_of : State → ℕ → ℕ → Bool
 is_number_of st p q = is_head_of st p (st.messages q).head
 
--- the numbers of process p live no more, and of each other number this says whether it does
+-- whether a number is live: false for the numbers of process p, `alive` for all others
 abbrev pub life_without_process : State → ℕ → (ℕ → Bool) → ℕ → Bool
 life_without_process st p alive other = if is_number_of st p other then false else alive other
 
--- which numbers live after a change that process m makes: a process that is killed or runs another binary has none, and a renewal
--- gives one for another
+-- which numbers are live after a change made by process m: a process that is killed or executes another binary has none, and a renewal
+-- replaces one number by another
 abbrev pub life_after_change : State → ℕ → (ℕ → Bool) → Change → ℕ → Bool
 life_after_change st m alive (Dying p) other = life_without_process st p alive other
 life_after_change st m alive (Execed binary space) other = life_without_process st m alive other
 life_after_change st m alive (Renewed old new) other = if other == new then true else if other == old then false else alive other
 life_after_change st m alive _ other = alive other
 
--- which numbers live after changes that process m makes
+-- which numbers are live after changes made by process m
 abbrev pub life_after_changes : State → ℕ → (ℕ → Bool) → List Change → ℕ → Bool
 life_after_changes st m alive changes = fold (life_after_change st m) alive changes
 
--- the number of a call that is made or denied lives no more
+-- whether a number is live: false for the number of the call that is made or denied, as before for all others
 abbrev pub life_without : State → Option ℕ → ℕ → Bool
 life_without st seq other = if is_number other seq then false else is_live st other
 
--- which numbers live after an entry
+-- which numbers are live after an entry
 abbrev pub life_after : State → Entry → ℕ → Bool
 life_after st (Entered t call regs (Held q)) other = if other == q then true else is_live st other
 life_after st (Used t seq call regs args ids result changes) other =

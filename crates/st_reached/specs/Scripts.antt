@@ -1,5 +1,5 @@
--- What a script keeps to beside what the laws need of an input: its stores lie in memory, a thread starts in one way at most, and it
--- isn't too long.
+-- What is required of a script beyond a startable input: its stores are inside memory, each thread starts in at most one way, and the
+-- script isn't too long.
 use Rattle.std.specs.Prelude.{◌≤◌, ◌<◌, ℕ, ◌+◌, Bool, false, ◌==◌, if◌then◌else◌, length, sum_by, count_by, Option, Some, None, is_some}
 use Rattle.std.specs.List.{All}
 use Rattle.st_base.specs.Numbered.{item_at_number}
@@ -11,19 +11,19 @@ use Rattle.st_trace.specs.declared.start.ThreadRow.{ThreadRow}
 
 -- ---- stores
 
--- a store lies in memory
+-- a store is inside memory
 abbrev pub IsInMemory : Instr → Type 0
 IsInMemory (Store place word) = place < SPACE_WORDS
 IsInMemory (Call call regs) = Unit {0}
 IsInMemory (Fork child) = Unit {0}
 
--- each store of a script does
+-- each store of a script is inside memory
 abbrev pub StoresInMemory : Start → Type 0
 StoresInMemory start = All (λ row. All IsInMemory row.body) start.threads
 
 -- ---- how threads start
 
--- 1 where the row of a thread has it start in a process, 0 where it waits for a fork
+-- 1 if the row of a thread starts it in a process, 0 if it waits for a fork
 abbrev pub starts_by_row : Option ThreadRow → ℕ
 starts_by_row None = 0
 starts_by_row (Some row) = if is_some row.process then 1 else 0
@@ -38,13 +38,13 @@ is_start_of t (Fork child) = child == t
 abbrev pub starts_of : Start → ℕ → ℕ
 starts_of start t = starts_by_row (item_at_number start.threads t) + sum_by (λ row. count_by (is_start_of t) row.body) start.threads
 
--- each thread can start in one way at most
+-- each thread can start in at most one way
 abbrev pub StartOnce : Start → Type 0
 StartOnce start = (t : ℕ) → starts_of start t ≤ 1
 
--- ---- all of it
+-- ---- all requirements
 
--- a script that isn't too long, and keeps to this
+-- a script that isn't too long, and meets these requirements
 pub record IsBounded (start : Start) : Type 0 where
   pub few_instructions : sum_by (λ row. length row.body) start.threads ≤ 4096
   pub few_processes : length start.processes ≤ 64

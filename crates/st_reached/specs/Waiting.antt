@@ -1,4 +1,4 @@
--- Which threads and workers add nothing, and which threads an entry may have go on: the others needn't be asked again behind it.
+-- Which threads and workers add no entry, and which threads an entry may wake: the others needn't be tried again after it.
 use Rattle.std.specs.Prelude.{◌≡◌, ℕ, Bool, true, false, ◌&&◌, ◌==◌, Option, Some, None}
 use Rattle.std.specs.List.{list_any}
 use Rattle.std.specs.Str.{bytes_eq}
@@ -36,7 +36,7 @@ pub record IsAsking (i : Input) (st : State) (t : ℕ) : Type 0 where
   pub unfaulted : (st.messages (st.threads t).number).fault ≡ None
   pub question : is_question i st (st.threads t).number ≡ true
 
--- a thread is still: it hasn't started, or it has ended, or it awaits what becomes of its held call, or what the operator answers
+-- a thread is still: it hasn't started, it has ended, it waits for its held call's message to be faulted or answered, or for the operator
 pub data IsStill (i : Input) (st : State) (t : ℕ) : Type 0 where
   unstarted : (st.threads t).owner ≡ 0 → IsStill i st t
   ended : (st.threads t).ended ≡ true → IsStill i st t
@@ -45,7 +45,7 @@ pub data IsStill (i : Input) (st : State) (t : ℕ) : Type 0 where
 
 -- ---- which threads an entry wakes
 
--- a change by which threads may go on whatever they hold: one starts, a process is killed, or it runs another binary
+-- a change after which any threads may go on: one starts, a process is killed, or a process executes another binary
 abbrev pub wakes_all : Change → Bool
 wakes_all (Forked pid space tid) = true
 wakes_all (Execed binary space) = true
@@ -57,22 +57,22 @@ abbrev pub is_head_by : ℕ → Option Head → Bool
 is_head_by t None = false
 is_head_by t (Some head) = head.tid == t
 
--- whether the message of a number is thread t's
+-- whether the message of a number is that of thread t
 abbrev pub is_message_by : State → ℕ → ℕ → Bool
 is_message_by st t q = is_head_by t (st.messages q).head
 
--- whether two messages are of one policy and one rule
+-- whether two messages have the same policy and the same rule
 abbrev pub are_alike : Option Head → Option Head → Bool
 are_alike (Some head) (Some other) = bytes_eq head.policy other.policy && same_rule head.rule other.rule
 are_alike _ _ = false
 
--- whether thread t holds a call of the policy and the rule of the message of a number
+-- whether thread t holds a call with the policy and the rule of the message of a number
 abbrev pub holds_alike : State → ℕ → ℕ → Bool
 holds_alike st q t = list_any (λ held. are_alike (st.messages q).head (st.messages held.number).head) (held_by_pending st t (st.threads t).pending)
 
--- whether thread t, which is still, may go on behind an entry of another: a fault and an answer that is applied wake the thread of their
--- number, a call wakes every thread where one of its changes does, and what the operator answers wakes the threads that hold calls of the
--- policy and the rule of the question
+-- whether an entry wakes the still thread t, another's: a fault and an applied answer wake the thread of their number; a call wakes every
+-- thread if one of its changes does; an answer of the operator wakes the threads that hold calls with the policy and the rule of the
+-- question
 abbrev pub wakes : State → Entry → ℕ → Bool
 wakes st (Used u seq call regs args ids result changes) t = list_any wakes_all changes
 wakes st (Faulted q errno) t = is_message_by st t q
@@ -83,7 +83,7 @@ wakes st _ t = false
 
 -- ---- workers
 
--- a worker is still: there is none of this number, or it is idle and no number waits
+-- a worker is still: no worker has this number, or it is idle and no number waits
 pub data IsStillWorker (i : Input) (st : State) (w : ℕ) : Type 0 where
   no_worker : is_worker i w ≡ false → IsStillWorker i st w
   idle : worker_at st w ≡ None → least_waiting st ≡ None → IsStillWorker i st w

@@ -1,4 +1,4 @@
-//! What holds of every state that a run of the whole machine reaches, beside that each of its entries is lawful.
+//! Invariants of every state that a run of the machine reaches, beyond the lawfulness of each entry.
 #![tactic(auto)]
 
 pub mod law;
