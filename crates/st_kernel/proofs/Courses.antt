@@ -1,4 +1,4 @@
--- A course that goes on by one choice.
+-- The invariant of a run is preserved by one more choice.
 use native.Mathlib.Omega.{arith}
 use Rattle.std.proofs.Common.{inl, inr, length, ◌≡◌, ◌≤◌, ◌<◌, ◌∙◌, ℕ, suc, ◌+◌, Bool, true, false, ◌∷◌, ◌++◌, List, [], Some, None, get_or, set, reverse, ap, sym, subst}
 use Rattle.std.proofs.lemmas.Bool.{cases_eq}
@@ -28,19 +28,19 @@ module _ (i : Input) (choices : List Choice) (c : Choice) (e : Entry) (adds : en
   abbrev before : History
   before = history i (reverse choices)
 
-  -- the history has the entry in front
+  -- the history has the new entry in front
   one_more : history i (reverse (choices ++ c ∷ [])) ≡ e ∷ before
   one_more = ap (history i) (reverse-append choices (c ∷ [])) ∙ ap (history_with before) adds
 
-  -- the run has it at its end
+  -- the run has the new entry at its end
   pub run_more : run i (choices ++ c ∷ []) ≡ run i choices ++ e ∷ []
   run_more = ap reverse one_more ∙ reverse_onto before e []
 
-  -- and the state is the one behind it
+  -- the state is the one after the new entry
   pub state_more : state_of_run i (choices ++ c ∷ []) ≡ state_after i (state_of_run i choices) e
   state_more = ap (state_at i) one_more
 
--- the session is the one behind the run
+-- the session is the one after the run
 pub session_behind : (i : Input) (choices : List Choice) → (state_of_run i choices).session ≡ session_at i (reverse (run i choices))
 session_behind i choices =
     let h : History = history i (reverse choices) in
@@ -48,7 +48,7 @@ session_behind i choices =
 
 -- ---- the cursor and the marks
 
--- where the cursor stands, and which threads are marked as asleep, behind an entry that may wake some threads
+-- the cursor, and the threads that are marked as asleep, after an entry that may wake some threads
 pub record HasWoken (m : Running) (woken : Woken) (first : ℕ) (asleep : List Bool) (first_then : ℕ) (asleep_then : List Bool) : Type 0 where
   pub from : 1 ≤ first_then
   pub to : first_then ≤ first
@@ -57,7 +57,7 @@ pub record HasWoken (m : Running) (woken : Woken) (first : ℕ) (asleep : List B
   pub marked : (place : ℕ) → is_asleep asleep_then place ≡ true → is_asleep asleep place ≡ true
   pub unwoken : (place : ℕ) → is_asleep asleep_then place ≡ true → is_woken m woken (suc place) ≡ false
 
--- the entry wakes no other threads, by the machine behind it
+-- the entry wakes no other threads, according to the machine after it
 abbrev pub WakesNoOther : Running → Entry → Woken → Type 0
 WakesNoOther m e woken = (st : State) → IsMachine m st → (t : ℕ) → wakes st e t ≡ true → is_woken m woken t ≡ true
 
@@ -69,7 +69,7 @@ module _ (m new : Running) (kept : List Repeat) (first : ℕ) (asleep : List Boo
   reached : Reached m.input st
   reached = reached_run m.input course.machine.reached.startable (spelled_choices kept)
 
-  -- a thread that couldn't move and isn't woken can't
+  -- a thread that couldn't move and isn't woken still can't move
   still_then : (t : ℕ) → 1 ≤ t → thread_entry m.input st t ≡ None → is_woken new woken t ≡ false → thread_entry m.input (state_after m.input st e) t ≡ None
   still_then t some none unwoken =
       none_more m.input st reached t some none c e adds
@@ -77,7 +77,7 @@ module _ (m new : Running) (kept : List Repeat) (first : ℕ) (asleep : List Boo
 
 -- ---- the choices that are kept
 
--- one more is the last of them
+-- one more choice is appended to the choices that are kept
 pub spelled_more : (kept : List Repeat) (c : Choice) → kept ≡ repeats_of (spelled_choices kept) → spelled_choices (repeats_with kept c) ≡ spelled_choices kept ++ c ∷ []
 spelled_more kept c joined =
     let choices = spelled_choices kept in
@@ -87,9 +87,9 @@ joined_more : (kept : List Repeat) (c : Choice) → kept ≡ repeats_of (spelled
 joined_more kept c joined =
     ap (λ (rs : List Repeat). repeats_with rs c) joined ∙ one_more_choice (spelled_choices kept) c ∙ ap repeats_of (sym (spelled_more kept c joined))
 
--- ---- from choice to choice
+-- ---- one choice after the other
 
--- what runs has gone on by a choice
+-- the machine that runs has made one more choice
 pub course_on : (m new : Running) (kept : List Repeat) (first : ℕ) (asleep : List Bool) (c : Choice) (e : Entry) (woken : Woken) (first_then : ℕ) (asleep_then : List Bool) →
     IsCourse m kept first asleep → new.input ≡ m.input → IsStep m c (Some e) new → WakesNoOther new e woken → HasWoken new woken first asleep first_then asleep_then →
     IsCourse new (repeats_with kept c) first_then asleep_then
@@ -116,7 +116,7 @@ course_on m new kept first asleep c e woken first_then asleep_then course same s
       count = has.count ∙ course.count ∙ ap thread_count (sym same);
     }
 
--- what runs is as good as before
+-- the machine that runs represents the same state as before
 pub course_same : (m new : Running) (kept : List Repeat) (first : ℕ) (asleep : List Bool) → IsCourse m kept first asleep → new.input ≡ m.input → IsMachine new (state_of_run m.input (spelled_choices kept)) →
     IsCourse new kept first asleep
 course_same m new kept first asleep course same is =
@@ -132,9 +132,9 @@ course_same m new kept first asleep course same is =
       count = course.count ∙ ap thread_count (sym same);
     }
 
--- ---- the threads before one
+-- ---- the threads before a thread
 
--- the cursor goes on
+-- the cursor moves to a later thread
 pub course_from : (m : Running) (kept : List Repeat) (first then : ℕ) (asleep : List Bool) → IsCourse m kept first asleep → 1 ≤ then → then ≤ thread_count m.input
     → ((t : ℕ) → 1 ≤ t → t < then → thread_entry m.input (state_of_run m.input (spelled_choices kept)) t ≡ None) → IsCourse m kept then asleep
 course_from m kept first then asleep course from to still = record {
@@ -148,7 +148,7 @@ course_from m kept first then asleep course from to still = record {
   count = course.count;
 }
 
--- one that can't move is marked
+-- a thread that can't move is marked as asleep
 pub course_marked : (m : Running) (kept : List Repeat) (first place : ℕ) (asleep marks : List Bool) → IsCourse m kept first asleep → marks ≡ set asleep place true
     → thread_entry m.input (state_of_run m.input (spelled_choices kept)) (suc place) ≡ None → IsCourse m kept first marks
 course_marked m kept first place asleep marks course is none = record {

@@ -1,4 +1,4 @@
--- What the cursor finds is the first choice that is enabled.
+-- The choice that the cursor finds is the first enabled choice.
 use native.Mathlib.Omega.{arith}
 use Rattle.std.proofs.Common.{◌≡◌, ◌≤◌, ◌<◌, ◌∙◌, ℕ, zero, suc, ◌+◌, Bool, true, false, Option, Some, None, inl, inr, refl, replicate, ap, sym, subst}
 use Rattle.std.proofs.lemmas.Bool.{cases_eq}
@@ -18,7 +18,7 @@ nobody_asleep zero place = refl
 nobody_asleep (suc n) zero = refl
 nobody_asleep (suc n) (suc place) = nobody_asleep n place
 
--- what holds of each number before one, and of that one, holds of one more
+-- what holds of each number before n, and of n, holds of each number before n + 1
 pub one_more : (P : ℕ → Type 0) (n : ℕ) → ((q : ℕ) → 1 ≤ q → q < n → P q) → P n → (q : ℕ) → 1 ≤ q → q < n + 1 → P q
 one_more P n before here q low high = elim (cases_eq q n) [
   | inl same ↦ subst P (sym same) here
@@ -35,7 +35,7 @@ module _ (of : ℕ → Choice) (i : Input) (st : State) where
   passed : (n : ℕ) (o : Option Entry) (other : Option EnabledChoice) → o ≡ None → choice_or (of n) o other ≡ other
   passed n o other e = ap (λ (x : Option Entry). choice_or (of n) x other) e
 
-  -- the first of some that is enabled
+  -- the first enabled choice of a family
   found : (n count : ℕ) (other : Option EnabledChoice) (p : ℕ) (e : Entry) → n ≤ p → p < n + count → ((q : ℕ) → n ≤ q → q < p → entry_of i st (of q) ≡ None) → entry_of i st (of p) ≡ Some e
       → first_enabled_of of i st n count other ≡ Some (enabled_by (of p) e)
   found n zero other p e low high none adds = absurd (omega (arith, low, high))
@@ -45,7 +45,7 @@ module _ (of : ℕ → Choice) (i : Input) (st : State) where
         ∙ found (suc n) count other p e (omega (arith, low, ne)) (omega (arith, high)) (λ q above below. none q (omega (arith, above)) below) adds
   ]
 
-  -- where none of them is, it is the other
+  -- if no choice of a family is enabled, it is the other
   none_of : (n count : ℕ) (other : Option EnabledChoice) → ((q : ℕ) → n ≤ q → q < n + count → entry_of i st (of q) ≡ None) → first_enabled_of of i st n count other ≡ other
   none_of n zero other none = refl
   none_of n (suc count) other none =
@@ -67,11 +67,11 @@ module _ (i : Input) (st : State) where
   no_thread : NoThread → first_enabled i st ≡ workers
   no_thread none = none_of choice.Thread i st 1 (thread_count i) workers (λ q low high. none q low (omega (arith, high)))
 
-  -- where no thread and no worker can move, it is the operator, if there is a question
+  -- if no thread and no worker can move, it is the operator's, if there is a question
   nobody_else : NoThread → NoWorker → first_enabled i st ≡ asked
   nobody_else none idle = no_thread none ∙ none_of choice.Worker i st 1 i.options.workers asked (λ q low high. idle q low (omega (arith, high)))
 
--- ---- how a run goes on
+-- ---- how a run continues
 
 module _ (before after : Course) where
   abbrev i : Input
@@ -80,19 +80,19 @@ module _ (before after : Course) where
   abbrev st : State
   st = state_in before
 
-  -- the first choice that is enabled was made: by a thread
+  -- the first enabled choice was made: by a thread
   pub thread_next : (added : Option Entry) → HasMade choice.Thread (thread_count i) before true added after → IsNext before true added after
   thread_next added (e, there, it) =
       let high = it.to in
       (e, choice.Thread it.number, there, found choice.Thread i st 1 (thread_count i) (workers i st) it.number e it.from (omega (arith, high)) it.before it.adds, it.made)
 
-  -- by a worker, where no thread can move
+  -- by a worker, if no thread can move
   pub worker_next : (added : Option Entry) → NoThread i st → HasMade choice.Worker i.options.workers before true added after → IsNext before true added after
   worker_next added none (e, there, it) =
       let high = it.to in
       (e, choice.Worker it.number, there, no_thread i st none ∙ found choice.Worker i st 1 i.options.workers (asked i st) it.number e it.from (omega (arith, high)) it.before it.adds, it.made)
 
-  -- by the operator, if there is a question; or none is
+  -- by the operator, if there is a question; otherwise no choice is enabled
   pub operator_next : (made : Bool) (added : Option Entry) → NoThread i st → NoWorker i st → IsChosen before choice.Operator made added after → IsNext before made added after
   operator_next true added none idle (e, there, adds, on) = (e, choice.Operator, there, nobody_else i st none idle ∙ ap (λ (o : Option Entry). choice_or choice.Operator o None) adds, on)
   operator_next false added none idle chosen = (nobody_else i st none idle ∙ ap (λ (o : Option Entry). choice_or choice.Operator o None) chosen.1, chosen.2)

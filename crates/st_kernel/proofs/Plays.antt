@@ -1,4 +1,4 @@
--- What the lines of a schedule come to, from where the kernel stands.
+-- What the lines of a schedule add to a run, from the kernel's current state on.
 use native.Mathlib.Omega.{arith}
 use Rattle.std.proofs.Common.{◌≡◌, ◌<◌, ◌∙◌, ℕ, suc, ◌+◌, ◌-◌, ◌∷◌, ◌++◌, List, [], Some, None, Result, Ok, Err, ap, reverse, sym, subst}
 use Rattle.std.specs.Result.{IsErr, IsErrAnd}
@@ -23,7 +23,7 @@ module _ (i : Input) (made : List Choice) where
   abbrev here : Course
   here = record { input = i; choices = made }
 
-  -- ---- a choice many times
+  -- ---- a repeated choice
 
   pub repeated_further : (count : ℕ) (c : Choice) (e : Entry) → entry_of i (state_of_run i made) c ≡ Some e → repeated (suc count) c i (standing here) ≡ repeated count c i (standing (record { input = i; choices = made ++ c ∷ [] }))
   repeated_further count c e adds =
@@ -40,7 +40,7 @@ module _ (i : Input) (made : List Choice) where
       let over : Played = rest_from (most_steps i) i (state_of_run i made) made in
       ap (λ (st : State). Some (record { choices = over.choices; state = st })) (rest_settles i startable made (most_steps i) (le_refl (most_steps i))).reached
 
--- ---- the rounds of a loop that makes a choice many times
+-- ---- the rounds of the loop that repeats a choice
 
 module _ (old : Course) (c : Choice) (count k : ℕ) (within : k < count) where
   abbrev i : Input
@@ -58,16 +58,16 @@ module _ (old : Course) (c : Choice) (count k : ℕ) (within : k < count) where
   stuck : entry_of i (state_in old) c ≡ None → repeated (count - k) c i (standing old) ≡ None
   stuck none = ap (λ (n : ℕ). repeated n c i (standing old)) one_less ∙ repeated_stuck i old.choices (count - (k + 1)) c none
 
-  -- one round more leaves one time less to make the choice
+  -- after one more round, the choice is to be made one time less
   pub round_further : (input : Input) → i ≡ input → (new : Course) (e : Entry) → new ≡ with_choice old c → entry_of i (state_in old) c ≡ Some e → repeated (count - (k + 1)) c input (standing new) ≡ repeated (count - k) c input (standing old)
   round_further input same new e on adds = subst (λ (j : Input). repeated (count - (k + 1)) c j (standing new) ≡ repeated (count - k) c j (standing old)) same (further new e on adds)
 
   pub round_stuck : (input : Input) → i ≡ input → entry_of i (state_in old) c ≡ None → repeated (count - k) c input (standing old) ≡ None
   round_stuck input same none = subst (λ (j : Input). repeated (count - k) c j (standing old) ≡ None) same (stuck none)
 
--- ---- entries that are taken down
+-- ---- entries that are given to the recorder
 
--- what holds of the run so far, and then of each longer one by an entry, holds behind a choice
+-- what holds of the run so far, and is preserved by each entry, holds after a choice
 pub noted_on : (P Q : Input → List Entry → Type 0) (old : Course) (c : Choice) (e : Entry) (new : Course) (i : Input) (session : List SessionFilter)
     → new ≡ with_choice old c → i ≡ new.input → session ≡ session_at new.input (reverse (trace_of new)) → entry_of old.input (state_in old) c ≡ Some e
     → ((trace : List Entry) → session ≡ session_at i (reverse (trace ++ e ∷ [])) → P i trace → Q i (trace ++ e ∷ [])) → P old.input (trace_of old) → Q new.input (trace_of new)
@@ -78,25 +78,25 @@ noted_on P Q old c e new i session on same behind adds noted x =
     subst (λ (j : Input). Q j (trace_of new)) same
     (subst (Q i) (sym longer) (noted (trace_of old) here (subst (λ (j : Input). P j (trace_of old)) (sym was) x)))
 
--- ---- choices that were made stand
+-- ---- choices that were made remain
 
--- no choice more
+-- no choice was added
 pub continues_here : (course : Course) → Continues course course
 continues_here course = ([], sym (append-nil course.choices))
 
--- one choice more
+-- one choice was added
 pub continues_by : (old : Course) (c : Choice) (new : Course) → new ≡ with_choice old c → Continues old new
 continues_by old c new on = (c ∷ [], ap (λ (course : Course). course.choices) on)
 
 pub continues_on : (first middle last : Course) → Continues first middle → Continues middle last → Continues first last
 continues_on first middle last a b = (a.0 ++ b.0, b.1 ∙ ap (λ (l : List Choice). l ++ b.0) a.1 ∙ append_assoc first.choices a.0 b.0)
 
--- the error of a result, else the other
+-- the error of a result, or the given one
 abbrev fault_or : {A : Type 0} → StepFault → Result A StepFault → StepFault
 fault_or other (Ok value) = other
 fault_or other (Err e) = e
 
--- an error that is handed on is the one that came
+-- an error that is passed on is the one that was received
 pub came_from : {A : Type 0} (s f : StepFault) (r : Result A StepFault) → IsErr r → IsErrAnd r (λ e. e ≡ s) → r ≡ Err f → s ≡ f
 came_from s f (Ok value) failed same is = cc
 came_from s f (Err e) failed same is = sym same ∙ ap (fault_or e) is

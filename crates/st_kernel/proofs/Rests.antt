@@ -1,4 +1,4 @@
--- What `rest` comes to, step by step. It may make so many steps that how many doesn't matter.
+-- What `rest` does, step by step. Its bound of steps is so large that it makes no difference.
 use native.Mathlib.Omega.{arith}
 use Rattle.std.proofs.Common.{◌≡◌, ◌≤◌, ◌<◌, ◌∙◌, ℕ, zero, suc, ◌+◌, ◌-◌, ◌∷◌, ◌++◌, true, List, [], length, Option, Some, None, refl, ap, sym, subst}
 use Rattle.std.proofs.lemmas.List.{append_assoc, length-append}
@@ -15,7 +15,7 @@ use Rattle.st_kernel.specs.Kernel.{Course, IsNext, IsPlayed, next_of, rested, st
 use Rattle.st_kernel.proofs.Courses.{run_more, state_more}
 
 module _ (i : Input) (startable : IsStartable i) where
-  -- each of these choices was enabled at its turn
+  -- each of these choices was enabled when it was made
   abbrev AreEnabled : List Choice → Type 0
   AreEnabled made = length (run i made) ≡ length made
 
@@ -25,7 +25,7 @@ module _ (i : Input) (startable : IsStartable i) where
   pub enabled_more : (made : List Choice) (c : Choice) (e : Entry) → AreEnabled made → entry_of i (state_of_run i made) c ≡ Some e → AreEnabled (made ++ c ∷ [])
   enabled_more made c e are adds = ap (λ (l : List Entry). length l) (run_more i made c e adds) ∙ length-append (run i made) (e ∷ []) ∙ ap (λ (n : ℕ). n + 1) are ∙ sym (longer made c)
 
-  -- so there is room for one more
+  -- then one more choice is within the bound of steps
   pub room : (made : List Choice) (c : Choice) (e : Entry) → AreEnabled made → entry_of i (state_of_run i made) c ≡ Some e → length made + 1 ≤ most_steps i
   room made c e are adds =
       let bound = run_bound i startable (made ++ c ∷ []) in
@@ -33,14 +33,14 @@ module _ (i : Input) (startable : IsStartable i) where
       let long = longer made c in
       omega (arith, bound, same, long)
 
-  -- behind the first choice that is found
+  -- `rest` after the first choice that is found
   abbrev behind : (count : ℕ) (made : List Choice) → EnabledChoice → Played
   behind count made found = rest_from count i (state_after i (state_of_run i made) found.entry) (made ++ found.choice ∷ [])
 
   behind_is : (count : ℕ) (made : List Choice) (found : EnabledChoice) → first_enabled i (state_of_run i made) ≡ Some found → behind count made found ≡ rest_from count i (state_of_run i (made ++ found.choice ∷ [])) (made ++ found.choice ∷ [])
   behind_is count made found e = ap (λ (st : State). rest_from count i st (made ++ found.choice ∷ [])) (sym (state_more i made found.choice found.entry (first_found i (state_of_run i made) found e)))
 
-  -- one step more makes no difference where it makes none behind the first choice
+  -- one step more makes no difference if it makes none after the first choice
   step : (count : ℕ) (made : List Choice) (o : Option EnabledChoice) → first_enabled i (state_of_run i made) ≡ o
       → ((found : EnabledChoice) → first_enabled i (state_of_run i made) ≡ Some found → rest_from (suc count) i (state_of_run i (made ++ found.choice ∷ [])) (made ++ found.choice ∷ []) ≡ rest_from count i (state_of_run i (made ++ found.choice ∷ [])) (made ++ found.choice ∷ []))
       → rest_from (suc (suc count)) i (state_of_run i made) made ≡ rest_from (suc count) i (state_of_run i made) made
@@ -50,7 +50,7 @@ module _ (i : Input) (startable : IsStartable i) where
       ∙ behind_is (suc count) made found e ∙ again found e ∙ sym (behind_is count made found e)
       ∙ sym (ap (rest_on (record { choices = made; state = state_of_run i made }) (λ other. behind count made other)) e)
 
-  -- nor where there are enough
+  -- it makes no difference if there are enough steps
   enough : (count : ℕ) (made : List Choice) → AreEnabled made → most_steps i ≤ count + length made → rest_from (suc count) i (state_of_run i made) made ≡ rest_from count i (state_of_run i made) made
   enough zero made are few = by (first_enabled i (state_of_run i made)) refl where
     by : (o : Option EnabledChoice) → first_enabled i (state_of_run i made) ≡ o → rest_on (record { choices = made; state = state_of_run i made }) (λ found. behind zero made found) o ≡ rest_from zero i (state_of_run i made) made
@@ -68,11 +68,11 @@ module _ (i : Input) (startable : IsStartable i) where
       ∙ sym (behind_is count made found e)
       ∙ sym (ap (rest_on (record { choices = made; state = state_of_run i made }) (λ other. behind count made other)) e)
 
-  -- `rest` comes to the same behind the choice that it makes first
+  -- `rest` gives the same result after the choice that it makes first
   pub rest_further : (made : List Choice) (found : EnabledChoice) → AreEnabled made → first_enabled i (state_of_run i made) ≡ Some found → rested (record { input = i; choices = made ++ found.choice ∷ [] }) ≡ rested (record { input = i; choices = made })
   rest_further made found are e = ap (λ (played : Played). record { input = i; choices = played.choices }) (further made found are e (most_steps i) refl)
 
--- where none is enabled `rest` makes none
+-- if no choice is enabled, `rest` makes none
 rests_at : (course : Course) → next_of course ≡ None → rest_from (most_steps course.input) course.input (state_of_run course.input course.choices) course.choices ≡ record { choices = course.choices; state = state_of_run course.input course.choices }
 rests_at course none = by (most_steps course.input) where
   st : State
@@ -85,24 +85,24 @@ rests_at course none = by (most_steps course.input) where
 pub rest_over : (course : Course) → next_of course ≡ None → rested course ≡ course
 rest_over course none = ap (λ (played : Played). record { input = course.input; choices = played.choices }) (rests_at course none)
 
--- and no choice at all is
+-- if there is no first enabled choice, the state is settled
 pub settled_at : (course : Course) → IsPlayed course → next_of course ≡ None → IsSettled course.input (state_of_run course.input course.choices)
 settled_at course played none =
     subst (λ (at : Played). IsSettled course.input at.state) (rests_at course none) (rest_settles course.input played.startable course.choices (most_steps course.input) (omega arith)).settled
 
 -- ---- a step of `rest`
 
--- the choice that comes first adds its entry
+-- the first enabled choice adds its entry
 pub next_adds : (course : Course) (e : Entry) (c : Choice) → next_of course ≡ Some (record { choice = c; entry = e }) → entry_of course.input (state_in course) c ≡ Some e
 next_adds course e c first = first_found course.input (state_in course) (record { choice = c; entry = e }) first
 
--- a course has gone on by a choice, `rest` comes to the same behind it, and fewer steps are left
+-- the run was continued by a choice, `rest` gives the same result after it, and fewer steps are left
 pub record GoesOn (before after : Course) : Type 0 where
   pub on_the_way : rested after ≡ rested before
   pub made : (c : Choice) × (after.choices ≡ before.choices ++ c ∷ [])
   pub less : most_steps after.input - length after.choices < most_steps before.input - length before.choices
 
--- the first choice that is enabled is made, and leads on
+-- after the first enabled choice, the run was continued in that way
 pub goes_on : (before after : Course) (added : Option Entry) → IsPlayed before → IsNext before true added after → GoesOn before after
 goes_on before after added played (e, c, there, first, on) =
     let more = room before.input played.startable before.choices c e played.enabled (next_adds before e c first) in
@@ -113,7 +113,7 @@ goes_on before after added played (e, c, there, first, on) =
       less = omega (arith, more, long);
     })
 
--- choices that were made earlier stay
+-- choices that were made earlier remain
 pub made_on : (first : List Choice) (before after : Course) → (made : List Choice) × (before.choices ≡ first ++ made) → GoesOn before after → (made : List Choice) × (after.choices ≡ first ++ made)
 made_on first before after earlier goes =
     let c = goes.made.0 in

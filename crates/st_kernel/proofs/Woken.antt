@@ -1,4 +1,4 @@
--- Marks of threads, as those of a kind are woken one after the other.
+-- Marks of threads, while the threads of a kind are woken one after the other.
 use native.Mathlib.Omega.{arith}
 use Rattle.std.proofs.Common.{◌≡◌, ◌≤◌, ◌<◌, ◌+◌, ◌∙◌, ◌==◌, ℕ, suc, Bool, true, false, List, length, Option, None, inl, inr, refl, ap, sym}
 use Rattle.std.proofs.lemmas.Bool.{cases_eq, eqb-false, leb-false, leb-true, ne_eqb, true≢false}
@@ -9,7 +9,7 @@ use Rattle.st_next.specs.Machine.{Running}
 use Rattle.st_threads.specs.Thread.{ThreadRow}
 use Rattle.st_kernel.specs.Waking.{is_asleep}
 
--- of the threads before one those of a kind are awake, and the others are as they were
+-- of the threads before `tid`, those of the kind are awake, and the others are unchanged
 pub record IsWokenTo (is : ℕ → Bool) (tid : ℕ) (old now : List Bool) : Type 0 where
   pub count : length now ≡ length old
   pub before : (place : ℕ) → is_asleep now place ≡ true → is_asleep old place ≡ true
@@ -17,7 +17,7 @@ pub record IsWokenTo (is : ℕ → Bool) (tid : ℕ) (old now : List Bool) : Typ
   pub others : (place : ℕ) → is_asleep old place ≡ true → is (suc place) ≡ false → is_asleep now place ≡ true
 
 module _ (is : ℕ → Bool) (tid : ℕ) (old now : List Bool) (so_far : IsWokenTo is tid old now) where
-  -- one that isn't of the kind is left as it is
+  -- a thread that isn't of the kind is unchanged
   pub passed : is tid ≡ false → IsWokenTo is (tid + 1) old now
   passed other = record {
     count = so_far.count;
@@ -29,7 +29,7 @@ module _ (is : ℕ → Bool) (tid : ℕ) (old now : List Bool) (so_far : IsWoken
     others = so_far.others;
   }
 
-  -- and one that is is marked as awake
+  -- a thread of the kind is marked as awake
   pub marked : is tid ≡ true → (new : List Bool) → length new ≡ length now → ((place : ℕ) → is_asleep new place ≡ true → is_asleep now place ≡ true) → ((place : ℕ) → is_asleep new place ≡ true → (suc place == tid) ≡ false)
       → ((place : ℕ) → is_asleep now place ≡ true → (suc place == tid) ≡ false → is_asleep new place ≡ true) → IsWokenTo is (tid + 1) old new
   marked one new count before awake others = record {
@@ -39,13 +39,13 @@ module _ (is : ℕ → Bool) (tid : ℕ) (old now : List Bool) (so_far : IsWoken
     others = λ place asleep other. others place (so_far.others place asleep other) (ne_eqb (suc place) tid (λ same. true≢false (sym one ∙ sym (ap is same) ∙ other)));
   }
 
-  -- where none of a kind is behind them, all are woken
+  -- if no thread of the kind comes later, all of them are woken
   pub all_woken : (count : ℕ) → count < tid → ((place : ℕ) → count ≤ place → is (suc place) ≡ false) → (place : ℕ) → is_asleep now place ≡ true → is (suc place) ≡ false
   all_woken count over none place asleep = by (nat_le count place) refl where
     by : (b : Bool) → nat_le count place ≡ b → is (suc place) ≡ false
     by true beyond = none place (leb-true count place beyond)
     by false within = so_far.woken place (let low = leb-false count place within in omega (arith, low, over)) asleep
 
--- a number behind those of all threads is no thread's
+-- a number greater than those of all threads is no thread's
 pub nothing_held : (m : Running) (place : ℕ) → length m.threads ≤ place → message_held m (suc place) ≡ None
 nothing_held m place beyond = ap (λ (o : Option ThreadRow). message_of m (number_of o)) (slice_get_past m.threads place beyond)

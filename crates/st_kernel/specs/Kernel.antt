@@ -1,4 +1,4 @@
--- A run so far, as the kernel keeps it.
+-- The abstract state of the kernel, a run so far, and how a choice, `rest` or a line of a schedule continues it.
 use Rattle.std.specs.Prelude.{◌≡◌, ◌≤◌, ◌<◌, ℕ, suc, Bool, true, false, List, [], ◌∷◌, ◌++◌, length, Option, Some, None}
 use Rattle.st_trace.specs.declared.entry.Choice.{Choice}
 use Rattle.st_trace.specs.declared.entry.Entry.{Entry}
@@ -12,12 +12,12 @@ use Rattle.st_report.specs.declared.schedule.Repeat.{Repeat}
 use Rattle.st_next.specs.Machine.{IsMachine, Running}
 use Rattle.st_kernel.specs.Waking.{AreStill}
 
--- an input, and the choices that were made
+-- a run so far: its input, and the choices that were made
 pub record Course : Type 0 where
   pub input : Input
   pub choices : List Choice
 
--- with one more choice
+-- a run with one more choice
 abbrev pub with_choice : Course → Choice → Course
 with_choice course choice = record { input = course.input; choices = course.choices ++ choice ∷ [] }
 
@@ -25,30 +25,30 @@ with_choice course choice = record { input = course.input; choices = course.choi
 abbrev pub state_in : Course → State
 state_in course = state_of_run course.input course.choices
 
--- the entries that they add
+-- the entries that the choices add, in order
 abbrev pub trace_of : Course → List Entry
 trace_of course = run course.input course.choices
 
--- more choices may have been made, and none is taken back
+-- the choices that were made before are a prefix of those that were made since
 abbrev pub Continues : Course → Course → Type 0
 Continues old new = (made : List Choice) × (new.choices ≡ old.choices ++ made)
 
--- a choice was made, and this is the entry that it adds; or it adds none, the place for its entry is empty, and the run is as before
+-- a choice was made, and this is the entry that it adds; or it adds none, the place for its entry is empty, and the run is unchanged
 abbrev pub IsChosen : Course → Choice → Bool → Option Entry → Course → Type 0
 IsChosen old c true added new = (e : Entry) × (added ≡ Some e) × (entry_of old.input (state_in old) c ≡ Some e) × (new ≡ with_choice old c)
 IsChosen old c false added new = (added ≡ None) × (entry_of old.input (state_in old) c ≡ None) × (new ≡ old)
 
--- the same, but where it adds none anything may stand in the place for its entry
+-- the same, but if the choice adds no entry, the place for its entry may hold anything
 abbrev pub IsTried : Course → Choice → Bool → Option Entry → Course → Type 0
 IsTried old c true added new = IsChosen old c true added new
 IsTried old c false added new = (entry_of old.input (state_in old) c ≡ None) × (new ≡ old)
 
--- a run can start with the input, and each of the choices was enabled at its turn
+-- a run can start with the input, and each of the choices was enabled when it was made
 pub record IsPlayed (course : Course) : Type 0 where
   pub startable : IsStartable course.input
   pub enabled : length (run course.input course.choices) ≡ length course.choices
 
--- the choices, with the state that they lead to: what lines of a schedule are played on from
+-- the choices, with the state that they lead to: the start of the next lines of a schedule
 abbrev pub standing : Course → Played
 standing course = record { choices = course.choices; state = state_in course }
 
@@ -60,7 +60,7 @@ next_of course = first_enabled course.input (state_in course)
 abbrev pub NoneMoves : Course → ℕ → Type 0
 NoneMoves course tid = (t : ℕ) → 1 ≤ t → t < tid → thread_entry course.input (state_in course) t ≡ None
 
--- the first of some choices that is enabled was made, and adds this entry
+-- the first enabled choice of a family was made, and adds this entry
 pub record IsFirstMade (of : ℕ → Choice) (count : ℕ) (old : Course) (e : Entry) (new : Course) : Type 0 where
   pub number : ℕ
   pub from : 1 ≤ number
@@ -69,22 +69,22 @@ pub record IsFirstMade (of : ℕ → Choice) (count : ℕ) (old : Course) (e : E
   pub adds : entry_of old.input (state_in old) (of number) ≡ Some e
   pub made : new ≡ with_choice old (of number)
 
--- it was; or none of so many is enabled, and all is as before
+-- the first enabled choice of a family was made; or none of so many is enabled, and the run is unchanged
 abbrev pub HasMade : (ℕ → Choice) → ℕ → Course → Bool → Option Entry → Course → Type 0
 HasMade of count old true added new = (e : Entry) × (added ≡ Some e) × IsFirstMade of count old e new
 HasMade of count old false added new = ((n : ℕ) → 1 ≤ n → n ≤ count → entry_of old.input (state_in old) (of n) ≡ None) × (new ≡ old)
 
--- the first choice that is enabled was made, and adds this entry; or none is, and the run is as before
+-- the first enabled choice was made, and adds this entry; or no choice is enabled, and the run is unchanged
 abbrev pub IsNext : Course → Bool → Option Entry → Course → Type 0
 IsNext old true added new = (e : Entry) × (c : Choice) × (added ≡ Some e) × (next_of old ≡ Some (record { choice = c; entry = e })) × (new ≡ with_choice old c)
 IsNext old false added new = (next_of old ≡ None) × (new ≡ old)
 
--- with the first enabled choice again and again, until none is enabled
+-- a run after the first enabled choice was made again and again, until none is enabled
 abbrev pub rested : Course → Course
 rested course = record { input = course.input; choices = (rest_from (most_steps course.input) course.input (state_in course) course.choices).choices }
 
--- what runs is the machine behind the choices that are kept, neighbours joined; each of them was enabled at its turn, and no thread can move
--- that stands before the cursor or is marked as asleep
+-- the invariant: the machine that runs is in the state after the choices that are kept, with equal consecutive ones joined; each of them
+-- was enabled when it was made; and no thread can move that is below the cursor or marked as asleep
 pub record IsCourse (m : Running) (kept : List Repeat) (first : ℕ) (asleep : List Bool) : Type 0 where
   pub machine : IsMachine m (state_of_run m.input (spelled_choices kept))
   pub joined : kept ≡ repeats_of (spelled_choices kept)

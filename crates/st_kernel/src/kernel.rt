@@ -25,7 +25,7 @@ use thiserror::Error;
 /// Why a choice wasn't made.
 #[derive(Clone, Copy, Debug, PartialEq, Eq, Drop, Error)]
 pub enum StepFault {
-    /// The choice adds nothing now.
+    /// The choice would add no entry.
     #[error("the choice is not enabled")]
     NotEnabled,
     #[error("out of memory")]
@@ -42,15 +42,15 @@ impl From<AllocError> for StepFault {
     }
 }
 
-/// A run so far: an input, and the choices that were made.
+/// A run so far: its input, and the choices that were made.
 #[derive(Debug, Drop)]
 pub struct Kernel<'a> {
     machine: Machine<'a>,
-    // The choices that were made, with equal neighbours joined.
+    // The choices that were made, with equal consecutive ones joined.
     made: Vec<Repeat>,
-    // No thread before this one can move,
+    // The cursor: no thread below it can move.
     first: Tid,
-    // nor one that is marked here. Thread t stands at t - 1.
+    // No thread that is marked here can move. Thread t is at index t - 1.
     asleep: Vec<bool>,
 }
 
@@ -89,22 +89,22 @@ impl<'a> Kernel<'a> {
         })
     }
 
-    /// What it is a run of.
+    /// The input of the run.
     pub fn input(&self) -> &'a Input
         ensures { result.now ≡ self.now.input }
     {
         self.machine.input()
     }
 
-    /// The session behind the choices that were made.
+    /// The session after the choices that were made.
     pub fn session(&self) -> &Session
         ensures { result.now.filters ≡ session_at self.now.input (reverse (trace_of self.now)) }
     {
         self.machine.session()
     }
 
-    /// The choices that were made, in order, with equal neighbours joined. Each was enabled at its turn, and each entry of the run that they
-    /// make is lawful by those before it.
+    /// The choices that were made, in order, with equal consecutive ones joined. Each was enabled when it was made, and each entry of the
+    /// run that they make is lawful by the entries before it.
     pub fn schedule(&self) -> &[Repeat]
         ensures choices { result.now ≡ repeats_of self.now.choices }
         ensures enabled { IsPlayed self.now }
@@ -128,8 +128,8 @@ impl<'a> Kernel<'a> {
         }
     }
 
-    // Makes a choice, leaves the entry that it adds, or none, and says whether there is one. Without memory the run and the place for the
-    // entry are as before.
+    // Makes a choice and stores the entry that it adds, or none, in `added`. Returns whether it adds one. If memory runs out, the run and
+    // `added` are unchanged.
     fn choose(
         &mut self,
         alloc: Global,
@@ -155,8 +155,8 @@ impl<'a> Kernel<'a> {
         }
     }
 
-    /// Makes a choice, and leaves the entry that it adds. One that isn't enabled is refused, and then no entry is left; without memory the
-    /// place for the entry is as before. After either the run is as before.
+    /// Makes a choice and stores the entry that it adds in `added`. A choice that isn't enabled is refused, and `added` is then empty. If
+    /// memory runs out, `added` is unchanged. In both cases the run is unchanged.
     pub fn advance(
         &mut self,
         alloc: Global,
@@ -178,8 +178,8 @@ impl<'a> Kernel<'a> {
         }
     }
 
-    // Has a thread move where none before it can, leaves the entry that this adds, and says whether there is one. One that can't is marked as
-    // asleep, and isn't asked again until it is woken. Without memory the run is as before.
+    // Tries to move a thread before which no thread can move. Stores the entry that this adds in `added`, and returns whether there is one.
+    // A thread that can't move is marked as asleep, and isn't tried again until it is woken. If memory runs out, the run is unchanged.
     fn move_here(
         &mut self,
         alloc: Global,
@@ -204,7 +204,8 @@ impl<'a> Kernel<'a> {
         Ok(false)
     }
 
-    // Has the first thread move that can, leaves the entry that this adds, and says whether there is one. Without memory the run is as before.
+    // Moves the first thread that can move. Stores the entry that this adds in `added`, and returns whether there is one. If memory runs
+    // out, the run is unchanged.
     fn move_first(&mut self, alloc: Global, added: &mut Option<Entry>) -> Result<bool, AllocError>
         ensures made { IfOk result (λ made. HasMade Thread (thread_count self.old.input) self.old made added.new self.new) }
         ensures played { IsPlayed self.old }
@@ -218,7 +219,8 @@ impl<'a> Kernel<'a> {
         Ok(false)
     }
 
-    // Has the first worker move that can, leaves the entry that this adds, and says whether there is one. Without memory the run is as before.
+    // Moves the first worker that can move. Stores the entry that this adds in `added`, and returns whether there is one. If memory runs
+    // out, the run is unchanged.
     fn serve_first(&mut self, alloc: Global, added: &mut Option<Entry>) -> Result<bool, AllocError>
         ensures made { IfOk result (λ made. HasMade Worker self.old.input.options.workers self.old made added.new self.new) }
         ensures err { OnErr result (self.new ≡ self.old) }
@@ -231,8 +233,9 @@ impl<'a> Kernel<'a> {
         Ok(false)
     }
 
-    // Makes the first choice that is enabled, leaves the entry that it adds, and says whether there is one. Threads come by number, then
-    // workers by number, then the operator. Each is tried, since to ask it first would cost as much. Without memory the run is as before.
+    // Makes the first enabled choice, stores the entry that it adds in `added`, and returns whether there is one. Threads come first, by
+    // number, then workers by number, then the operator. Each is tried at once, since asking first whether it can move would cost as much.
+    // If memory runs out, the run is unchanged.
     fn make_next(&mut self, alloc: Global, added: &mut Option<Entry>) -> Result<bool, AllocError>
         ensures made { IfOk result (λ made. IsNext self.old made added.new self.new) }
         ensures played { IsPlayed self.old }
@@ -247,8 +250,8 @@ impl<'a> Kernel<'a> {
         self.choose(alloc, Choice::Operator, added)
     }
 
-    /// Makes the first enabled choice again and again, until none is enabled, and has each entry taken down. Without memory the steps that were
-    /// made stand.
+    /// Makes the first enabled choice again and again until none is enabled, and gives each entry to the recorder. If memory runs out, the
+    /// steps that were made so far remain.
     pub fn rest<R: Recorder>(&mut self, alloc: Global, recorder: &mut R) -> Result<(), AllocError>
         ensures ok { OnOk result (self.new ≡ rested self.old) }
         ensures settled { OnOk result (IsSettled self.new.input (state_in self.new)) }

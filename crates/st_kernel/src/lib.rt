@@ -1,4 +1,5 @@
-//! The kernel: the machine that runs, with the trace of what it did and the schedule by which it did it.
+//! Runs the machine choice by choice, by the lines of a schedule or with the first enabled choice: it keeps the choices that were made, and
+//! gives each entry to a recorder.
 #![tactic(auto)]
 
 pub mod kernel;

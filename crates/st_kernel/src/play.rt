@@ -1,4 +1,4 @@
-// A schedule's lines, one after the other.
+// Plays the lines of a schedule in order.
 ghost use Rattle.std.specs.Prelude.{◌≡◌, ℕ, None, Some, OnOk};
 ghost use Rattle.st_law.specs.Schedules.{BadLine, Choices, line_played, lines_played, repeated};
 ghost use Rattle.st_kernel.specs.Kernel.{standing, trace_of, Continues};
@@ -13,7 +13,7 @@ use thiserror::Error;
 /// Why a schedule wasn't played to its end.
 #[derive(Clone, Copy, Debug, PartialEq, Eq, Drop, Error)]
 pub enum PlayFault {
-    /// The line, counted from 1, isn't in the grammar, or its choice isn't enabled at its turn.
+    /// This line, counted from 1, isn't in the grammar, or asks for a choice that isn't enabled when it is played.
     #[error("line {0} can't be played")]
     BadLine(u32),
     #[error("out of memory")]
@@ -21,7 +21,7 @@ pub enum PlayFault {
 }
 
 impl PlayFault {
-    // What becomes of a schedule where a line of it isn't played.
+    // The fault of a schedule whose line isn't played because of this fault of a step.
     fn at_line(line: u32, fault: StepFault) -> PlayFault
         ensures enabled { fault ≡ StepFault.NotEnabled → result ≡ PlayFault.BadLine line }
         ensures memory { fault ≡ StepFault.NoMemory → result ≡ PlayFault.NoMemory }
@@ -34,7 +34,7 @@ impl PlayFault {
 }
 
 impl Kernel<'_> {
-    // Makes a choice so many times, and has each entry taken down.
+    // Makes a choice `count` times, and gives each entry to the recorder.
     fn repeat<R: Recorder>(
         &mut self,
         alloc: Global,
@@ -57,7 +57,7 @@ impl Kernel<'_> {
         Ok(())
     }
 
-    // Plays what one line asks for.
+    // Plays one line of a schedule.
     fn play_line<R: Recorder>(
         &mut self,
         alloc: Global,
@@ -76,8 +76,8 @@ impl Kernel<'_> {
         }
     }
 
-    /// Plays a schedule from here on, and has each entry taken down. It ends at the first line that isn't in the grammar or asks for a choice
-    /// that isn't enabled at its turn, or without memory; the choices made until then stand.
+    /// Plays a schedule from the current state on, and gives each entry to the recorder. It ends at the first line that isn't in the
+    /// grammar or asks for a choice that isn't enabled when it is played, or when memory runs out. The choices made until then remain.
     pub fn play<R: Recorder>(
         &mut self,
         alloc: Global,

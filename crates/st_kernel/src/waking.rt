@@ -13,17 +13,17 @@ use st_lookaside::Head;
 use st_next::View;
 use st_trace::{Change, Entry};
 
-/// Which threads may move behind an entry and couldn't before.
+/// Which threads may be able to move after an entry, and couldn't before.
 #[derive(Clone, Copy, Debug, PartialEq, Eq)]
 pub enum Woken {
     Nobody,
     One(Tid),
-    /// Those that hold calls of the policy and the rule of this number's.
+    /// The threads that hold calls of the same policy and rule as the message of this number.
     Alike(Seq),
     Everybody,
 }
 
-// Whether a change may let any thread move: a process ends, runs another binary, or has a child.
+// Whether a change may allow any thread to move: a process ends, runs another binary, or has a child.
 fn wakes_all(change: &Change) -> bool
     ensures { result ≡ wakes_all change.now }
 {
@@ -33,14 +33,14 @@ fn wakes_all(change: &Change) -> bool
     )
 }
 
-// Whether one of these changes may.
+// Whether one of these changes may allow any thread to move.
 fn wakes_some(changes: &[Change]) -> bool
     ensures { result ≡ list_any wakes_all changes.now }
 {
     changes.iter().any(|change| wakes_all(change))
 }
 
-// The thread that holds the call of a number, or all of them where it isn't known.
+// The thread that holds the call of a number, or all threads if the holder isn't known.
 fn holder(machine: &View<'_, '_>, seq: Seq) -> Woken
     ensures whom { result ≡ holder_woken (thread_at machine.now.workers.calls seq) }
     ensures law { (st : State) → IsMachine machine.now st → (t : ℕ) → is_message_by st t seq ≡ true → is_woken machine.now result t ≡ true }
@@ -51,7 +51,7 @@ fn holder(machine: &View<'_, '_>, seq: Seq) -> Woken
     }
 }
 
-/// Which threads an entry may wake, by the machine behind it.
+/// Which threads an entry may wake, according to the machine after it.
 pub fn woken_by(machine: &View<'_, '_>, entry: &Entry) -> Woken
     ensures whom { result ≡ woken_by machine.now.workers.calls entry.now }
     ensures law { (st : State) → IsMachine machine.now st → (t : ℕ) → wakes st entry.now t ≡ true → is_woken machine.now result t ≡ true }
@@ -81,7 +81,7 @@ pub fn woken_by(machine: &View<'_, '_>, entry: &Entry) -> Woken
     }
 }
 
-// Marks a thread as awake, if there is one of this number.
+// Marks the thread of this number as awake, if it exists.
 fn mark_awake(tid: Tid, asleep: &mut [bool])
     ensures count { length asleep.new ≡ length asleep.old }
     ensures before { (place : ℕ) → is_asleep asleep.new place ≡ true → is_asleep asleep.old place ≡ true }
@@ -93,7 +93,7 @@ fn mark_awake(tid: Tid, asleep: &mut [bool])
     }
 }
 
-// The first thread before this one that holds a call of the policy and the rule of a message, else this one.
+// The first thread before `first` that holds a call of the same policy and rule as a message; otherwise `first`.
 fn first_alike(machine: &View<'_, '_>, message: &Head, first: Tid) -> Tid
     requires { 1 ≤ first }
     ensures from { 1 ≤ result }
@@ -109,7 +109,7 @@ fn first_alike(machine: &View<'_, '_>, message: &Head, first: Tid) -> Tid
     first
 }
 
-// Marks the threads that hold calls of the policy and the rule of a message as awake, none of which comes before this one.
+// Marks the threads that hold calls of the same policy and rule as a message as awake. None of them is before `from`.
 fn wake_alike(machine: &View<'_, '_>, message: &Head, from: Tid, asleep: &mut [bool])
     requires from { 1 ≤ from }
     requires before { (t : ℕ) → 1 ≤ t → t < from → is_alike message.now (message_held machine.now t) ≡ false }
@@ -126,7 +126,7 @@ fn wake_alike(machine: &View<'_, '_>, message: &Head, from: Tid, asleep: &mut [b
 }
 
 impl Woken {
-    /// Where a cursor stands that stood here: not behind a thread that was woken, and no farther back than it has to.
+    /// The new cursor after threads were woken, if it was at `first`: the first woken thread before `first`, or `first` if there is none.
     pub fn cursor(self, machine: &View<'_, '_>, first: Tid) -> Tid
         requires { 1 ≤ first }
         ensures from { 1 ≤ result }
@@ -146,7 +146,7 @@ impl Woken {
         }
     }
 
-    /// Marks the threads that were woken as awake, none of which comes before this one; thread t stands at t - 1.
+    /// Marks the woken threads as awake. None of them is before `from`. Thread t is at index t - 1.
     pub fn wake(self, machine: &View<'_, '_>, from: Tid, asleep: &mut [bool])
         requires from { 1 ≤ from }
         requires before { (t : ℕ) → 1 ≤ t → t < from → is_woken machine.now self t ≡ false }

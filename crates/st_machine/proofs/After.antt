@@ -1,4 +1,4 @@
--- What runs is the law's machine behind one more entry, by what each part is behind it.
+-- The machine that runs represents the state after one more entry if each of its parts does.
 use Rattle.std.proofs.Common.{◌≡◌, ◌≢◌, ◌-◌, ◌∙◌, ℕ, Bool, cond, set, List, length, Option, Some, None, inl, inr, ap, sym, subst}
 use Rattle.std.proofs.lemmas.Bool.{cases_eq, eq-eqb, ne_eqb}
 use Rattle.st_base.specs.Numbered.{item_at_number}
@@ -15,11 +15,11 @@ use Rattle.st_threads.specs.Thread.{ThreadRow, IsRow, IsRowOf}
 use Rattle.st_operator.proofs.Replies.{added_stands}
 use Rattle.st_next.proofs.Reached.{reached_more}
 
--- the rows are those of these threads
+-- the rows represent these threads
 abbrev pub AreRows : List ThreadRow → (ℕ → ThreadState) → Type 0
 AreRows rows threads = (t : ℕ) → IsRowOf (item_at_number rows t) (threads t)
 
--- what a row says of one thread it says of another that has come as far
+-- two threads have come equally far: a row that represents the one represents the other
 pub record HasComeAsFar (a b : ThreadState) : Type 0 where
   pub left : b.left ≡ a.left
   pub pending : b.pending ≡ a.pending
@@ -34,7 +34,7 @@ pub row_of_same : (o : Option ThreadRow) (a b : ThreadState) → HasComeAsFar a 
 row_of_same None a b far is = tt
 row_of_same (Some row) a b far is = row_same row a b far is
 
--- the rows stand where each thread has come as far as before
+-- the rows represent the new threads if each thread has come as far as before
 pub rows_stand : (rows : List ThreadRow) (old new : ℕ → ThreadState) → ((t : ℕ) → HasComeAsFar (old t) (new t)) → AreRows rows old → AreRows rows new
 rows_stand rows old new far are t = row_of_same (item_at_number rows t) (old t) (new t) (far t) (are t)
 
@@ -49,9 +49,9 @@ rows_changed rows old new u before row there far is are t =
       | inr ne ↦ subst (λ (o : Option ThreadRow). IsRowOf o (new t)) (sym (at ∙ ap (λ (b : Bool). cond b (Some row) (item_at_number rows t)) (ne_eqb t u ne))) (row_of_same (item_at_number rows t) (old t) (new t) (far t ne) (are t))
     ]
 
--- ---- what runs
+-- ---- the machine that runs
 
--- what runs, with other parts
+-- the machine that runs, with other parts
 abbrev pub with_parts : Running → Parts → UnderWay → List ThreadRow → Running
 with_parts m system workers threads = record { input = m.input; system = system; workers = workers; threads = threads; answers = m.answers; operator = m.operator }
 

@@ -1,4 +1,4 @@
--- What the operator's answer leads on to.
+-- The machine after the operator's answer.
 use Rattle.std.proofs.Common.{◌≡◌, ◌∙◌, ℕ, Option, Some, None, refl, subst}
 use Rattle.std.proofs.lemmas.Option.{same_Some}
 use Rattle.st_calls.specs.declared.judged.Snapshot.{Snapshot}
@@ -17,7 +17,7 @@ use Rattle.st_next.proofs.Reached.{reached_more}
 use Rattle.st_machine.proofs.Served.{same_system}
 use Rattle.st_next.proofs.Asked.{entry_here}
 
--- an entry of the operator
+-- an entry is the operator's
 abbrev IsOperators : Entry → Type 0
 IsOperators (Learned q n) = Unit {0}
 IsOperators (Replied q reply n) = Unit {0}
@@ -31,7 +31,7 @@ operators i st q s e AskText is = by (next_reply i st s.policy s.rule) is where
   by None x = cc
   by (Some reply) x = subst IsOperators (same_Some _ e x) tt
 
--- what runs, with what the operator has added
+-- the machine that runs, with what the operator has added
 abbrev pub with_operator : Running → Added → Running
 with_operator m operator = record { input = m.input; system = m.system; workers = m.workers; threads = m.threads; answers = m.answers; operator = operator }
 

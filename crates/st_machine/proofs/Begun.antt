@@ -1,4 +1,4 @@
--- What runs first is the law's machine in its first state.
+-- The machine that a run starts with represents the first state of the law's machine.
 use Rattle.std.proofs.Common.{◌≡◌, ◌∙◌, ℕ, zero, suc, List, length, map, Option, Some, None, refl, ap, sym, subst}
 use Rattle.std.proofs.lemmas.List.{length-map}
 use Rattle.std.proofs.lemmas.Option.{none-some, slice_get-map}

@@ -1,4 +1,4 @@
--- What a call needs to be made is there.
+-- A call that is made next fulfils its precondition.
 use native.Mathlib.Omega.{arith}
 use Rattle.std.proofs.Common.{◌≡◌, ◌≤◌, ◌∙◌, ◌==◌, suc, ℕ, ◌+◌, not, Bool, true, Option, Some, None, refl, ap, sym, subst}
 use Rattle.std.specs.Prelude.{is_some}
@@ -34,7 +34,7 @@ use Rattle.st_machine.proofs.MadeSteps.{now, used}
 use Rattle.st_machine.proofs.Moving.{row_making}
 use Rattle.st_next.proofs.NextSteps.{owner_is, row_of}
 
--- whether a thread hasn't started is said alike
+-- the system and the state agree on whether a thread has started
 unstarted : (o : Option ℕ) (owner : ℕ) (started : Bool) → started ≡ is_some o → started ≡ not (owner == 0) → owner ≡ 0 → o ≡ None
 unstarted None owner started here law none = refl
 unstarted (Some pid) owner started here law none = let clash : not (owner == 0) ≡ true = sym law ∙ here in let zero = ap (λ (n : ℕ). not (n == 0)) none in cc
@@ -43,7 +43,7 @@ module _ (m : Running) (st : State) (is : IsMachine m st) (t pid : ℕ) (made : 
   in_run : (P : State → Type 0) → P (state_of_run m.input is.reached.choices) → P st
   in_run P x = subst P (sym is.reached.state_is) x
 
-  -- the call that its thread has pending
+  -- the call is its thread's pending call
   pending_is : (seq : Option ℕ) (outcome : effects.Outcome) → IsUsed m.input st t seq made.call made.regs made.args made.ids outcome.result outcome.changes
       → (way : Way) × (child : ℕ) × ((st.threads t).pending ≡ Some (record { call = made.call; regs = made.regs; way = way; child = child }))
   pending_is None outcome x = (x.way, x.entered.0, x.entered.1)
@@ -72,7 +72,7 @@ module _ (m : Running) (st : State) (is : IsMachine m st) (t pid : ℕ) (made : 
       let child : child_of_row (item_at_number m.threads t) ≡ entered.1 = ap child_of_row row_is ∙ ap child_of_pending (sym (row_of m st is t row row_is).pending ∙ entered.2) in
       ap (λ (n : ℕ). (st.threads n).owner) child ∙ none
 
-  -- a call that sets ids is made under its process's own
+  -- a call that sets ids is made under its process's own ids
   own_ids : schedules.sets_ids made.call ≡ true → made.ids ≡ (process_at m.system.processes pid).ids
   own_ids sets =
       let setting : SetsOwnIds m.input st = in_run (SetsOwnIds m.input) (sets_own_ids m.input is.reached.startable is.ungranted is.replies is.reached.choices) in
@@ -80,7 +80,7 @@ module _ (m : Running) (st : State) (is : IsMachine m st) (t pid : ℕ) (made : 
       setting.own t made.seq made.call made.regs made.args made.ids outcome.result outcome.changes (used m st is t pid made next process row row_is) sets
       ∙ ap (λ (p : ℕ). (st.processes p).ids) (owner_is m st is t pid process) ∙ ap (λ (p : Process). p.ids) (is.system.processes pid)
 
-  -- what each call needs
+  -- each call fulfils its precondition
   can_make : IsFit m.system made → ((st.threads (child_of_row (item_at_number m.threads t))).owner ≡ 0 → pid_of m.system.processes (child_of_row (item_at_number m.threads t)) ≡ None)
       → CanMake made.call m.system (request_with m t pid made)
   can_make fit new = by made.call refl fit.fit where
@@ -101,7 +101,7 @@ module _ (m : Running) (st : State) (is : IsMachine m st) (t pid : ℕ) (made : 
     by SetEgid e x = own_ids (ap schedules.sets_ids e)
     by _ e x = x
 
--- the same by what is seen of the machine, where it is known whether the thread that it starts has started
+-- the same by a view of the machine, where it is known whether the thread that the call starts has started
 pub can_use : (m seen : Running) → m ≡ seen → IsRunning m → (t pid : ℕ) (made : Use) → IsNext seen t (steps.Make made) → IsFit seen.system made → pid_of seen.system.processes t ≡ Some pid
     → (child : ℕ) → child ≡ child_of_row (item_at_number seen.threads t) → (started : Bool) → started ≡ is_some (pid_of m.system.processes child)
     → ((i : Input) (st : State) → IsSystem i st m.system → started ≡ not ((st.threads child).owner == 0)) → CanMake made.call seen.system (request_with seen t pid made)

@@ -1,4 +1,4 @@
--- Choices that are never enabled: workers that aren't there.
+-- Choices that are never enabled: workers that don't exist.
 use native.Mathlib.Omega.{arith}
 use Rattle.std.proofs.Common.{◌≡◌, ◌<◌, ◌∙◌, ◌&&◌, ℕ, Bool, true, false, cond, None, inl, inr, refl, ap}
 use Rattle.std.proofs.lemmas.Bool.Decides.{leb_tells}
@@ -16,7 +16,7 @@ module _ (m : Running) (st : State) (is : IsMachine m st) where
   and_no true = refl
   and_no false = refl
 
-  -- there is no worker below the first, nor above the last
+  -- no worker has a number below the first, or above the last
   pub none_below : (w : ℕ) → w < 1 → entry_of m.input st (choice.Worker w) ≡ None
   none_below w low = absent w (elim (leb_tells 1 w) [
     | inl x ↦ let high = x.1 in absurd (omega (arith, low, high))

@@ -1,4 +1,4 @@
--- Calls that are entered, put together from what each part makes of their entries.
+-- The step that enters a call, composed of how each part changes by its entry.
 use Rattle.std.proofs.Common.{◌≡◌, ◌≢◌, ◌-◌, ◌∙◌, ℕ, suc, ◌==◌, Bool, true, false, cond, drop, set, List, Some, refl, ap, sym, subst, true≢false}
 use Rattle.std.proofs.lemmas.Bool.{eq-eqb, ne_eqb}
 use Rattle.std.proofs.lemmas.List.{length-set}
@@ -35,7 +35,7 @@ use Rattle.st_threads.proofs.Rows.{either_none, holds}
 use Rattle.st_machine.proofs.Served.{same_system}
 
 module _ (m : Running) (t : ℕ) (call : SysCall) (regs : List ℕ) (next : IsNext m t (steps.Enter call regs)) (way : Way) (goes : IsWayOf m t call regs way) (st : State) (is : IsMachine m st) where
-  -- the entry is the machine's
+  -- the entry is that of the law's machine
   pub entered_entry_is : entry_of m.input st (choice.Thread t) ≡ Some (Entered t call regs way)
   entered_entry_is = next st is ∙ ap (λ (w : Way). Some (Entered t call regs w)) (goes st is)
 
@@ -99,7 +99,7 @@ module _ (m : Running) (t : ℕ) (call : SysCall) (regs : List ℕ) (next : IsNe
       )
   unheld_step (Held q) goes unposted st is = absurd unposted
 
-  -- a thread that enters a call has no number
+  -- no live number is of a thread that enters a call
   pub no_number : (way : Way) → IsWayOf m t call regs way → (st : State) → IsMachine m st → HasNoNumber m.workers.calls t
   no_number way goes st is =
       let law = entered_law m t call regs next way goes st is in

@@ -1,4 +1,4 @@
--- Calls that are made, and what the law's machine makes of threads and numbers behind them.
+-- Calls that are made, and how their changes alter the threads and the live numbers of the law's machine.
 use Rattle.std.proofs.Common.{◌≡◌, ◌≢◌, ◌∙◌, ℕ, ◌&&◌, ◌||◌, ◌==◌, not, Bool, true, false, cond, List, [], ◌∷◌, Option, Some, None, refl, ap, sym}
 use Rattle.std.proofs.lemmas.Bool.{ne_eqb}
 use Rattle.std.specs.Option.{option_map, unwrap_or}
@@ -51,7 +51,7 @@ pub mute_when_calm : (changes : List Change) → Each IsCalm changes → AreMute
 mute_when_calm [] x = tt
 mute_when_calm (c ∷ changes) x = (mute_of c (no_renewal c x.0), mute_when_calm changes x.1)
 
--- ---- which threads they end
+-- ---- which threads these changes end
 
 or_none : (b : Bool) → b ≡ (b || false)
 or_none true = refl
@@ -70,11 +70,11 @@ module _ (processes : Processes) (t m : ℕ) where
   ended changes u = is_ended_by processes t m changes u
 
   module _ (u p : ℕ) (own : owner_of processes u ≡ p) (there : u ≢ 0) where
-    -- an end of a process
+    -- a process ends
     killed : (pid : ℕ) → (pid == p) ≡ ends_with processes pid 0 u
     killed pid = and_so (pid == p) ∙ (λ k. eqb-sym pid (sym own k) k && not (sym (ne_eqb u 0 there) k))
 
-    -- another binary
+    -- another binary is run
     replaced : (m == p && not (t == u)) ≡ ends_with processes m t u
     replaced = λ k. eqb-sym m (sym own k) k && not (eqb-sym t u k)
 
@@ -87,14 +87,14 @@ module _ (processes : Processes) (t m : ℕ) where
         dying_when_calm changes calm.1 (before || (m == p && not (t == u))) ∙ or_more before (m == p && not (t == u)) (ended changes u) ∙ ap (λ (b : Bool). before || (b || ended changes u)) replaced
     dying_when_calm (_ ∷ changes) calm before = dying_when_calm changes calm.1 before
 
-  -- ---- which numbers live behind them
+  -- ---- which numbers are live after these changes
 
   module _ (st : State) (other : ℕ) (own : (head : Head) → (st.messages other).head ≡ Some head → owner_of processes head.tid ≡ (st.threads head.tid).owner) where
     dead_stays : (b : Bool) → cond b false false ≡ false
     dead_stays true = refl
     dead_stays false = refl
 
-    -- one that is dead stays so
+    -- a number that isn't live stays so
     dead_when_calm : (changes : List Change) → Each IsCalm changes → (alive : ℕ → Bool) → alive other ≡ false → life_after_changes st m alive changes other ≡ false
     dead_when_calm [] calm alive e = e
     dead_when_calm (Renewed old new ∷ changes) calm alive e = absurd calm.0
@@ -103,12 +103,12 @@ module _ (processes : Processes) (t m : ℕ) where
     dead_when_calm (Execed binary space ∷ changes) calm alive e = dead_when_calm changes calm.1 (life_after_change st m alive (Execed binary space)) (ap (λ (b : Bool). cond (is_head_of st m (st.messages other).head) false b) e ∙ dead_stays (is_head_of st m (st.messages other).head))
     dead_when_calm (_ ∷ changes) calm alive e = dead_when_calm changes calm.1 alive e
 
-    -- one that lives goes on, unless its thread ends
+    -- a live number stays live, unless its thread ends
     module _ (head : Head) (posted : (st.messages other).head ≡ Some head) (there : head.tid ≢ 0) (another : head.tid ≢ t) where
       abbrev u : ℕ
       u = head.tid
 
-      -- behind a change that ends its thread or doesn't, by what the changes behind that do
+      -- after a change that ends its thread or doesn't, by what the later changes do
       behind : (changes : List Change) → Each IsCalm changes → ((alive : ℕ → Bool) → alive other ≡ true → life_after_changes st m alive changes other ≡ not (ended changes u)) → (then : ℕ → Bool) (b d : Bool) → then other ≡ cond b false true → b ≡ d
           → life_after_changes st m then changes other ≡ not (d || ended changes u)
       behind changes calm on then true d is same = dead_when_calm changes calm then is ∙ ap (λ (b : Bool). not (b || ended changes u)) same
@@ -127,7 +127,7 @@ module _ (processes : Processes) (t m : ℕ) where
           (and_so (m == (st.threads u).owner) ∙ ap (λ (b : Bool). m == (st.threads u).owner && not b) (sym (ne_eqb t u (λ e. another (sym e)))) ∙ replaced u (st.threads u).owner (own head posted) there)
       goes_on (_ ∷ changes) calm alive e = goes_on changes calm.1 alive e
 
-  -- the numbers that live are those of threads that go on
+  -- the numbers that are still live are those of threads that go on
   pub life_when_calm : (st : State) (changes : List Change) → Each IsCalm changes → (alive : ℕ → Bool) (other : ℕ) → (alive other ≡ true → (head : Head) × ((st.messages other).head ≡ Some head) × (head.tid ≢ 0) × (head.tid ≢ t))
       → ((head : Head) → (st.messages other).head ≡ Some head → owner_of processes head.tid ≡ (st.threads head.tid).owner)
       → life_after_changes st m alive changes other ≡ life_but (ended changes) st alive other

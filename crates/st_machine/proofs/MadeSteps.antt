@@ -1,4 +1,4 @@
--- The step by which a call is made that sets no ids.
+-- The step that makes a call that sets no ids.
 use Rattle.std.proofs.Common.{◌≡◌, ◌≢◌, ◌-◌, ◌∙◌, ℕ, arith, ◌||◌, ◌==◌, Bool, true, false, cond, set, List, [], ◌∷◌, ◌++◌, Option, Some, None, inl, inr, refl, ap, sym, subst, true≢false}
 use Rattle.std.proofs.lemmas.Bool.{cases_eq, eq-eqb, ne_eqb}
 use Rattle.std.proofs.lemmas.List.{length-set}
@@ -59,7 +59,7 @@ use Rattle.st_next.proofs.NextSteps.{owner_is, row_of}
 use Rattle.st_next.proofs.Reached.{reached_of}
 use Rattle.st_threads.proofs.Rows.{held_number, none_closed, none_dying}
 
--- whether a call sets ids is said alike
+-- both definitions agree on whether a call sets ids
 same_sets : (call : SysCall) → sets_ids call ≡ schedules.sets_ids call
 same_sets SetUid = refl
 same_sets SetEuid = refl
@@ -92,11 +92,11 @@ module _ (m : Running) (st : State) (is : IsMachine m st) (t pid : ℕ) (made : 
   child_is : child_of_row (item_at_number m.threads t) ≡ child_of_pending (st.threads t).pending
   child_is = ap child_of_row row_is ∙ ap child_of_pending (sym its.pending)
 
-  -- its request is that of the law's machine
+  -- the request is that of the law's machine
   pub request_is : request_with m t pid made ≡ request_of i st t made.regs made.args made.ids
   request_is = λ k. record { tid = t; pid = sym (owner_is m st is t pid process) k; ids = made.ids; regs = made.regs; args = made.args; child = child_is k; inherit = i.options.inherit }
 
-  -- the number that it is made under is the one that its thread holds
+  -- the number that the call is made under is that of its thread's held call
   pub seq_of : (seq : Option ℕ) (call : SysCall) (regs : List ℕ) (outcome : effects.Outcome) → IsUsed i st t seq call regs made.args made.ids outcome.result outcome.changes → seq ≡ number_held row
   seq_of None call regs outcome x = none_unheld row.number x.way x.unheld
       ∙ sym (λ k. cond ((sym its.dying ∙ x.running.undying) k) None (number_pending row.number ((sym its.pending ∙ x.entered.1) k)))
@@ -125,7 +125,7 @@ module _ (m : Running) (st : State) (is : IsMachine m st) (t pid : ℕ) (made : 
   pub seq_is : made.seq ≡ number_held row
   seq_is = seq_of m st is t pid made process row row_is made.seq made.call made.regs now used
 
-  -- the messages once its own call has ended
+  -- the rows after the thread's own call has ended
   abbrev closed : List ThreadRow
   closed = set m.threads (t - 1) (record row { pending = None })
 
@@ -138,7 +138,7 @@ module _ (m : Running) (st : State) (is : IsMachine m st) (t pid : ℕ) (made : 
     by None e = tt
     by (Some q) e = ((are_held m st is).lives t row q row_is (sym e)).lives
 
-  -- it lives here, too
+  -- the number of the call is live among the messages, too
   pub seq_there : IfSome made.seq (λ q. calls.is_live m.workers.calls q ≡ true)
   seq_there = by made.seq seq_lives where
     by : (seq : Option ℕ) → IfSome seq (λ q. is_live st q ≡ true) → IfSome seq (λ q. calls.is_live m.workers.calls q ≡ true)
@@ -194,7 +194,7 @@ module _ (m : Running) (st : State) (is : IsMachine m st) (t pid : ℕ) (made : 
     headless other None posted live = cc
     headless other (Some head) posted live = (head, posted)
 
-    -- a thread that holds no number of a row holds none that lives
+    -- a number that a row still holds isn't the caller's
     not_mine : (other : ℕ) (head : Head) → HasNumber (item_at_number closed head.tid) other → head.tid ≢ t
     not_mine other head has same =
         let within = number_within m.threads t row row_is in
@@ -202,7 +202,7 @@ module _ (m : Running) (st : State) (is : IsMachine m st) (t pid : ℕ) (made : 
         ∙ ap (λ (b : Bool). cond b (Some (record row { pending = None })) (item_at_number m.threads t)) (eq-eqb t t refl) in
         none-some other (sym (none_closed row) ∙ subst (λ (o : Option ThreadRow). HasNumber o other) here has)
 
-    -- a number that still lives is another thread's
+    -- a number that is still live is another thread's
     mine : (other : ℕ) → alive other ≡ true → (head : Head) × ((st.messages other).head ≡ Some head) × (head.tid ≢ 0) × (head.tid ≢ t)
     mine other e =
         let found = headless other (st.messages other).head refl (not_dead (is_number other made.seq) (is_live st other) e).1 in
@@ -294,7 +294,7 @@ module _ (m : Running) (st : State) (is : IsMachine m st) (t pid : ℕ) (made : 
               row_behind u (not_none closed u r e) r r_its.left (ap (λ (b : Bool). cond b None (st.threads u).pending) (ne_eqb t u (λ x. ne (sym x))) ∙ r_its.pending) r_its.number r_its.dying r_its.ended (ended u) refl
         ]
 
-    -- ---- what runs
+    -- ---- the machine that runs
 
     pub made_step : (between left : UnderWay) (new : List ThreadRow) → EndsCall made.seq m.workers between → HaveEnded ended closed between new left → IsMachine (with_parts m parts left new) (state_after input st entry)
     made_step between left new closes over =
@@ -312,7 +312,7 @@ module _ (m : Running) (st : State) (is : IsMachine m st) (t pid : ℕ) (made : 
     pub made_entry : entry_of input st (choice.Thread t) ≡ Some entry
     made_entry = entry_is
 
--- a call is made, whatever the state is that the machine is in
+-- a call is made, in each state that the machine represents
 pub making : (m : Running) (t pid : ℕ) (made : Use) → IsNext m t (steps.Make made) → pid_of m.system.processes t ≡ Some pid → (row : ThreadRow) → item_at_number m.threads t ≡ Some row → schedules.sets_ids made.call ≡ false
     → (outcome : Outcome) (parts : Parts) → IsDone made.call (request_with m t pid made) outcome m.system parts → (between left : UnderWay) (new : List ThreadRow) → EndsCall made.seq m.workers between
     → HaveEnded (is_ended_by parts.processes t pid outcome.changes) (set m.threads (t - 1) (record row { pending = None })) between new left

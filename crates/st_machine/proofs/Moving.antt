@@ -1,4 +1,4 @@
--- The steps of threads, put together from what each part makes of an entry.
+-- The steps of threads, composed of how each part changes by an entry.
 use Rattle.std.proofs.Common.{◌≡◌, ◌≢◌, ◌<◌, ◌-◌, ◌∙◌, ◌++◌, zero, suc, ℕ, arith, reverse, ◌==◌, ◌||◌, Bool, true, false, cond, drop, set, List, [], ◌∷◌, length, Option, Some, None, refl, ap, sym, subst}
 use Rattle.std.proofs.lemmas.Bool.{eq-eqb, ne_eqb}
 use Rattle.std.proofs.lemmas.List.{length-set}
@@ -69,7 +69,7 @@ at_length : {X : Type 0} (xs : List X) (x : X) (ys : List X) → slice_get (xs +
 at_length [] x ys = refl
 at_length (y ∷ xs) x ys = at_length xs x ys
 
--- the stores of a body lie in memory
+-- the stores of a body are inside memory
 body_inside : (i : Input) → StoresInMemory i.start → (t : ℕ) → All IsInMemory (body_of i t)
 body_inside i stores t = by t where
   none : All IsInMemory []
@@ -87,7 +87,7 @@ module _ (m : Running) (t place word : ℕ) (next : IsNext m t (steps.Store plac
   stores_law : (st : State) → IsMachine m st → IsStored st t place word
   stores_law st is = lawful_entry m.input st (reached_of m.input st is.reached) (choice.Thread t) (Stored t place word) (next st is)
 
-  -- the place lies in memory
+  -- the place is inside memory
   pub stored_inside : (st : State) → IsMachine m st → place < SPACE_WORDS
   stored_inside st is =
       let h = history m.input (reverse is.reached.choices) in
@@ -112,13 +112,13 @@ module _ (m : Running) (t place word : ℕ) (next : IsNext m t (steps.Store plac
 
 -- ---- a call is over
 
--- the rows once a thread's call was made or denied
+-- the rows after a thread's call was made or denied
 closed_rows : (m : Running) (st : State) → IsMachine m st → (t : ℕ) (row : ThreadRow) → item_at_number m.threads t ≡ Some row → (e : Entry) → ((u : ℕ) → u ≢ t → HasComeAsFar (st.threads u) (thread_after st e u))
     → IsRow (record row { pending = None }) (thread_after st e t) → AreRows (set m.threads (t - 1) (record row { pending = None })) (thread_after st e)
 closed_rows m st is t row row_is e others own = rows_changed m.threads st.threads (thread_after st e) t row (record row { pending = None }) row_is others own is.threads
 
 module _ (m : Running) (t : ℕ) (call : SysCall) (regs : List ℕ) (ids : Ids) (errno : Errno) (next : IsNext m t (steps.Fail call regs ids errno)) where
-  -- a call fails before it is made
+  -- the entry of a call that fails before it is made
   abbrev failed : Entry
   failed = Used t None call regs [] ids (Failed errno) []
 
@@ -153,11 +153,11 @@ barred_step m t errno why next row row_is st is = (
 )
 
 module _ (m : Running) (t q : ℕ) (errno : Errno) (why : Cause) (next : IsNext m t (steps.Deny (Some q) errno why)) where
-  -- the number of a held call that is denied lives
+  -- the number of a held call that is denied is live
   pub denied_lives : (st : State) → IsMachine m st → is_live st q ≡ true
   denied_lives st is = (lawful_entry m.input st (reached_of m.input st is.reached) (choice.Thread t) (Denied t (Some q) errno why) (next st is)).held.live
 
-  -- and ends
+  -- the step that denies a held call, whose number ends
   pub denied_step : (workers : UnderWay) (row : ThreadRow) → item_at_number m.threads t ≡ Some row
       → ((i : Input) (messages : ℕ → Message) (turns : ℕ → Option ℕ) (alive later : ℕ → Bool) (posted : ℕ) → AreKept i messages turns alive posted m.workers → ChangesLife alive q false later → AreKept i messages turns later posted workers)
       → IsStep m (choice.Thread t) (Some (Denied t (Some q) errno why)) (with_parts m m.system workers (set m.threads (t - 1) (record row { pending = None })))
@@ -171,7 +171,7 @@ module _ (m : Running) (t q : ℕ) (errno : Errno) (why : Cause) (next : IsNext 
             (closing_is_not_kept m.input st.messages (state_after m.input st e).messages st.turns later st.posted workers kept (λ p. refl)) (denied_rows m t (Some q) errno why next st is row row_is) (length-set m.threads (t - 1) _),
       )
 
--- ---- where the row of a thread is
+-- ---- the row of a thread exists
 
 started_of : (i : Input) (st : State) (u : ℕ) (e : Entry) → thread_entry i st u ≡ Some e → (st.threads u).owner ≢ 0
 started_of i st u e entry none = none-some e (sym (stopped (eq-eqb (st.threads u).owner 0 none)) ∙ entry) where
@@ -182,10 +182,10 @@ started_of i st u e entry none = none-some e (sym (stopped (eq-eqb (st.threads u
 pub row_here : (m : Running) → IsRunning m → (t : ℕ) (step : Step) (e : Entry) → IsNext m t step → ((i : Input) (st : State) → step_entry i st t step ≡ Some e) → (row : ThreadRow) × (item_at_number m.threads t ≡ Some row)
 row_here m run t step e next is = row_there m run.state run.is t (started_of m.input run.state t e (next run.state run.is ∙ is m.input run.state))
 
--- and so has one that enters a call
+-- a thread that enters a call has a row
 pub row_entering : (m : Running) → IsRunning m → (t : ℕ) (call : SysCall) (regs : List ℕ) → IsNext m t (steps.Enter call regs) → (row : ThreadRow) × (item_at_number m.threads t ≡ Some row)
 row_entering m run t call regs next = row_there m run.state run.is t (started_of m.input run.state t _ (next run.state run.is))
 
--- and one that makes a call
+-- a thread that makes a call has a row
 pub row_making : (m : Running) → IsRunning m → (t : ℕ) (made : Use) → IsNext m t (steps.Make made) → (row : ThreadRow) × (item_at_number m.threads t ≡ Some row)
 row_making m run t made next = row_there m run.state run.is t (started_of m.input run.state t _ (next run.state run.is))

@@ -1,4 +1,4 @@
--- The step by which a call is made that sets ids.
+-- The step that makes a call that sets ids.
 use native.Mathlib.Omega.{arith}
 use Rattle.std.proofs.Common.{◌≡◌, ◌≢◌, ◌≤◌, ◌<◌, ◌+◌, ◌-◌, ◌^◌, ◌∙◌, ℕ, zero, suc, ◌==◌, Bool, true, false, cond, replicate, set, List, [], ◌∷◌, ◌++◌, length, Option, Some, None, refl, ap, sym, subst, true≢false}
 use Rattle.std.proofs.lemmas.Bool.{eq-eqb, ne_eqb}
@@ -73,24 +73,24 @@ module _ (call : SysCall) (sets : schedules.sets_ids call ≡ true) (system : ef
   abbrev done : effects.Outcome
   done = success system 0 (SetIds (ids_after_set call request.ids (slice_index_or request.regs 0 0)) ∷ renewals request.pid request.tid system.next_number system.held)
 
-  -- it is refused, and changes nothing
+  -- a call that is refused changes nothing
   changes_none : IsSome reason → (effect system call request).changes ≡ []
   changes_none refused = ap (λ (o : effects.Outcome). o.changes) (effect_sets call sets system request) ∙ by reason refused where
     by : (o : Option Errno) → IsSome o → (unless_error system (first_error (o ∷ [])) done).changes ≡ []
     by None x = cc
     by (Some errno) x = refl
 
-  -- or it goes well, and the other held calls of the process are renewed
+  -- a call that succeeds sets the ids, and renews the other held calls of the process
   changes_set : reason ≡ None → (effect system call request).changes ≡ SetIds (ids_after_set call request.ids (slice_index_or request.regs 0 0)) ∷ renewals request.pid request.tid system.next_number system.held
   changes_set well = ap (λ (o : effects.Outcome). o.changes) (effect_sets call sets system request) ∙ ap (λ (o : Option Errno). (unless_error system (first_error (o ∷ [])) done).changes) well
 
--- where nothing stands behind some changes or in place of them, there are none
+-- if some changes, with or without more after them, are none, then they are none themselves
 none_before : (b : Bool) (changes more : List Change) → cond b (changes ++ more) changes ≡ [] → changes ≡ []
 none_before true [] more e = refl
 none_before true (c ∷ changes) more e = cc
 none_before false changes more e = e
 
--- ---- the step, by what it changes
+-- ---- the step, by its changes
 
 module _ (m : Running) (st : State) (is : IsMachine m st) (t pid : ℕ) (made : Use) (next : IsNext m t (steps.Make made)) (process : pid_of m.system.processes t ≡ Some pid) (row : ThreadRow) (row_is : item_at_number m.threads t ≡ Some row) where
   abbrev input : Input
@@ -102,7 +102,7 @@ module _ (m : Running) (st : State) (is : IsMachine m st) (t pid : ℕ) (made : 
   abbrev alive : ℕ → Bool
   alive = life_without_number (is_live st) made.seq
 
-  -- the threads, once this one's call is made
+  -- the threads after the caller's call was made
   abbrev closed_threads : ℕ → ThreadState
   closed_threads u = record (st.threads u) { pending = cond (t == u) None (st.threads u).pending }
 
@@ -130,7 +130,7 @@ module _ (m : Running) (st : State) (is : IsMachine m st) (t pid : ℕ) (made : 
     full : with_renewals input st made.call (request_with m t pid made) outcome.result outcome.changes ≡ changes
     full = is_made.changes ∙ ap (λ (r : effects.Request). (effect (system_of input st) made.call r).changes) request ∙ effect_is
 
-    -- where the entry tells none, none was made
+    -- if the entry has no changes, the outcome has none
     pub none_made : changes ≡ [] → outcome.changes ≡ []
     none_made none = none_before (sets_ids made.call) outcome.changes (renewals_of input st (request_with m t pid made) outcome.result) (full ∙ none)
 
@@ -148,7 +148,7 @@ module _ (m : Running) (st : State) (is : IsMachine m st) (t pid : ℕ) (made : 
     lives : is_live (state_after input st entry) ≡ life_after_changes st (st.threads t).owner alive changes
     lives = λ k other. life_is input st (reached_of input st is.reached) t made.seq made.call made.regs made.args made.ids outcome.result changes law other k
 
-  -- ---- it is refused
+  -- ---- the call is refused
 
   module _ (outcome : Outcome) (parts : Parts) (done_is : IsDone made.call (request_with m t pid made) outcome m.system parts) (effect_is : (effect (system_of m.input st) made.call (request_of m.input st t made.regs made.args made.ids)).changes ≡ []) where
     abbrev entry_refused : Entry
@@ -163,7 +163,7 @@ module _ (m : Running) (st : State) (is : IsMachine m st) (t pid : ℕ) (made : 
         (rows_stand closed closed_threads (thread_after st entry_refused) (λ u. record { left = refl; pending = refl; number = refl; dying = refl; ended = refl }) closed_rows)
         (length-set m.threads (t - 1) _)
 
-  -- ---- it goes well
+  -- ---- the call succeeds
 
   module _ (outcome : Outcome) (parts : Parts) (done_is : IsDone made.call (request_with m t pid made) outcome m.system parts) (given : Ids)
       (effect_is : (effect (system_of m.input st) made.call (request_of m.input st t made.regs made.args made.ids)).changes ≡ SetIds given ∷ renewals (st.threads t).owner t (suc st.posted) (held_from st 1 (thread_count m.input))) where
@@ -197,7 +197,7 @@ module _ (m : Running) (st : State) (is : IsMachine m st) (t pid : ℕ) (made : 
       place zero e = absurd (none-some row (ap (item_at_number m.threads) (sym e) ∙ row_is))
       place (suc k) e = set_numbers parts.processes pid t m.threads 1 (t - 1) (record row { pending = None }) (omega (arith, e))
 
-    -- and so is the directory
+    -- the directory of the process is unchanged
     pub cwd_stays : (process_at parts.processes pid).cwd ≡ (process_at m.system.processes pid).cwd
     cwd_stays =
         ap (λ (p : Process). p.cwd) (sym (system_then.processes pid) ∙ renewals_leave (process_after_change st.processes (st.threads t).owner pid) (λ before old fresh. refl) (process_after_change st.processes (st.threads t).owner pid (st.processes pid) (SetIds given)) (suc st.posted) ns)
@@ -206,7 +206,7 @@ module _ (m : Running) (st : State) (is : IsMachine m st) (t pid : ℕ) (made : 
           by true = refl
           by false = refl
 
-    -- ---- whose the numbers are
+    -- ---- which threads hold the numbers
 
     abbrev tid_of : Option Head → ℕ
     tid_of None = 0
@@ -228,7 +228,7 @@ module _ (m : Running) (st : State) (is : IsMachine m st) (t pid : ℕ) (made : 
       live_then : LiveApart alive (numbers_from parts.processes pid t 1 closed)
       live_then = live_apart parts.processes pid t owner alive (suc st.posted) closed 1 tags
 
-      -- they can be renewed
+      -- the numbers can be renewed
       pub can_renew : CanRenew between (numbers_from parts.processes pid t 1 closed)
       can_renew = record { input = input; state = st; alive = alive; kept = kept_between; live = live_then }
 
@@ -236,7 +236,7 @@ module _ (m : Running) (st : State) (is : IsMachine m st) (t pid : ℕ) (made : 
       have_heads [] x = tt
       have_heads (q ∷ numbers) x = (refl, (kept_between.agrees.given q x.0).1, have_heads numbers x.2)
 
-      -- ---- once they are renewed
+      -- ---- after the numbers are renewed
 
       module _ (new : List ThreadRow) (left : UnderWay) (have : HaveRenewed parts.processes pid t closed between new left) where
         abbrev heads : ℕ → Option Head
@@ -291,7 +291,7 @@ module _ (m : Running) (st : State) (is : IsMachine m st) (t pid : ℕ) (made : 
     pub entry_here : entry_of m.input st (choice.Thread t) ≡ Some entry_set
     entry_here = entry_is outcome parts done_is told told_is
 
-    -- the process is there still
+    -- the process still exists
     pub there_stays : IsPid m.system.processes pid → IsPid parts.processes pid
     there_stays there =
         let old : st.next_process ≡ next_pid m.system.processes = is.system.next_process in
@@ -304,9 +304,9 @@ module _ (m : Running) (st : State) (is : IsMachine m st) (t pid : ℕ) (made : 
     pub copies_stay : replicate (length ns) (process_at m.system.processes pid).cwd ≡ replicate (length (numbers_from parts.processes pid t 1 closed)) (process_at parts.processes pid).cwd
     copies_stay = λ k. replicate (length (sym numbers_stay k)) (sym cwd_stays k)
 
--- ---- whatever the state is that the machine is in
+-- ---- in each state that the machine represents
 
--- there are numbers left for all threads
+-- enough numbers are left for all threads
 pub room_for_all : (m : Running) (st : State) → IsMachine m st → m.workers.calls.next + length m.threads < 2 ^ 64
 room_for_all m st is =
     let drawn : st.posted ≤ most_numbers m.input = subst (λ (s : State). s.posted ≤ most_numbers m.input) (sym is.reached.state_is) (few_drawn m.input is.reached.startable is.reached.choices) in
@@ -322,7 +322,7 @@ module _ (m : Running) (t pid : ℕ) (made : Use) (next : IsNext m t (steps.Make
   abbrev shut : List ThreadRow
   shut = set m.threads (t - 1) (record row { pending = None })
 
-  -- a call is made that is to set ids, and is refused
+  -- a call that is to set ids is made, and is refused
   pub refusing : IsSome (set_refused made.call made.ids (slice_index_or made.regs 0 0))
       → IsStep m (choice.Thread t) (Some (Used t made.seq made.call made.regs made.args made.ids outcome.result outcome.changes)) (with_parts m parts between shut)
   refusing refused = λ st is.
@@ -357,7 +357,7 @@ module _ (m : Running) (t pid : ℕ) (made : Use) (next : IsNext m t (steps.Make
         let same = length-set m.threads (t - 1) (record row { pending = None }) in
         omega (arith, room, old, new, same)
 
-    -- a call is made that sets ids, and the other held calls of its process are renewed
+    -- a call that sets ids is made, and the other held calls of its process are renewed
     pub setting : (left : UnderWay) (rows : List ThreadRow) → HaveRenewed parts.processes pid t shut between rows left
         → IsStep m (choice.Thread t) (Some (Used t made.seq made.call made.regs made.args made.ids outcome.result (SetIds given ∷ renewals_from m.workers.calls.next (numbers_from m.system.processes pid t 1 m.threads)))) (with_parts m parts left rows)
     setting left rows have = λ st is.

@@ -9,7 +9,7 @@ use Rattle.st_reached.specs.Reached.{most_numbers}
 use Rattle.st_reached.proofs.NumbersDrawn.{few_drawn}
 use Rattle.st_next.specs.Machine.{IsMachine, Running}
 
--- no more instructions set ids than there are
+-- at most as many instructions set ids as there are instructions
 pub fewer_set : (i : Input) → set_id_count i ≤ instruction_count i
 fewer_set i = sum_by-le-sum_by _ _ i.start.threads (λ row. count_by-le-length is_set_id row.body)
 

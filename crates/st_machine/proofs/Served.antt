@@ -1,4 +1,4 @@
--- Steps of workers, put together from what the messages and the system say.
+-- Steps of workers, composed of the contracts of the messages and of the system.
 use Rattle.std.proofs.Common.{◌↔◌, ◌≡◌, ◌≢◌, ◌<◌, ◌∙◌, zero, suc, ℕ, arith, Bool, false, true, Option, Some, None, refl, ap, subst, sym}
 use Rattle.std.proofs.lemmas.Option.{none-some, same_Some}
 use Rattle.std.specs.Option.{option_map}
@@ -43,11 +43,11 @@ use Rattle.st_machine.proofs.After.{AreRows, behind, with_parts}
 
 -- ---- messages alone
 
--- what runs, with other messages
+-- the machine that runs, with other messages
 abbrev pub with_workers : Running → UnderWay → Running
 with_workers m workers = with_parts m m.system workers m.threads
 
--- what runs stands where its messages do
+-- the machine represents the same state as before if its messages do
 pub stands_so : (m : Running) (new : UnderWay) → Stands m.workers new → machine.Stands m (with_workers m new)
 stands_so m new stands st is = record {
   reached = is.reached;
@@ -74,12 +74,12 @@ space_is st (Some head) pid is = ap (λ (p : ℕ). (st.processes p).space) (same
 word_is : (st : State) (q place pid : ℕ) → IsOfProcess st q pid → word_for st q place ≡ word_of (st.memory (st.processes pid).space) place
 word_is st q place pid is = ap (λ (space : ℕ). word_of (st.memory space) place) (space_is st (st.messages q).head pid is)
 
--- the head of a message that is of a process
+-- a message that is of a process has a head
 head_there : (o : Option Head) (pid : ℕ) → option_map (λ (head : Head). head.pid) o ≡ Some pid → (head : Head) × (o ≡ Some head) × (head.pid ≡ pid)
 head_there None pid is = absurd (none-some pid is)
 head_there (Some head) pid is = (head, refl, same_Some head.pid pid is)
 
--- the copies that a worker is ready with are one
+-- the copies that a worker is ready with, or the given ones
 abbrev copies_of : Snapshot → Option Turn → Snapshot
 copies_of s None = s
 copies_of s (Some Idle) = s
@@ -89,7 +89,7 @@ copies_of s (Some (Ready own)) = own
 pub same_copies : (kept : UnderWay) (w : ℕ) (one two : Snapshot) → turn_at kept w ≡ Some (Ready one) → turn_at kept w ≡ Some (Ready two) → one ≡ two
 same_copies kept w one two first second = ap (copies_of one) (sym first ∙ second)
 
--- an answer is applied exactly where its number is live
+-- an answer is applied iff its number is live
 pub applied_as : (delivered : Delivered) (live : Bool) → ((delivered ≡ Applied) ↔ (live ≡ true)) → is_applied delivered ≡ live
 applied_as Applied live x = sym (x.0 refl)
 applied_as Stale true x = absurd (unlike (x.1 refl)) where
@@ -103,7 +103,7 @@ same_thread : (o : Option StartedThread) (a b : ThreadState) → b.owner ≡ a.o
 same_thread None a b owner ended x = (owner ∙ x.0, ended ∙ x.1)
 same_thread (Some thread) a b owner ended x = (owner ∙ x.0, ended ∙ x.1)
 
--- the system stands behind an entry that leaves its parts
+-- the system represents the state after an entry that leaves its parts unchanged
 pub same_system : (i : Input) (st new : State) (parts : Parts) → new.tree ≡ st.tree → new.descriptors ≡ st.descriptors → new.processes ≡ st.processes → new.next_process ≡ st.next_process → new.memory ≡ st.memory
     → new.next_space ≡ st.next_space → ((t : ℕ) → (new.threads t).owner ≡ (st.threads t).owner) → ((t : ℕ) → (new.threads t).ended ≡ (st.threads t).ended) → IsSystem i st parts → IsSystem i new parts
 same_system i st new parts tree descriptors processes next_process memory next_space owners ends x = record {
@@ -118,7 +118,7 @@ same_system i st new parts tree descriptors processes next_process memory next_s
 }
 
 module _ (m : Running) (st : State) (is : IsMachine m st) (w : ℕ) (new : UnderWay) where
-  -- the messages and the entry of a worker's step
+  -- the messages after a worker's step, and its entry
   abbrev pub IsServedBy : Entry → Type 0
   IsServedBy e = (worker_entry m.input st w ≡ Some e) × IsMachine (with_workers m new) (state_after m.input st e)
 
@@ -161,7 +161,7 @@ module _ (m : Running) (st : State) (is : IsMachine m st) (w : ℕ) (new : Under
         (same_system m.input st (state_after m.input st (entry.Answered v s verdict applied)) m.system refl refl refl refl refl refl (λ t. refl) (λ t. refl) is.system) kept rows refl,
   )
 
--- ---- the steps, by what the messages promise
+-- ---- the steps, by the contracts of the messages
 
 module _ (m : Running) (w : ℕ) (new : UnderWay) where
   abbrev HasEntry : Entry → Type 0
@@ -183,7 +183,7 @@ module _ (m : Running) (w : ℕ) (new : UnderWay) where
       (own.0 ∙ ap (λ (v : ℕ). Some (entry.Copied q part place v)) (word_is st q place pid own.1 ∙ sym (is_word m.input st is.system)))
       (follows m.input st (law.is_live st) is.workers)
 
-  -- a worker that looks at a name, and sees of it what the tree has
+  -- a worker that looks at a name, and sees what the tree has under it
   pub looked : (readied : UnderWay) (q part : ℕ) (name : Components) (seen : SeenText) → seen ≡ look m.system.tree name → Stands m.workers readied
       → ((i : Input) (st : State) → IsKept i st (law.is_live st) m.workers → worker_entry i st w ≡ Some (entry.Looked q part name (look st.tree name)))
       → Follows readied (entry.Looked q part name seen) new → IsStep m (choice.Worker w) (Some (entry.Looked q part name seen)) (with_workers m new)
@@ -206,7 +206,7 @@ module _ (m : Running) (w : ℕ) (new : UnderWay) where
       ∙ ap (λ (x : Verdict). Some (entry.Answered w s x (law.is_live st s.seq))) (sym judged) ∙ ap (λ (b : Bool). Some (entry.Answered w s v b)) (sym applies))
       (subst (λ (b : Bool). IsKeptAfter m.input st (entry.Answered w s v b) (law.is_live st) new) (sym applies) (after m.input st (law.is_live st) is.workers judged))
 
--- the process of a live message is there
+-- the process of a live message exists
 pub process_there : (m : Running) → IsRunning m → (q pid : ℕ) → is_live m.workers.calls q ≡ true
     → ((i : Input) (st : State) → IsKept i st (law.is_live st) m.workers → IsOfProcess st q pid) → IsPid m.system.processes pid
 process_there m run q pid live of_process =
@@ -221,20 +221,20 @@ process_there m run q pid live of_process =
     let next : st.next_process ≡ next_pid m.system.processes = is.system.next_process in
     (omega (arith, owner, some), omega (arith, owner, low, next))
 
--- a result that is an error says what every one says
+-- a proposition that holds also holds on an error
 pub on_err : {A E P : Type 0} (result : Result A E) → P → OnErr result P
 on_err (Ok a) x = tt
 on_err (Err e) x = x
 
--- what is left with the caller is the entry
+-- the entry that is stored for the caller is that of the step
 pub left_as : (old new : Running) (c : Choice) (added : Option Entry) (e : Entry) → added ≡ Some e → IsStep old c (Some e) new → IsStep old c added new
 left_as old new c added e is step = subst (λ (o : Option Entry). IsStep old c o new) (sym is) step
 
--- what stands twice stands
+-- representing the same state as before is transitive
 pub stands_on : (a b d : UnderWay) → Stands a b → Stands b d → Stands a d
 stands_on a b d first second = λ i messages turns alive posted kept. second i messages turns alive posted (first i messages turns alive posted kept)
 
--- ---- what runs, behind a step
+-- ---- the machine that runs, after a step
 
 pub running_step : (m new : Running) (c : Choice) (e : Entry) → IsRunning m → IsStep m c (Some e) new → IsRunning new
 running_step m new c e run step = record { state = state_after m.input run.state e; is = (step run.state run.is).1 }

@@ -1,4 +1,4 @@
--- What a call that is made leaves.
+-- The step that makes a call.
 use Rattle.std.specs.Prelude.{ℕ, Some}
 use Rattle.st_request.specs.declared.outcome.Outcome.{Outcome}
 use Rattle.st_trace.specs.declared.entry.Choice.TheVariants.{Thread}
@@ -6,6 +6,6 @@ use Rattle.st_trace.specs.declared.entry.Entry.TheVariants.{Used}
 use Rattle.st_next.specs.Machine.{IsStep, Running}
 use Rattle.st_next.specs.declared.step.Use.{Use}
 
--- a thread makes its call with this outcome, and what runs has gone on by the entry that this adds
+-- a thread makes its call with this outcome, and the machine that runs goes on by the entry that this adds
 abbrev pub MakesCall : Running → ℕ → Use → Outcome → Running → Type 0
 MakesCall old tid made outcome new = IsStep old (Thread tid) (Some (Used tid made.seq made.call made.regs made.args made.ids outcome.result outcome.changes)) new

@@ -1,9 +1,9 @@
--- What became of an answer.
+-- Whether a worker's answer was applied.
 use Rattle.std.specs.Prelude.{Bool, true, false}
 use Rattle.st_messages.specs.declared.message.Delivered.{Delivered}
 use Rattle.st_messages.specs.declared.message.Delivered.TheVariants.{Applied, Stale}
 
--- whether it was applied
+-- whether an answer was applied, and not stale
 abbrev pub is_applied : Delivered → Bool
 is_applied Applied = true
 is_applied Stale = false

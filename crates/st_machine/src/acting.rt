@@ -1,6 +1,5 @@
-// The steps of threads: each makes of the machine what its entry says, and leaves the entry in the caller's place for it. An entry has many
-// words, so that it is written once and not handed on. It is left once nothing can fail any more, so that the place stays as it was where a
-// step fails.
+// The steps of threads. Each changes the machine as its entry says, and stores the entry in the caller's `added`. An entry has many words,
+// so it is written once and not passed on. It is written when nothing can fail any more, so that `added` is unchanged if a step fails.
 ghost use Rattle.std.specs.Prelude.{◌≡◌, OnOk, OnErr, Some};
 ghost use Rattle.st_next.specs.Machine.{IsNext, IsStep, Stands};
 ghost use Rattle.st_next.specs.NextSteps.{CanBeDone};
@@ -17,7 +16,7 @@ use st_trace::{CallArgs, CallResult, Cause, Entry};
 use std::alloc::{AllocError, Global};
 
 impl<'a> Machine<'a> {
-    // A thread ends, and its process with the last of them.
+    // Ends a thread, and its process if this was its last thread.
     fn end(&mut self, tid: Tid, added: &mut Option<Entry>)
         requires { IsNext self.old tid steps.End }
         ensures step { IsStep self.old (Thread tid) added.new self.new }
@@ -28,7 +27,7 @@ impl<'a> Machine<'a> {
         leave(added, Entry::Ended { tid });
     }
 
-    // A thread stores a word.
+    // Stores a word for a thread.
     fn store(&mut self, tid: Tid, place: u32, word: u64, added: &mut Option<Entry>)
         requires { IsNext self.old tid (steps.Store place word) }
         ensures step { IsStep self.old (Thread tid) added.new self.new }
@@ -39,7 +38,7 @@ impl<'a> Machine<'a> {
         leave(added, Entry::Stored { tid, place, word });
     }
 
-    // A thread's call, which isn't held, fails before it is made.
+    // Lets a thread's call that isn't held fail before it is made.
     fn fail(
         &mut self,
         alloc: Global,
@@ -68,7 +67,7 @@ impl<'a> Machine<'a> {
         );
     }
 
-    // A thread's barred call is denied.
+    // Denies a thread's barred call.
     fn deny_barred(&mut self, tid: Tid, errno: Errno, cause: Cause, added: &mut Option<Entry>)
         requires { IsNext self.old tid (steps.Deny None errno cause) }
         ensures step { IsStep self.old (Thread tid) added.new self.new }
@@ -86,7 +85,7 @@ impl<'a> Machine<'a> {
         );
     }
 
-    // A thread's held call is denied, and its number ends.
+    // Denies a thread's held call, and ends its number.
     fn deny_held(
         &mut self,
         tid: Tid,
@@ -112,7 +111,7 @@ impl<'a> Machine<'a> {
         );
     }
 
-    // A thread's call is denied.
+    // Denies a thread's call.
     fn deny(
         &mut self,
         tid: Tid,
@@ -131,7 +130,7 @@ impl<'a> Machine<'a> {
         }
     }
 
-    // A thread does what comes next; to wait adds no entry. Without memory all is as good as before.
+    // Does a thread's next step. A step that waits adds no entry. If memory runs out, the abstract state is unchanged.
     fn act(
         &mut self,
         alloc: Global,
@@ -180,7 +179,8 @@ impl<'a> Machine<'a> {
         }
     }
 
-    /// A thread moves, and leaves the entry that this adds; none where it has nothing to do. Without memory all is as good as before.
+    /// Moves a thread and stores the entry that this adds in `added`, or none if the thread can't move. If memory runs out, the abstract
+    /// state is unchanged.
     pub fn move_thread(
         &mut self,
         alloc: Global,

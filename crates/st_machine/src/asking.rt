@@ -1,4 +1,4 @@
-// What the operator answers.
+// The operator's step: it answers the least question.
 ghost use Rattle.std.specs.Prelude.{◌≡◌, OnOk, OnErr};
 ghost use Rattle.st_next.specs.Machine.{IsStep, Stands};
 ghost use Rattle.st_trace.specs.declared.entry.Choice.TheVariants.{Operator};
@@ -9,8 +9,8 @@ use st_trace::Entry;
 use std::alloc::{AllocError, Global};
 
 impl<'a> Machine<'a> {
-    /// The operator answers the least question, and leaves the entry that this adds; none where there is no question. Without memory nothing
-    /// changes.
+    /// Lets the operator answer the least question. Stores the entry that this adds in `added`, or none if there is no question. If memory
+    /// runs out, nothing changes.
     pub fn ask(&mut self, alloc: Global, added: &mut Option<Entry>) -> Result<(), AllocError>
         ensures step { OnOk result (IsStep self.old Operator added.new self.new) }
         ensures err { OnErr result (Stands self.old self.new) }

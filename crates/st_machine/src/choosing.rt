@@ -10,7 +10,7 @@ use st_trace::{Choice, Entry};
 use std::alloc::{AllocError, Global};
 
 impl<'a> Machine<'a> {
-    // A worker moves, if there is one of this number.
+    // Moves the worker of this number, if it exists.
     fn serve_if(
         &mut self,
         alloc: Global,
@@ -29,7 +29,8 @@ impl<'a> Machine<'a> {
         self.serve(alloc, worker, added)
     }
 
-    /// Makes a choice, and leaves the entry that this adds; none where it isn't enabled. Without memory all is as good as before.
+    /// Makes a choice and stores the entry that this adds in `added`, or none if the choice isn't enabled. If memory runs out, the abstract
+    /// state is unchanged.
     pub fn choose(
         &mut self,
         alloc: Global,

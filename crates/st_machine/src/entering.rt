@@ -1,4 +1,4 @@
-// Calls are entered: fast, barred, untraced, or held under the next number.
+// Enters calls: fast, barred, untraced, or held under the next number.
 ghost use Rattle.std.specs.Prelude.{◌≡◌, ◌<◌, ◌-◌, ◌^◌, Some, IfOk, OnOk, OnErr};
 ghost use Rattle.st_next.specs.Entering.{IsUnposted, IsWayOf};
 ghost use Rattle.st_next.specs.Machine.{IsNext, IsStep, Stands};
@@ -15,7 +15,7 @@ use st_trace::{Entry, Way};
 use std::alloc::{AllocError, Global};
 
 impl<'a> Machine<'a> {
-    // A thread enters a call that isn't held.
+    // Enters a thread's call that isn't held.
     fn enter_unheld(
         &mut self,
         tid: Tid,
@@ -42,7 +42,8 @@ impl<'a> Machine<'a> {
         );
     }
 
-    // A thread enters a call that is held under the next number, and its message is posted. Without memory all is as good as before.
+    // Enters a thread's call that is held under the next number, and posts its message. If memory runs out, the abstract state is
+    // unchanged.
     fn enter_held(
         &mut self,
         alloc: Global,
@@ -78,7 +79,7 @@ impl<'a> Machine<'a> {
         Ok(())
     }
 
-    // A thread enters its next instruction's call. Without memory all is as good as before.
+    // Enters the call of a thread's next instruction. If memory runs out, the abstract state is unchanged.
     pub(crate) fn enter(
         &mut self,
         alloc: Global,

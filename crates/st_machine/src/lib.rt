@@ -1,4 +1,4 @@
-//! The machine that runs: threads over the modelled system, and workers over the messages of their calls, step by step.
+//! Executes the steps of threads, workers and the operator over the modelled system: each step is that of the law's machine.
 #![tactic(auto)]
 
 mod acting;

@@ -30,7 +30,7 @@ pub struct Machine<'a> {
     pub(crate) input: &'a Input,
     pub(crate) system: System,
     pub(crate) workers: Workers,
-    // Thread t stands at t - 1.
+    // Thread t is at index t - 1.
     pub(crate) threads: Vec<Thread<'a>>,
     pub(crate) answers: FastTable,
     pub(crate) operator: Operator<'a>,
@@ -50,7 +50,7 @@ impl<'a> Model for Machine<'a> {
     ghost invariant = { λ m. IsRunning (record { input = m.input.now; system = m.system; workers = m.workers; threads = m.threads.items; answers = m.answers; operator = m.operator }) };
 }
 
-// A thread for each row, before its first step.
+// The threads of these rows, before their first step.
 fn threads_of<'a>(alloc: Global, rows: &'a [ThreadRow]) -> Result<Vec<Thread<'a>>, AllocError>
     ensures { IfOk result (λ threads. threads.items ≡ map (λ row. first_row row.body) rows.now) }
 {
@@ -83,7 +83,7 @@ fn answers_and_operator<'a>(
     Ok((answers, Operator::new(alloc, input.replies.as_slice())?))
 }
 
-// What a machine begins with beside its system.
+// The parts of a machine beside its system, before the first step.
 #[derive(Drop)]
 struct Parts<'a> {
     workers: Workers,
@@ -131,21 +131,21 @@ impl<'a> Machine<'a> {
         })
     }
 
-    /// What the machine is a run of.
+    /// The input of the run.
     pub fn input(&self) -> &'a Input
         ensures { result.now ≡ self.now.input }
     {
         self.input
     }
 
-    /// The session, as the run has it in each state that the machine is in.
+    /// The session of each abstract state that the machine represents.
     pub fn session(&self) -> &Session
         ensures { (st : State) → IsMachine self.now st → result.now.filters ≡ st.session }
     {
         self.operator.session()
     }
 
-    /// The machine as it stands, to be looked at.
+    /// A view of the machine in its current state.
     pub fn view(&self) -> View<'_, 'a>
         ensures { result ≡ self.now }
     {

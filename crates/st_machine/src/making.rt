@@ -1,4 +1,4 @@
-// Calls are made, and end what their changes end.
+// Makes calls, and ends the threads and held calls that their changes end.
 ghost use Rattle.std.specs.Prelude.{◌≡◌, true, false, Some, IfOk, OnOk, OnErr};
 ghost use Rattle.st_law.specs.Schedules.{sets_ids};
 ghost use Rattle.st_machine.specs.Making.{MakesCall};
@@ -34,7 +34,7 @@ fn sets_ids(call: SysCall) -> bool
 }
 
 impl<'a> Machine<'a> {
-    // A thread's call is made, which sets no ids. Without memory all is as good as before.
+    // Makes a thread's call that sets no ids. If memory runs out, the abstract state is unchanged.
     fn make(&mut self, alloc: Global, tid: Tid, pid: Pid, made: &Use) -> Result<Outcome, AllocError>
         requires next { IsNext self.old tid (steps.Make made.now) }
         requires process { pid_of self.old.system.processes tid ≡ Some pid }
@@ -62,7 +62,7 @@ impl<'a> Machine<'a> {
         Ok(outcome)
     }
 
-    // A thread's call is made, whichever it is. Without memory all is as good as before.
+    // Makes any call of a thread. If memory runs out, the abstract state is unchanged.
     fn make_any(
         &mut self,
         alloc: Global,
@@ -78,7 +78,7 @@ impl<'a> Machine<'a> {
         ensures err { OnErr result (Stands self.old self.new) }
         ensures input { self.new.input ≡ self.old.input }
     {
-        // A thread that has started has a process, and the one that a fork starts has none.
+        // A thread that has started has a process, and the thread that a fork starts has none.
         let _has_started = self.system.has_started(self.view().child_of(tid));
         if sets_ids(made.call) {
             self.make_and_renew(alloc, tid, pid, made)
@@ -87,7 +87,7 @@ impl<'a> Machine<'a> {
         }
     }
 
-    // A thread's call is made, and its entry is left. Without memory all is as good as before.
+    // Makes a thread's call and stores its entry in `added`. If memory runs out, the abstract state is unchanged.
     pub(crate) fn use_call(
         &mut self,
         alloc: Global,

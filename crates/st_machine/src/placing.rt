@@ -1,9 +1,9 @@
-// Where a step's entry is left. To let go of the entry that stood there is a case for each kind of entry, so it is done here alone.
+// Stores the entry of a step. Dropping the entry that was stored before has a case for each kind of entry, so it is done only here.
 ghost use Rattle.std.specs.Prelude.{◌≡◌, None, Some};
 
 use st_trace::Entry;
 
-// The entry that a step adds.
+// Stores the entry that a step adds.
 #[inline(always)]
 pub(crate) fn leave(added: &mut Option<Entry>, entry: Entry)
     ensures { added.new ≡ Some entry }
@@ -11,7 +11,7 @@ pub(crate) fn leave(added: &mut Option<Entry>, entry: Entry)
     *added = Some(entry);
 }
 
-// A step adds none.
+// Stores that a step adds no entry.
 #[inline(always)]
 pub(crate) fn leave_none(added: &mut Option<Entry>)
     ensures { added.new ≡ None }

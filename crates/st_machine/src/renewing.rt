@@ -1,4 +1,4 @@
-// Held calls draw new numbers behind a call that sets ids of their process.
+// Gives held calls new numbers after a call that sets the ids of their process.
 ghost use Rattle.std.specs.Prelude.{◌≡◌, ◌≢◌, ◌<◌, ◌+◌, ◌-◌, ◌^◌, true, [], ◌∷◌, ◌++◌, length, replicate, slice_index_or, Some, None, IsSome, IfSome, IfOk, OnErr};
 ghost use Rattle.st_law.specs.Schedules.{sets_ids};
 ghost use Rattle.st_machine.specs.Making.{MakesCall};
@@ -21,7 +21,8 @@ use st_threads::{end_call, plan_renewals, renew_all};
 use std::alloc::{AllocError, Global};
 
 impl<'a> Machine<'a> {
-    // A thread's call is made that sets these ids. Without memory all is as good as before.
+    // Makes a thread's call that sets these ids, and gives the other held calls of its process new numbers. If memory runs out, the
+    // abstract state is unchanged.
     fn set_ids(
         &mut self,
         alloc: Global,
@@ -69,7 +70,7 @@ impl<'a> Machine<'a> {
         })
     }
 
-    // A thread's call is made that is to set ids, which is refused. Without memory all is as good as before.
+    // Makes a thread's call that is to set ids, and is refused. If memory runs out, the abstract state is unchanged.
     fn set_no_ids(
         &mut self,
         alloc: Global,
@@ -95,8 +96,8 @@ impl<'a> Machine<'a> {
         Ok(outcome)
     }
 
-    // A thread's call is made that sets ids, and each other held call of its process draws a new number, in the order of threads. Without
-    // memory all is as good as before.
+    // Makes a thread's call that sets ids. Unless it is refused, each other held call of its process gets a new number, in the order of
+    // threads. If memory runs out, the abstract state is unchanged.
     pub(crate) fn make_and_renew(
         &mut self,
         alloc: Global,

@@ -1,4 +1,4 @@
-// The steps of workers: each makes of the messages what its entry says, and leaves the entry with the caller.
+// The steps of workers. Each changes the messages as its entry says, and stores the entry in the caller's `added`.
 ghost use Rattle.std.specs.Prelude.{◌≡◌, ◌<◌, ℕ, Some, OnOk, OnErr};
 ghost use Rattle.st_next.specs.Machine.{HasTask, IsStep, Stands};
 ghost use Rattle.st_machine.specs.Serving.{is_applied};
@@ -26,7 +26,8 @@ fn is_applied(delivered: Delivered) -> bool
 }
 
 impl<'a> Machine<'a> {
-    /// A worker moves, and leaves the entry that this adds; none where it has nothing to do. Without memory all is as good as before.
+    /// Moves a worker and stores the entry that this adds in `added`, or none if the worker has nothing to do. If memory runs out, the
+    /// abstract state is unchanged.
     pub fn serve(
         &mut self,
         alloc: Global,
@@ -63,7 +64,7 @@ impl<'a> Machine<'a> {
         }
     }
 
-    // An idle worker claims the least number that waits.
+    // Lets an idle worker claim the least waiting number.
     fn claim(
         &mut self,
         alloc: Global,
@@ -81,7 +82,7 @@ impl<'a> Machine<'a> {
         Ok(())
     }
 
-    // A worker copies the word at a place of the memory of its message's process, which is this.
+    // Lets a worker copy the word at a place of the memory of this process, which is its message's.
     fn copy(
         &mut self,
         alloc: Global,
@@ -112,7 +113,7 @@ impl<'a> Machine<'a> {
         Ok(())
     }
 
-    // A worker looks at the next name of its message.
+    // Lets a worker look at the next name of its message.
     fn look(
         &mut self,
         alloc: Global,
@@ -143,7 +144,7 @@ impl<'a> Machine<'a> {
         Ok(())
     }
 
-    // A worker tells the error of its message.
+    // Lets a worker mark its message as faulted with this error.
     fn fault(&mut self, worker: Worker, seq: Seq, errno: Errno, added: &mut Option<Entry>)
         requires { HasTask self.old worker (tasks.Fault seq errno) }
         ensures step { IsStep self.old (Worker worker) added.new self.new }
@@ -153,7 +154,7 @@ impl<'a> Machine<'a> {
         leave(added, Entry::Faulted { seq, errno });
     }
 
-    // A ready worker answers with what the filters that were read say of its copies.
+    // Lets a ready worker answer with the verdict of the filters that were read on its copies.
     fn answer_of(&mut self, worker: Worker, added: &mut Option<Entry>)
         requires task { HasTask self.old worker tasks.Answer }
         requires worker { IsWorker self.old.workers.calls worker }

@@ -11,12 +11,12 @@ use Rattle.st_kernel.specs.Waking.{is_asleep}
 use Rattle.st_kernel.proofs.Courses.{HasWoken, WakesNoOther, course_on, course_same, spelled_more}
 use Rattle.st_kernel.proofs.kernel.Kernel.choose.Goals as goal
 
--- a result that is an error says what every one says
+-- a proposition that holds also holds on an error
 on_err : {A E P : Type 0} (result : Result A E) → P → OnErr result P
 on_err (Ok a) x = tt
 on_err (Err e) x = x
 
--- a list with room made has the same items
+-- reserving room in a list keeps its items
 kept_in : (m : Running) (kept kept_then : List Repeat) (first : ℕ) (asleep : List Bool) → kept_then ≡ kept → IsCourse m kept first asleep → IsCourse m kept_then first asleep
 kept_in m kept kept_then first asleep same course = subst (λ (l : List Repeat). IsCourse m l first asleep) (sym same) course
 

@@ -23,7 +23,7 @@ returns-then-branch-clause-tried c =
     let chosen : IsChosen before (Thread c.args.tid) true c.choose.new.added c.choose.new.self = subst (λ moved. IsChosen before (Thread c.args.tid) moved c.choose.new.added c.choose.new.self) c.if-branch.true c.in_ok-choose.ensures.chosen in
     subst (λ (course : Course). IsTried course (Thread c.args.tid) true c.choose.new.added c.choose.new.self) c.self.view_is chosen
 
--- one that can't move is marked
+-- a thread that can't move is marked as asleep
 pub invariant_of-self-3 : goal.invariant_of-self-3
 invariant_of-self-3 c =
     let before : Course = record { input = c.self.inside.machine.input; choices = spelled_choices c.self.inside.made.items } in

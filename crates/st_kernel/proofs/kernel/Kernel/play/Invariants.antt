@@ -3,7 +3,7 @@ use Rattle.st_law.specs.Schedules.{lines_played}
 use Rattle.st_kernel.specs.Kernel.{standing, trace_of, Continues}
 use Rattle.st_kernel.proofs.kernel.Kernel.play.Given as goal
 
--- the lines that are left come to what the schedule does
+-- the remaining lines continue the run as the whole schedule does
 abbrev pub invariant-loop-line : goal.invariant-loop-line
 invariant-loop-line g l = record {
   made : Continues l.fn.self l.self;

@@ -3,7 +3,7 @@ use Rattle.st_law.specs.Schedules.{repeated}
 use Rattle.st_kernel.specs.Kernel.{standing, trace_of, Continues}
 use Rattle.st_kernel.proofs.kernel.Kernel.repeat.Given as goal
 
--- what is left to do comes to what was asked for
+-- the remaining repetitions continue the run as all of them do
 abbrev pub invariant-loop : goal.invariant-loop
 invariant-loop g l = record {
   made : Continues l.fn.self l.self;

@@ -28,7 +28,7 @@ word-word-requires-clause-process c =
     subst (λ (m : Running). HasTask m c.args.worker (tasks.Copy c.args.seq c.args.pid c.args.part c.args.place)) (sym c.self.view_is) c.requires.task in
     process_there m c.self.invariant c.args.seq c.args.pid asked.there.0 (λ i st kept. (asked.law i st kept).1)
 
--- without memory
+-- out of memory
 
 abbrev before : goal.After-from_residual → Running
 before c = record { input = c.self.inside.input.now; system = c.self.inside.system; workers = c.self.inside.workers; threads = c.self.inside.threads.items; answers = c.self.inside.answers; operator = c.self.inside.operator }

@@ -40,7 +40,7 @@ post-requires-clause-seq c =
     let goes = subst (λ (k : Running). IsWayOf k c.args.tid c.args.call c.args.regs (Held c.args.seq)) (sym c.self.view_is) c.requires.way in
     c.in_ok-head.ensures.seq_is ∙ next_number m c.args.tid c.args.call c.args.regs next c.args.seq goes c.self.invariant.state c.self.invariant.is
 
--- without memory
+-- out of memory
 
 pub invariant_of-self : goal.invariant_of-self
 invariant_of-self c =
@@ -52,7 +52,7 @@ returns-in_err-post-clause-err c =
     let m : Running = record { input = c.self.inside.input.now; system = c.self.inside.system; workers = c.self.inside.workers; threads = c.self.inside.threads.items; answers = c.self.inside.answers; operator = c.self.inside.operator } in
     on_err c.from_residual-in_err-post.result (subst (λ (k : Running). Stands k (with_workers m c.post.new.self)) c.self.view_is (stands_so m c.post.new.self c.in_err-post.ensures.err))
 
--- once it is posted
+-- after the message is posted
 
 abbrev old : goal.After-leave → Running
 old c = record { input = c.self.inside.input.now; system = c.self.inside.system; workers = c.self.inside.workers; threads = c.self.inside.threads.items; answers = c.self.inside.answers; operator = c.self.inside.operator }

@@ -51,7 +51,7 @@ step c = subst (λ (r : ThreadRow). IsStep (old c) (choice.Thread c.args.tid) (S
 pub invariant_of-self : goal.invariant_of-self
 invariant_of-self c = running_step (old c) (new c c.close.new.self) (choice.Thread c.args.tid) (entry.Used c.args.tid None c.args.call c.args.regs [] c.args.ids (Failed c.args.errno) []) c.self.invariant (step c)
 
--- nothing stands in the lists of arguments and changes
+-- the lists of arguments and changes are empty
 empty : (c : goal.After-leave) → IsStep (old c) (choice.Thread c.args.tid) (Some (entry.Used c.args.tid None c.args.call c.args.regs c.own.result c.args.ids (Failed c.args.errno) c.new-2.result)) (new c c.close.new.self)
 empty c =
     subst (λ (args : List ArgText). IsStep (old c) (choice.Thread c.args.tid) (Some (entry.Used c.args.tid None c.args.call c.args.regs args c.args.ids (Failed c.args.errno) c.new-2.result)) (new c c.close.new.self)) (sym (c.own.ensures ∙ c.new.ensures))

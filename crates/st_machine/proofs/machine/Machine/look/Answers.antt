@@ -26,7 +26,7 @@ invariant_of-self-2 c = running_step (old c) (with_workers (old c) c.look.new.se
 pub returns-clause-step : goal.returns-clause-step
 returns-clause-step c = left_as _ _ (choice.Worker c.args.worker) _ _ c.leave.ensures (subst (λ (m : Running). IsStep m (choice.Worker c.args.worker) (Some (entry.Looked c.args.seq c.args.part c.in_ok-name.name c.in_ok-text.text)) (with_workers (old c) c.look.new.self)) c.self.view_is (step c))
 
--- without memory
+-- out of memory
 
 abbrev at_name : goal.After-from_residual → Running
 at_name c = record { input = c.self.inside.input.now; system = c.self.inside.system; workers = c.self.inside.workers; threads = c.self.inside.threads.items; answers = c.self.inside.answers; operator = c.self.inside.operator }

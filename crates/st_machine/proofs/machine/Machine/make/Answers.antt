@@ -38,7 +38,7 @@ end_by_all-requires-clause-calls c =
     subst (λ (rows : List ThreadRow). HaveCalls rows c.end_call.new.workers) (sym (c.deref_mut.ensures.value ∙ ap (set m.threads (c.args.tid - 1)) put))
     (calls_closed m c.self.invariant.state c.self.invariant.is c.args.tid c.args.pid c.args.made.now next process row.0 row.1 c.end_call.new.workers c.end_call.ensures)
 
--- ---- behind the call
+-- ---- after the call
 
 abbrev old : goal.After-self-2-1 → Running
 old c = record { input = c.self.inside.input.now; system = c.self.inside.system; workers = c.self.inside.workers; threads = c.self.inside.threads.items; answers = c.self.inside.answers; operator = c.self.inside.operator }

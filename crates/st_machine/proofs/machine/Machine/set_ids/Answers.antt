@@ -94,7 +94,7 @@ renew_all-requires-clause-short c = subst IsShort
     c.end_call.new.workers c.end_call.ensures c.args.set c.requires.refused c.requires.set c.self.invariant.state c.self.invariant.is)
     c.in_ok-plan.ensures.short
 
--- ---- behind all
+-- ---- after the other calls are renewed
 
 abbrev old : goal.After-drop-outcome → Running
 old c = record { input = c.self.inside.input.now; system = c.self.inside.system; workers = c.self.inside.workers; threads = c.self.inside.threads.items; answers = c.self.inside.answers; operator = c.self.inside.operator }

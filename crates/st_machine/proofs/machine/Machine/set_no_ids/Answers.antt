@@ -26,7 +26,7 @@ end_call-requires c =
     let row = row_making m c.self.invariant c.args.tid c.args.made.now next in
     seq_there m c.self.invariant.state c.self.invariant.is c.args.tid c.args.pid c.args.made.now next process row.0 row.1
 
--- ---- behind the call
+-- ---- after the call
 
 abbrev old : goal.After-end_call → Running
 old c = record { input = c.self.inside.input.now; system = c.self.inside.system; workers = c.self.inside.workers; threads = c.self.inside.threads.items; answers = c.self.inside.answers; operator = c.self.inside.operator }
