@@ -1,4 +1,4 @@
--- Which message is found under a number, once one has another state, is taken out or is put in.
+-- Which message is found under a number, after one gets another state, is removed or is appended.
 use Rattle.std.proofs.Common.{zero, suc, ◌≡◌, ◌≢◌, ℕ, ◌<◌, ◌≤◌, Bool, true, false, cond, ◌==◌, List, [], ◌∷◌, ◌++◌, length, get_or, set, Option, Some, None, inl, inr, refl, ap, sym, ◌∙◌, subst, arith}
 use Rattle.std.proofs.lemmas.Bool.{cases_eq, eq-eqb, ne_eqb, eqb-true, ltb-false, true≢false}
 use Rattle.std.proofs.lemmas.List.Folds.{find-append, find_at}
@@ -26,7 +26,7 @@ option_or_none (Some m) = refl
 abbrev pub moved : MsgState → Message → Message
 moved state message = record message { state = state }
 
--- the state of the message at a place is changed
+-- the state of the message at an index is changed
 pub set-at : (live : List Message) (seq : ℕ) (state : MsgState) (i : ℕ) (d : Message) → i < length live → has_number seq (get_or live i d) ≡ true → ((k : ℕ) → k < i → has_number seq (get_or live k d) ≡ false)
     → set live i (record (get_or live i d) { state = state }) ≡ with_state_in live seq state
 set-at [] seq state i d inside here before = absurd (omega arith)
@@ -48,24 +48,24 @@ found_moved-by m live seq other state false true is_seq is_other more =
     rw (is_seq, apart, is_other) refl
 found_moved-by m live seq other state false false is_seq is_other more = rw (is_seq, is_other) more
 
--- the message of that number, changed, and each other as it was
+-- the message of that number is changed, and each other is unchanged
 pub found_moved : (live : List Message) (seq other : ℕ) (state : MsgState) → message_in (with_state_in live seq state) other ≡ cond (other == seq) (option_map (moved state) (message_in live seq)) (message_in live other)
 found_moved [] seq other state = sym (cond_none (other == seq))
 found_moved (m ∷ live) seq other state = found_moved-by m live seq other state (m.seq == seq) (m.seq == other) refl refl (found_moved live seq other state)
 
--- ---- where a message stands
+-- ---- the index of a message
 
 nowhere : (n count : ℕ) (b : Bool) → nat_lt n count ≡ b → cond b (Some n) None ≡ None → count ≤ n
 nowhere n count true is none = absurd (none-some n (sym none))
 nowhere n count false is none = ltb-false n count is
 
--- what stands nowhere isn't found
+-- an item without an index isn't found
 pub found_nowhere : (test : Message → Bool) (live : List Message) → position test live ≡ None → find test live ≡ None
 found_nowhere test live none =
     let n = position_or_len test live in
     find_at test live ∙ slice_get_past live n (nowhere n (length live) (nat_lt n (length live)) refl none)
 
--- what is found first stands first
+-- the item that is found is at the first index
 pub found_first : (test : Message → Bool) (live : List Message) (i : ℕ) (d : Message) → position test live ≡ Some i → find test live ≡ Some (get_or live i d)
 found_first test live i d is =
     let first = position-Some test live i d is in
@@ -81,7 +81,7 @@ module _ (live : List Message) (from to i : ℕ) (m : Message) (are : AreBetween
       let less : (get_or live k m).seq < m.seq = subst (λ (x : Message). (get_or live k m).seq < x.seq) (sym m_is) (numbers_go_up live from to i k m are inside below) in
       ne_eqb (get_or live k m).seq m.seq (λ e. omega (arith, e, less))
 
-  -- a message is found where it stands
+  -- a message is found at its index
   pub found_there : message_in live m.seq ≡ Some m
   found_there =
       find_at (has_number m.seq) live
@@ -89,11 +89,11 @@ module _ (live : List Message) (from to i : ℕ) (m : Message) (are : AreBetween
       ∙ slice_get-get_or live i m inside
       ∙ ap Some (sym m_is)
 
-  -- the state of a message is changed where it stands
+  -- the state of a message is changed at its index
   pub set-placed : (state : MsgState) → set live i (moved state m) ≡ with_state_in live m.seq state
   set-placed state = ap (λ (x : Message). set live i (moved state x)) m_is ∙ set-at live m.seq state i m inside here before
 
--- ---- a message is taken out
+-- ---- a message is removed
 
 not_longer : (live : List Message) (seq : ℕ) → length (without_number live seq) ≤ length live
 not_longer [] seq = omega arith
@@ -102,7 +102,7 @@ not_longer (m ∷ live) seq = elim (cases_eq m.seq seq) [
   | inr ne ↦ rw (ne_eqb m.seq seq ne) (omega (arith, not_longer live seq))
 ]
 
--- what is left of messages, once one is taken out
+-- the messages that are left after one is removed
 pub shorter : (live : List Message) (seq : ℕ) (message : Message) → message_in live seq ≡ Some message → length (without_number live seq) < length live
 shorter [] seq message is = absurd (none-some message is)
 shorter (m ∷ live) seq message is = elim (cases_eq m.seq seq) [
@@ -123,19 +123,19 @@ found_without-by m live seq other false true is_seq is_other more =
     rw (is_seq, apart, is_other) refl
 found_without-by m live seq other false false is_seq is_other more = rw (is_seq, is_other) more
 
--- none under that number, and each other as it was
+-- no message is found under that number, and each other is unchanged
 pub found_without : (live : List Message) (seq other : ℕ) → message_in (without_number live seq) other ≡ cond (other == seq) None (message_in live other)
 found_without [] seq other = sym (cond_none (other == seq))
 found_without (m ∷ live) seq other = found_without-by m live seq other (m.seq == seq) (m.seq == other) refl refl (found_without live seq other)
 
--- ---- a message is put in
+-- ---- a message is appended
 
--- each other number as it was
+-- each other number is unchanged
 pub found_other : (live : List Message) (seq tid other : ℕ) → other ≢ seq → message_in (live ++ waiting_message seq tid ∷ []) other ≡ message_in live other
 found_other live seq tid other apart =
     find-append (has_number other) live (waiting_message seq tid ∷ []) ∙ rw (ne_eqb seq other (λ e. apart (sym e))) (option_or_none (message_in live other))
 
--- the message under its number, and each other as it was
+-- the message is found under its number, and each other is unchanged
 pub found_posted : (live : List Message) (seq tid other : ℕ) → message_in live seq ≡ None → message_in (live ++ waiting_message seq tid ∷ []) other ≡ cond (other == seq) (Some (waiting_message seq tid)) (message_in live other)
 found_posted live seq tid other none = elim (cases_eq other seq) [
   | inl e ↦

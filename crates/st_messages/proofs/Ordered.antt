@@ -1,4 +1,4 @@
--- Messages in the order of their numbers: between which numbers they are, and which waits first.
+-- Messages in the order of their numbers: between which numbers they are, and which waiting message is first.
 use Rattle.std.proofs.Common.{zero, suc, get_or, length, ◌≡◌, ◌≢◌, ℕ, ◌<◌, ◌≤◌, Bool, true, false, ◌==◌, List, [], ◌∷◌, ◌++◌, Option, Some, None, inl, inr, refl, ap, sym, ◌∙◌, subst, arith}
 use Rattle.std.proofs.lemmas.Bool.{cases_eq, eq-eqb, ne_eqb, true≢false}
 use Rattle.std.proofs.lemmas.Option.{none-some, same_Some}
@@ -59,23 +59,23 @@ found_below (x ∷ live) from to seq m are is = elim (cases_eq x.seq seq) [
   | inr ne ↦ found_below live (suc x.seq) to seq m are.1 (rw (ne_eqb x.seq seq ne) at is)
 ]
 
--- ---- where a number stands
+-- ---- the index of a number
 
 no_less_at : (live : List Message) (from to i : ℕ) (d : Message) → AreBetween from live to → i < length live → from ≤ (get_or live i d).seq
 no_less_at [] from to i d are inside = absurd (omega (arith, inside))
 no_less_at (m ∷ live) from to zero d are inside = are.0
 no_less_at (m ∷ live) from to (suc i) d are inside = omega (arith, are.0, no_less_at live (suc m.seq) to i d are.1 (omega (arith, inside)))
 
--- what stands before has a smaller number
+-- earlier messages have smaller numbers
 pub numbers_go_up : (live : List Message) (from to i k : ℕ) (d : Message) → AreBetween from live to → i < length live → k < i → (get_or live k d).seq < (get_or live i d).seq
 numbers_go_up [] from to i k d are inside below = absurd (omega (arith, inside))
 numbers_go_up (m ∷ live) from to zero k d are inside below = absurd (omega (arith, below))
 numbers_go_up (m ∷ live) from to (suc i) zero d are inside below = no_less_at live (suc m.seq) to i d are.1 (omega (arith, inside))
 numbers_go_up (m ∷ live) from to (suc i) (suc k) d are inside below = numbers_go_up live (suc m.seq) to i k d are.1 (omega (arith, inside)) (omega (arith, below))
 
--- ---- which waits first
+-- ---- which waiting message is first
 
--- the state of a message that waits
+-- the state of a waiting message
 waits : (state : MsgState) → is_waiting_state state ≡ true → state ≡ Waiting
 waits Waiting is = refl
 waits (Claimed worker) is = absurd cc
@@ -105,7 +105,7 @@ pub none_waits : (live : List Message) (seq : ℕ) → find is_waiting live ≡ 
 none_waits [] seq none is = none-some Waiting is
 none_waits (m ∷ live) seq none is = none_waits-by m live seq (is_waiting m) (m.seq == seq) refl refl none is (none_waits live seq)
 
--- a message that waits, under its number, and no smaller number does
+-- a message is waiting under its number, and no smaller number is
 pub record IsFirst (live : List Message) (first : Message) : Type 0 where
   pub found : message_in live first.seq ≡ Some first
   pub waits : first.state ≡ Waiting
@@ -139,7 +139,7 @@ first_waits-by m live from to first false w_is are is more =
       },
     )
 
--- the first that waits has the least number of those that do
+-- the first waiting message has the least waiting number
 pub first_waits : (live : List Message) (from to : ℕ) (first : Message) → AreBetween from live to → find is_waiting live ≡ Some first → (from ≤ first.seq) × IsFirst live first
 first_waits [] from to first are is = absurd (none-some first is)
 first_waits (m ∷ live) from to first are is = first_waits-by m live from to first (is_waiting m) refl are is (first_waits live (suc m.seq) to first are.1)

@@ -11,7 +11,7 @@ use Rattle.st_messages.specs.Messages.{HeldCalls, is_claimed_state, message_at, 
 use Rattle.st_messages.proofs.Lookups.{found_moved, found_other, found_without, moved}
 use Rattle.st_messages.proofs.Whole.{states_moved, waiting_live}
 
--- nothing is found under a number, which was given
+-- no message is found under a number that was given
 abbrev IsDead : ℕ → HeldCalls → Type 0
 IsDead seq calls = (seq < calls.next) × (message_at calls seq ≡ None)
 

@@ -1,4 +1,4 @@
--- How far each number has come once a call changed one, and that held calls stay as they can be.
+-- How far each number has come after a call changed one, and that the invariants of held calls are preserved.
 use Rattle.std.proofs.Common.{◌≡◌, ◌≢◌, ℕ, Bool, true, false, cond, ◌==◌, Option, Some, None, ◌⊎◌, inl, inr, refl, ap, sym, ◌∙◌, subst, arith}
 use Rattle.std.proofs.lemmas.Bool.{cases_eq, eq-eqb, ne_eqb, true≢false}
 use Rattle.std.proofs.lemmas.Option.{none-some, same_Some}
@@ -54,7 +54,7 @@ module _ (calls : HeldCalls) (seq : ℕ) (state : MsgState) where
     ];
   }
 
--- ---- a message is taken out
+-- ---- a message is removed
 
 module _ (calls : HeldCalls) (seq : ℕ) where
   pub states_cancelled : ChangesState calls seq None (calls_after_cancel calls seq)
@@ -63,7 +63,7 @@ module _ (calls : HeldCalls) (seq : ℕ) where
   pub threads_cancelled : (other : ℕ) → thread_at (calls_after_cancel calls seq) other ≡ cond (other == seq) None (thread_at calls other)
   threads_cancelled other = ap thread_of (found_without calls.live seq other) ∙ under_cond thread_of (other == seq) None (message_at calls other)
 
-  -- what a number has that is still live, it had
+  -- what a number that is still live has, it had before
   cancelled_had : {X : Type 0} (other : ℕ) (x : X) (new old : Option X) → new ≡ cond (other == seq) None old → new ≡ Some x → (other ≢ seq) × (old ≡ Some x)
   cancelled_had other x new old is has = elim (cases_eq other seq) [
     | inl e ↦ absurd (none-some x (sym (is ∙ rw (eq-eqb other seq e) refl) ∙ has))
@@ -77,13 +77,13 @@ module _ (calls : HeldCalls) (seq : ℕ) where
     workers = λ other worker is. whole.workers other worker (cancelled_had other (Claimed worker) _ _ (states_cancelled other) is).1;
   }
 
-  -- its thread has no number left
+  -- the thread has no number left
   pub cancelled_none : (tid : ℕ) → IsWhole calls → thread_at calls seq ≡ Some tid → HasNoNumber (calls_after_cancel calls seq) tid
   cancelled_none tid whole is other other_is =
       let had = cancelled_had other tid _ _ (threads_cancelled other) other_is in
       had.0 (whole.threads other seq tid had.1 is)
 
--- ---- a message is put in
+-- ---- a message is appended
 
 pub next_none : (calls : HeldCalls) → IsWhole calls → message_at calls calls.next ≡ None
 next_none calls whole = none_behind calls.live 1 calls.next calls.next whole.ordered (omega arith)
@@ -95,7 +95,7 @@ module _ (calls : HeldCalls) (tid : ℕ) (whole : IsWhole calls) where
   pub threads_posted : (other : ℕ) → thread_at (calls_after_post calls tid) other ≡ cond (other == calls.next) (Some tid) (thread_at calls other)
   threads_posted other = ap thread_of (found_posted calls.live calls.next tid other (next_none calls whole)) ∙ under_cond thread_of (other == calls.next) (Some (waiting_message calls.next tid)) (message_at calls other)
 
-  -- of whom a number is now
+  -- the thread of a number now
   own : (other owner : ℕ) → thread_at (calls_after_post calls tid) other ≡ Some owner → ((other ≡ calls.next) × (tid ≡ owner)) ⊎ (thread_at calls other ≡ Some owner)
   own other owner is = elim (cases_eq other calls.next) [
     | inl e ↦ inl (e, same_Some tid owner (sym (threads_posted other ∙ rw (eq-eqb other calls.next e) refl) ∙ is))
@@ -123,7 +123,7 @@ module _ (calls : HeldCalls) (tid : ℕ) (whole : IsWhole calls) where
     apart : (worker : ℕ) → Waiting ≡ Claimed worker → ⊥
     apart worker is = cc
 
--- ---- a message is taken out, and its call is put in again
+-- ---- a message is removed, and its call is posted again
 
 module _ (calls : HeldCalls) (seq : ℕ) (whole : IsWhole calls) (message : Message) (is : message_at calls seq ≡ Some message) where
   renewed : calls_after_renew calls seq ≡ calls_after_post (calls_after_cancel calls seq) message.tid

@@ -1,10 +1,10 @@
--- What a run of calls on messages leads to, and what holds of every run.
+-- Runs of calls on messages, and the laws of every run.
 use Rattle.std.specs.Prelude.{◌≡◌, ℕ, ◌<◌, false, None}
 use Rattle.st_messages.specs.declared.message.MsgState.{MsgState}
 use Rattle.st_messages.specs.declared.message.MsgState.TheVariants.{Claimed}
 use Rattle.st_messages.specs.Messages.{HeldCalls, is_claimed, state_at, with_state, calls_after_post, calls_after_cancel, calls_after_renew, IsLeastWaiting}
 
--- held calls, and those that a run of calls on them leads to
+-- a run of calls leads from the first held calls to the second
 pub data LeadsTo : HeldCalls → HeldCalls → Type 0 where
   Stays : {calls : HeldCalls} → LeadsTo calls calls
   Posts : {old calls : HeldCalls} (tid : ℕ) → LeadsTo old calls → LeadsTo old (calls_after_post calls tid)
@@ -16,10 +16,10 @@ pub data LeadsTo : HeldCalls → HeldCalls → Type 0 where
 abbrev pub DeadNumbersStay : Type 0
 DeadNumbersStay = (old new : HeldCalls) (seq : ℕ) → seq < old.next → state_at old seq ≡ None → LeadsTo old new → state_at new seq ≡ None
 
--- an answer to a number that was renewed comes too late
+-- an answer to a number that was renewed is stale
 abbrev pub RenewedAreStale : Type 0
 RenewedAreStale = (calls : HeldCalls) (seq : ℕ) → seq < calls.next → is_claimed (calls_after_renew calls seq) seq ≡ false
 
--- the next claim gives a greater number
+-- the next claim takes a greater number
 abbrev pub ClaimsGoUp : Type 0
 ClaimsGoUp = (calls : HeldCalls) (first second worker : ℕ) → IsLeastWaiting calls first → IsLeastWaiting (with_state calls first (Claimed worker)) second → first < second

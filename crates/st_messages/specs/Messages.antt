@@ -1,4 +1,4 @@
--- Held calls by their numbers: which are live, how far each has come, and what each call on them leaves.
+-- Held calls by their numbers: which are live, how far each has come, and how each call changes them.
 use Rattle.std.specs.Prelude.{◌≡◌, ◌≢◌, ℕ, suc, ◌≤◌, Bool, true, false, ◌==◌, not, if◌then◌else◌, List, [], ◌∷◌, ◌++◌, Option, Some, None, option_map, is_some, find}
 use Rattle.std.specs.List.{filter}
 use Rattle.st_messages.specs.declared.message.MsgState.{MsgState}
@@ -23,7 +23,7 @@ has_number seq message = message.seq == seq
 abbrev pub message_in : List Message → ℕ → Option Message
 message_in live seq = find (has_number seq) live
 
--- the message of a live number, none of another
+-- the message of a live number; none if the number isn't live
 abbrev pub message_at : HeldCalls → ℕ → Option Message
 message_at calls seq = message_in calls.live seq
 
@@ -50,7 +50,7 @@ is_waiting_state (Faulted errno) = false
 abbrev pub is_waiting : Message → Bool
 is_waiting message = is_waiting_state message.state
 
--- the number of the first message that waits
+-- the number of the first waiting message
 abbrev pub first_waiting : HeldCalls → Option ℕ
 first_waiting calls = option_map (λ (message : Message). message.seq) (find is_waiting calls.live)
 
@@ -79,68 +79,68 @@ pub record IsLeastWaiting (calls : HeldCalls) (seq : ℕ) : Type 0 where
 abbrev pub HasNoNumber : HeldCalls → ℕ → Type 0
 HasNoNumber calls tid = (seq : ℕ) → thread_at calls seq ≢ Some tid
 
--- there is a worker of this number
+-- a worker of this number exists
 abbrev pub IsWorker : HeldCalls → ℕ → Type 0
 IsWorker calls worker = (1 ≤ worker) × (worker ≤ calls.workers)
 
--- ---- what calls leave
+-- ---- how calls change them
 
--- the message of this number has another state
+-- messages, with another state for that of this number
 abbrev pub with_state_in : List Message → ℕ → MsgState → List Message
 with_state_in [] seq state = []
 with_state_in (message ∷ live) seq state =
     if has_number seq message then record message { state = state } ∷ live else message ∷ with_state_in live seq state
 
--- a number has another state
+-- held calls, with another state for a number
 abbrev pub with_state : HeldCalls → ℕ → MsgState → HeldCalls
 with_state calls seq state = record calls { live = with_state_in calls.live seq state }
 
--- a message that waits
+-- a waiting message
 abbrev pub waiting_message : ℕ → ℕ → Message
 waiting_message seq tid = record { seq = seq; tid = tid; state = Waiting }
 
--- a call of a thread is held
+-- the held calls after a call of a thread was posted
 abbrev pub calls_after_post : HeldCalls → ℕ → HeldCalls
 calls_after_post calls tid = record calls { next = suc calls.next; live = calls.live ++ waiting_message calls.next tid ∷ [] }
 
--- the messages of all other numbers
+-- messages, without that of this number
 abbrev pub without_number : List Message → ℕ → List Message
 without_number live seq = filter (λ message. not (has_number seq message)) live
 
--- a number is live no more
+-- the held calls after a number has ended
 abbrev pub calls_after_cancel : HeldCalls → ℕ → HeldCalls
 calls_after_cancel calls seq = record calls { live = without_number calls.live seq }
 
--- the message of a number begins again under the next one
+-- the held calls after the message of a number was posted again under the next number
 abbrev pub calls_after_renew_of : HeldCalls → ℕ → Option Message → HeldCalls
 calls_after_renew_of calls seq None = calls
 calls_after_renew_of calls seq (Some message) = calls_after_post (calls_after_cancel calls seq) message.tid
 
--- a number is live no more, and its thread has the next one, which waits
+-- the held calls after a number was renewed: it is no longer live, and its thread has the next number, which is waiting
 abbrev pub calls_after_renew : HeldCalls → ℕ → HeldCalls
 calls_after_renew calls seq = calls_after_renew_of calls seq (message_at calls seq)
 
--- a number has come so far now, and each other is as it was
+-- a number has this state now, and each other number is unchanged
 abbrev pub ChangesState : HeldCalls → ℕ → Option MsgState → HeldCalls → Type 0
 ChangesState old seq state new = (other : ℕ) → state_at new other ≡ (if other == seq then state else state_at old other)
 
--- a number is live no more, this new one waits, and each other is as it was
+-- a number is no longer live, this new number is waiting, and each other number is unchanged
 abbrev pub RenewsState : HeldCalls → ℕ → ℕ → HeldCalls → Type 0
 RenewsState old seq fresh new =
     (other : ℕ) → state_at new other ≡ (if other == fresh then Some Waiting else if other == seq then None else state_at old other)
 
--- ---- what holds of held calls at all times
+-- ---- the invariants of held calls
 
--- the numbers of messages go up, from this one on and below that one
+-- the numbers of messages are ascending, at least `from` and less than `to`
 abbrev pub AreBetween : ℕ → List Message → ℕ → Type 0
 AreBetween from [] to = from ≤ to
 AreBetween from (message ∷ live) to = (from ≤ message.seq) × AreBetween (suc message.seq) live to
 
--- each thread has one live number at most
+-- each thread has at most one live number
 abbrev pub AreOfOwnThreads : HeldCalls → Type 0
 AreOfOwnThreads calls = (a b tid : ℕ) → thread_at calls a ≡ Some tid → thread_at calls b ≡ Some tid → a ≡ b
 
--- held calls as they can be
+-- the invariants of held calls
 pub record IsWhole (calls : HeldCalls) : Type 0 where
   pub ordered : AreBetween 1 calls.live calls.next
   pub threads : AreOfOwnThreads calls

@@ -1,7 +1,7 @@
 ghost use Rattle.st_messages.specs.Laws.{ClaimsGoUp, DeadNumbersStay, RenewedAreStale};
 
-/// A number that isn't live stays so in every run of calls, an answer to a number that was renewed is stale, and claims go
-/// through the numbers that wait from the least up.
+/// A number that isn't live stays so in every run of calls. An answer to a number that was renewed is stale. Waiting numbers are claimed in
+/// ascending order.
 pub fn numbers_are_used_once()
     ensures dead { DeadNumbersStay }
     ensures renewed { RenewedAreStale }

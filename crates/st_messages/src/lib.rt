@@ -1,4 +1,4 @@
-//! The messages of held calls: who waits, who judges, and what becomes of each number.
+//! Keeps the messages of held calls by their numbers: which are waiting, claimed, answered or faulted, and of which threads they are.
 #![tactic(auto)]
 
 pub mod laws;

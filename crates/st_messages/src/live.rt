@@ -5,15 +5,15 @@ ghost use Rattle.st_messages.specs.Messages.{has_number, is_waiting, message_in,
 use crate::message::{Message, MsgState};
 use st_base::Seq;
 
-/// Where the message of this number stands.
+/// The index of the message of this number.
 pub fn place_of(live: &[Message], seq: Seq) -> Option<usize>
     ensures { result ≡ position (has_number seq) live.now }
 {
     live.iter().position(|message| message.seq == seq)
 }
 
-// The message of this number, if it stands as far behind the first as it is greater. Calls mostly end in the order in which they were
-// entered, and then it does.
+// The message of this number, if its index is its number less that of the first message. Calls usually end in the order in which they were
+// entered, and then it is.
 fn guess_of(live: &[Message], seq: Seq) -> Option<Message>
     requires { (to : ℕ) × AreBetween 1 live.now to }
     ensures { IfSome result (λ message. message_in live.now seq ≡ Some message) }
@@ -46,21 +46,21 @@ fn is_waiting(message: &Message) -> bool
     matches!(message.state, MsgState::Waiting)
 }
 
-/// The place of the first message that waits.
+/// The index of the first waiting message.
 pub fn waiting_place(live: &[Message]) -> Option<usize>
     ensures { result ≡ position is_waiting live.now }
 {
     live.iter().position(is_waiting)
 }
 
-/// The first message that waits.
+/// The first waiting message.
 pub fn first_waiting(live: &[Message]) -> Option<Message>
     ensures { result ≡ find is_waiting live.now }
 {
     live.iter().copied().find(|message| is_waiting(message))
 }
 
-/// Takes a live message out and gives it, which leaves room for another.
+/// Removes a live message and returns it, which leaves room for another.
 pub fn take(live: &mut Vec<Message>, seq: Seq) -> Message
     requires there { is_some (message_in live.old.items seq) ≡ true }
     requires ordered { (to : ℕ) × AreBetween 1 live.old.items to }

@@ -8,18 +8,18 @@ pub enum MsgState {
     Waiting,
     /// This worker has claimed it.
     Claimed(Worker),
-    /// It has this answer.
+    /// It was answered with this verdict.
     Answered(Verdict),
-    /// Copying or looking met this error.
+    /// Copying or looking failed with this error.
     Faulted(Errno),
 }
 
-/// What became of an answer.
+/// Whether an answer was applied.
 #[derive(Clone, Copy, Debug, PartialEq, Eq)]
 pub enum Delivered {
-    /// The message has it.
+    /// The message has the answer.
     Applied,
-    /// It came too late, and changed nothing.
+    /// The answer came too late, and changed nothing.
     Stale,
 }
 

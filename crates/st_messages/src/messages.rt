@@ -11,13 +11,13 @@ use st_calls::Verdict;
 use std::alloc::{AllocError, Global};
 use std::marker::Model;
 
-/// The messages of held calls. Each has a number, from 1 in the order of posting, that is used once; the least that waits is
-/// claimed first.
+/// The messages of held calls. Each has a number, from 1 in the order of posting, that is used once. The least waiting number is claimed
+/// first.
 #[derive(Debug, Drop)]
 pub struct Messages {
     workers: u32,
     next: Seq,
-    // In the order of their numbers. A thread has one at most, so they are few however long the run.
+    // In the order of their numbers. A thread has at most one, so there are few, however long the run is.
     live: Vec<Message>,
 }
 
@@ -34,7 +34,7 @@ impl Model for Messages {
 }
 
 impl Messages {
-    /// No messages, for so many workers, which takes no memory.
+    /// No messages, for so many workers. It takes no memory.
     pub fn new(alloc: Global, workers: u32) -> Self
         ensures workers { result.workers ≡ workers }
         ensures next { result.next ≡ 1 }
@@ -54,14 +54,14 @@ impl Messages {
         self.workers
     }
 
-    /// The number that the next posting or renewal gives.
+    /// The number that the next call of `post` or `renew` returns.
     pub fn next_seq(&self) -> Seq
         ensures { result ≡ self.now.next }
     {
         self.next
     }
 
-    /// How far a message has come; none exactly where the number isn't live.
+    /// How far a message has come; none iff the number isn't live.
     pub fn state(&self, seq: Seq) -> Option<MsgState>
         ensures state { result ≡ state_at self.now seq }
         ensures given { IfSome result (λ _. seq < self.now.next) }
@@ -70,14 +70,14 @@ impl Messages {
         Some(live::message_of(&self.live, seq)?.state)
     }
 
-    /// The thread of a live number; none of another.
+    /// The thread of a live number; none if the number isn't live.
     pub fn thread(&self, seq: Seq) -> Option<Tid>
         ensures { result ≡ thread_at self.now seq }
     {
         Some(live::message_of(&self.live, seq)?.tid)
     }
 
-    // Gives the message at a place another state, and its number.
+    // Changes the state of the message at an index, and returns its number.
     fn set_state_at(&mut self, place: usize, state: MsgState) -> Seq
         requires place { place < length self.old.live }
         requires worker { (worker : ℕ) → state ≡ Claimed worker → IsWorker self.old worker }
@@ -90,7 +90,7 @@ impl Messages {
         message.seq
     }
 
-    // Gives a live message another state.
+    // Changes the state of a live message.
     fn set_state(&mut self, seq: Seq, state: MsgState)
         requires live { is_live self.old seq ≡ true }
         requires worker { (worker : ℕ) → state ≡ Claimed worker → IsWorker self.old worker }
@@ -102,7 +102,7 @@ impl Messages {
         }
     }
 
-    /// Posts the held call of a thread that has none, and gives its number. Without memory nothing changes.
+    /// Posts the held call of a thread that has none, and returns its number. If memory runs out, nothing changes.
     pub fn post(&mut self, tid: Tid) -> Result<Seq, AllocError>
         requires thread { HasNoNumber self.old tid }
         requires room { self.old.next < 2 ^ 64 - 1 }
@@ -123,7 +123,7 @@ impl Messages {
         Ok(seq)
     }
 
-    /// Claims the least number that waits for a worker; none exactly where no number waits. It takes no memory.
+    /// Lets a worker claim the least waiting number, and returns it; none iff no number is waiting. It takes no memory.
     pub fn claim(&mut self, worker: Worker) -> Option<Seq>
         requires { IsWorker self.old worker }
         ensures none { IsNone result ↔ ((seq : ℕ) → state_at self.old seq ≢ Some Waiting) }
@@ -137,7 +137,7 @@ impl Messages {
         Some(self.set_state_at(place, MsgState::Claimed(worker)))
     }
 
-    /// The least number that waits, which is claimed next; none exactly where no number waits.
+    /// The least waiting number, which is claimed next; none iff no number is waiting.
     pub fn least_waiting(&self) -> Option<Seq>
         ensures first { result ≡ first_waiting self.now }
         ensures none { IsNone result ↔ ((seq : ℕ) → state_at self.now seq ≢ Some Waiting) }
@@ -147,7 +147,7 @@ impl Messages {
         Some(live::first_waiting(&self.live)?.seq)
     }
 
-    /// Notes the error that copying or looking met for a claimed message. It takes no memory.
+    /// Marks a claimed message as faulted with the error of a copy or a look. It takes no memory.
     pub fn fault(&mut self, seq: Seq, errno: Errno)
         requires { is_claimed self.old seq ≡ true }
         ensures calls { self.new ≡ with_state self.old seq (Faulted errno) }
@@ -156,8 +156,8 @@ impl Messages {
         self.set_state(seq, MsgState::Faulted(errno));
     }
 
-    /// Gives a message its answer. Stale exactly where the number isn't live, claimed, unanswered and not faulted, and then
-    /// nothing changes. It takes no memory.
+    /// Answers a message. The answer is stale, and nothing changes, iff the number isn't live, isn't claimed, or is already answered or
+    /// faulted. It takes no memory.
     pub fn answer(&mut self, seq: Seq, verdict: Verdict) -> Delivered
         ensures applied { (result ≡ Applied) ↔ (is_claimed self.old seq ≡ true) }
         ensures ok { result ≡ Applied → self.new ≡ with_state self.old seq (Answered verdict) }
@@ -171,7 +171,7 @@ impl Messages {
         Delivered::Applied
     }
 
-    /// Ends a live number, and posts its call again under the next one, which it gives. It takes no memory.
+    /// Ends a live number, and posts its call again under the next number, which it returns. It takes no memory.
     pub fn renew(&mut self, seq: Seq) -> Seq
         requires live { is_live self.old seq ≡ true }
         requires room { self.old.next < 2 ^ 64 - 1 }
@@ -192,7 +192,7 @@ impl Messages {
         fresh
     }
 
-    /// Ends a live number, as its call is made or denied, or its thread is dying. It takes no memory.
+    /// Ends a live number, because its call is made or denied, or its thread is dying. It takes no memory.
     pub fn cancel(&mut self, seq: Seq)
         requires { is_live self.old seq ≡ true }
         ensures calls { self.new ≡ calls_after_cancel self.old seq }

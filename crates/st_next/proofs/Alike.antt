@@ -1,4 +1,4 @@
--- Which threads hold calls of one policy and rule, by what runs and by the law's machine.
+-- Which threads hold calls of one policy and rule, in the machine that runs and in the law's machine.
 use Rattle.std.proofs.Common.{◌≡◌, ◌∙◌, ℕ, Bool, true, false, cond, ◌||◌, [], ◌∷◌, Option, Some, None, refl, ap, sym, subst}
 use Rattle.std.proofs.lemmas.Bool.{true≢false}
 use Rattle.std.proofs.lemmas.Option.{none-some}
@@ -30,10 +30,10 @@ use Rattle.st_threads.specs.Thread.{ThreadRow, number_held}
 use Rattle.st_next.proofs.HeldCalls.{are_held}
 use Rattle.st_next.proofs.Reached.{reached_of}
 
--- ---- the number of a held call lives
+-- ---- the number of a held call is live
 
 module _ (m : Running) (st : State) (is : IsMachine m st) where
-  -- a live number has its message
+  -- a live number has a message
   live_message : (q : ℕ) → is_live st q ≡ true → (head : kept.Head) × (tid : ℕ) × (message_at m q ≡ Some head) × ((st.messages q).head ≡ Some (head_of tid head))
   live_message q live =
       let x : IsLive st.turns q (st.messages q) (found_in m.workers) = is.workers.agrees.live q live in
@@ -45,7 +45,7 @@ module _ (m : Running) (st : State) (is : IsMachine m st) where
       let same : head ≡ x.slot.head = subst (λ (o : Option Slot). IfSome o (λ slot. head ≡ slot.head)) x.slot_is found in
       ap (option_map (λ (slot : Slot). slot.head)) x.slot_is ∙ ap Some (sym same)
 
-  -- so has one that some thread holds, by the calls that are kept
+  -- a number that has a thread among the held calls is live
   pub threaded_lives : (q t : ℕ) → calls.thread_at m.workers.calls q ≡ Some t → calls.is_live m.workers.calls q ≡ true
   threaded_lives q t there = by (calls.message_at m.workers.calls q) there where
     by : (o : Option message.Message) → option_map (λ (it : message.Message). it.tid) o ≡ Some t → is_some o ≡ true
@@ -55,7 +55,7 @@ module _ (m : Running) (st : State) (is : IsMachine m st) where
   pub threaded_message : (q t : ℕ) → calls.thread_at m.workers.calls q ≡ Some t → (head : kept.Head) → IfSome (slot_at m.workers.slots q) (λ slot. head ≡ slot.head) → message_at m q ≡ Some head
   threaded_message q t there = found_message q (sym (lives_as m.input st (is_live st) m.workers q is.workers) ∙ threaded_lives q t there)
 
-  -- and no other number has one
+  -- a number without a thread has no message
   pub threadless_message : (q : ℕ) → calls.thread_at m.workers.calls q ≡ None → message_at m q ≡ None
   threadless_message q none = by (is_live st q) refl where
     by : (b : Bool) → is_live st q ≡ b → message_at m q ≡ None
@@ -80,7 +80,7 @@ module _ (m : Running) (st : State) (is : IsMachine m st) where
   holder_live : (t : ℕ) → IsHolder st t → is_live st (st.threads t).number ≡ true
   holder_live t x = ((held_live m.input st (reached_of m.input st is.reached)).held t x.entered x.first x.pending x.way x.undying).live
 
-  -- ---- the question's message
+  -- ---- the message of the question
 
   head_by : (q : ℕ) (b : Bool) → is_live st q ≡ b → (head : kept.Head) → message_at m q ≡ Some head → (tid : ℕ) × ((st.messages q).head ≡ Some (head_of tid head))
   head_by q true live head there =
@@ -95,7 +95,7 @@ module _ (m : Running) (st : State) (is : IsMachine m st) where
       let mine = live_message (st.threads t).number (holder_live t x) in
       ap (λ (o : Option ℕ). is_alike head (message_of m o)) (number_is t x) ∙ ap (is_alike head) mine.2 ∙ sym (λ k. are_alike (of.1 k) (mine.3 k)) ∙ alike
 
-  -- ---- by what the thread does
+  -- ---- by the call of the thread
 
   alike_by_way : (q t : ℕ) (entered : PendingCall) → (st.threads t).pending ≡ Some entered → (way : Way) → entered.way ≡ way → (b : Bool) → (st.threads t).dying ≡ b
       → list_any (λ (held : HeldCall). are_alike (st.messages q).head (st.messages held.number).head) (held_by_way st t way) ≡ true → is_held_alike m (message_at m q) t ≡ true
@@ -116,11 +116,11 @@ module _ (m : Running) (st : State) (is : IsMachine m st) where
   alike_by q t None pending holds = absurd (true≢false (sym holds))
   alike_by q t (Some entered) pending holds = alike_by_way q t entered pending entered.way refl (st.threads t).dying refl holds
 
-  -- a thread holds a call of the policy and the rule of a number here, where it does by the law's machine
+  -- a thread that holds a call of the policy and rule of a number in the law's machine does so in the machine that runs
   pub held_alike : (q t : ℕ) → holds_alike st q t ≡ true → is_held_alike m (message_at m q) t ≡ true
   held_alike q t holds = alike_by q t (st.threads t).pending refl holds
 
-  -- its message is there
+  -- the message of a thread's held call is found
   pub message_there : (t : ℕ) (row : ThreadRow) (q : ℕ) → item_at_number m.threads t ≡ Some row → number_held row ≡ Some q → (head : kept.Head) → IfSome (slot_at m.workers.slots q) (λ slot. head ≡ slot.head) → message_held m t ≡ Some head
   message_there t row q row_is held head found =
       ap (λ (o : Option ThreadRow). message_of m (number_of o)) row_is ∙ ap (message_of m) held ∙ found_message q ((are_held m st is).lives t row q row_is held).lives head found

@@ -27,7 +27,7 @@ use Rattle.st_next.proofs.HeldCalls.{are_held}
 
 -- ---- one after the other
 
--- copies are those of their own number
+-- copies have the number of their message
 own_number : (q : ℕ) (o : Option Head) (p : Progress) (s : Snapshot) → snapshot_of_progress q o p ≡ Some s → s.seq ≡ q
 own_number q None p s e = cc
 own_number q (Some head) (Word part place) s e = cc
@@ -61,11 +61,11 @@ module _ (m : Running) where
       let same : copies.seq ≡ seq = seq_is st seq copies asks.1 in
       (ap (is_question m.input st) same ∙ asks.0, ap (snapshot_in st) same ∙ asks.1)
 
-  -- a question that has a smaller number or this one stays the least
+  -- a question with a smaller number, or with this one, stays the least
   pub least_kept : (least : Option Snapshot) (seq : ℕ) → IsAtMost least seq → IsLeastWith m least seq least
   least_kept least seq low = record { question = λ x. x; before = λ other x. x; this = λ st is asks. low }
 
-  -- else it is this number, if that is a question
+  -- otherwise the least is this number, if it is a question
   pub least_this : (least : Option Snapshot) (seq : ℕ) (found : Option Snapshot) → ((copies : Snapshot) → least ≡ Some copies → seq < copies.seq) → IsQuestion m seq found → (st : State) → IsMachine m st → IsLeastWith m least seq (option_or found least)
   least_this least seq None low question st is = record { question = λ x. x; before = λ other x. x; this = λ state machine asks. absurd (true≢false (sym asks ∙ question state machine)) }
   least_this least seq (Some copies) low question st is =
@@ -101,7 +101,7 @@ module _ (m : Running) where
       ];
     }
 
-    -- and one that holds a call has that of its number at most
+    -- a thread that holds a call has at most the question of its number
     pub among_held : (q : ℕ) → number_held row ≡ Some q → (found : Option Snapshot) → IsLeastWith m least q found → IsLeastAmong m (suc count) found
     among_held q held found x = record {
       question = x.question among.question;
@@ -174,7 +174,7 @@ found_some m count copies among all st is =
       question.1,
     )
 
--- whichever it is
+-- the question that was found is the least, or there is none
 pub found_by : (m : Running) (count : ℕ) (found : Option Snapshot) → IsLeastAmong m count found → ((t : ℕ) (row : ThreadRow) → item_at_number m.threads t ≡ Some row → t ≤ count) → IsLeastFound m found
 found_by m count None among all = found_none m count among all
 found_by m count (Some copies) among all = found_some m count copies among all
@@ -191,7 +191,7 @@ module _ (m : Running) (st : State) (is : IsMachine m st) where
         let is_open : is_open_question m.input st (Some copies) ≡ true = subst (λ (o : Option Snapshot). is_open_question m.input st o ≡ true) there (and_parts (is_live st copies.seq && (st.messages copies.seq).answered) (is_open_question m.input st (snapshot_in st copies.seq)) question).1 in
         (and_parts (is_undecided (decision_in m.input st copies)) (is_asked m.input st copies m.input.options.mode) is_open).1
 
-    -- what the operator needs to answer
+    -- the operator would answer the question
     pub answers_here : answers m.input m.operator copies ≡ true
     answers_here = sym (asked_same m.input st m.operator is.operator copies m.input.options.mode) ∙ asked
 

@@ -34,11 +34,11 @@ use Rattle.st_next.proofs.Reached.{reached_of}
 use Rattle.st_threads.proofs.Rows.{Holds, held_number, holds}
 
 module _ (m : Running) (st : State) (is : IsMachine m st) (t : ℕ) where
-  -- one that is still adds nothing
+  -- a thread that is still adds no entry
   pub cannot : IsStill m.input st t → false ≡ is_some (thread_entry m.input st t)
   cannot still = ap (λ (o : Option Entry). is_some o) (sym (still_none m.input st t still))
 
-  -- and one that isn't adds something
+  -- a thread that isn't still adds an entry
   pub can : (IsStill m.input st t → ⊥) → true ≡ is_some (thread_entry m.input st t)
   can moves = by (thread_entry m.input st t) refl where
     by : (o : Option Entry) → thread_entry m.input st t ≡ o → true ≡ is_some o
@@ -49,7 +49,7 @@ module _ (m : Running) (st : State) (is : IsMachine m st) (t : ℕ) where
     its : IsRow row (st.threads t)
     its = row_of m st is t row row_is
 
-    -- what isn't held isn't still
+    -- a thread that waits neither for its message nor for the operator isn't still
     running : (IsAwaiting st t → ⊥) → (IsAsking m.input st t → ⊥) → IsStill m.input st t → ⊥
     running free unasked (unstarted none) = let owner = owner_is m st is t pid process in omega (arith, none, owner, there)
     running free unasked (ended over) = true≢false (sym over ∙ its.ended ∙ unended)
@@ -59,11 +59,11 @@ module _ (m : Running) (st : State) (is : IsMachine m st) (t : ℕ) where
     holds_none : number_held row ≡ None → (entered : PendingCall) → (st.threads t).dying ≡ false → (st.threads t).pending ≡ Some entered → (first : ℕ) → entered.way ≡ Held first → ⊥
     holds_none none entered undying pending first way = none-some row.number (sym none ∙ held_number row (sym its.dying ∙ undying) entered (sym its.pending ∙ pending) first way)
 
-    -- one that holds no call can move
+    -- a thread that holds no call can move
     pub free_moves : number_held row ≡ None → true ≡ is_some (thread_entry m.input st t)
     free_moves none = can (running (λ waits. holds_none none waits.entered waits.undying waits.pending waits.first waits.way) (λ asks. holds_none none asks.entered asks.undying asks.pending asks.first asks.way))
 
-    -- one that holds a call can move where its message was faulted or answered, and is no question
+    -- a thread that holds a call can move if its message was faulted or answered, and is no question
     module _ (q : ℕ) (held : number_held row ≡ Some q) where
       x : Holds row q
       x = holds row q held
@@ -107,7 +107,7 @@ module _ (m : Running) (st : State) (is : IsMachine m st) (t : ℕ) where
 
 -- ---- whether a held call is over
 
--- a message that has come was faulted or answered
+-- whether a message was faulted or answered, by its state
 come_by : (i : Input) (st : State) (q : ℕ) (o : Option MsgState) → HasComeTo i st q o → is_live st q ≡ true → has_come o ≡ (is_some (st.messages q).fault || (st.messages q).answered)
 come_by i st q None come live = absurd (true≢false (sym live ∙ come))
 come_by i st q (Some Waiting) come live = sym (λ k. is_some (come.1.fault k) || come.1.answered k)
@@ -115,18 +115,18 @@ come_by i st q (Some (Claimed w)) come live = sym (λ k. is_some (come.1.fault k
 come_by i st q (Some (Answered v)) come live = sym (λ k. is_some (come.1.fault k) || come.1.answered k)
 come_by i st q (Some (Faulted errno)) come live = sym (λ k. is_some (come.1.fault k) || come.1.answered k)
 
--- there is none where there isn't some
+-- an option that isn't some is none
 pub none_of : {X : Type 0} (o : Option X) (b : Bool) → is_some o ≡ not b → b ≡ is_none o
 none_of None true e = refl
 none_of None false e = cc
 none_of (Some x) true e = cc
 none_of (Some x) false e = refl
 
--- one that hasn't isn't over
+-- a held call whose message was neither faulted nor answered isn't over
 pub not_over : (i : Input) (st : State) (q : ℕ) (o : Option MsgState) → HasComeTo i st q o → has_come o ≡ false → IsOver i st q false
 not_over i st q o come none live = ap (λ (b : Bool). b && not (is_question i st q)) (sym none ∙ come_by i st q o come live)
 
--- one that has is over where it is no question
+-- a held call whose message was faulted or answered is over if it is no question
 pub over_by : (m : Running) (st : State) → IsMachine m st → (q : ℕ) (o : Option MsgState) → HasComeTo m.input st q o → has_come o ≡ true → (found : Option Snapshot) → IsQuestion m q found → IsOver m.input st q (is_none found)
 over_by m st is q o come has None question live = (λ k. (sym has ∙ come_by m.input st q o come live) k && not (sym (question st is) k))
 over_by m st is q o come has (Some copies) question live = sym (ap (λ (b : Bool). (is_some (st.messages q).fault || (st.messages q).answered) && not b) (question st is).0 ∙ and_no (is_some (st.messages q).fault || (st.messages q).answered)) where
@@ -134,7 +134,7 @@ over_by m st is q o come has (Some copies) question live = sym (ap (λ (b : Bool
   and_no true = refl
   and_no false = refl
 
--- a worker can move where it has something to do
+-- a worker can move iff it has something to do
 pub work_moves : (i : Input) (st : State) (kept : UnderWay) (worker : ℕ) (task : Task) → IsTask i st kept worker task → is_work task ≡ is_some (worker_entry i st worker)
 work_moves i st kept worker Rest x = ap (λ (o : Option Entry). is_some o) (sym x)
 work_moves i st kept worker Claim x = ap (λ (o : Option Entry). is_some o) (sym x.1)
@@ -143,13 +143,13 @@ work_moves i st kept worker (LookAt seq part) x = ap (λ (o : Option Entry). is_
 work_moves i st kept worker (Fault seq errno) x = ap (λ (o : Option Entry). is_some o) (sym x)
 work_moves i st kept worker Answer x = ap (λ (o : Option Entry). is_some o) (sym x.2)
 
--- ---- whose a number is
+-- ---- the thread of a number
 
 same_thread : (t u : ℕ) (o : Option Head) → is_head_by t o ≡ true → option_map (λ (head : Head). head.tid) o ≡ Some u → t ≡ u
 same_thread t u None by held = absurd (true≢false (sym by))
 same_thread t u (Some head) by held = sym (eqb-true head.tid t by) ∙ same_Some head.tid u held
 
--- a number that lives is no other thread's
+-- a live number isn't another thread's
 pub only_holder : (m : Running) (seq : ℕ) (o : Option ℕ) → IfSome o (λ tid. (i : Input) (st : State) → IsKept i st (is_live st) m.workers → IsHeldBy st seq tid) →
     IfSome o (λ tid. (st : State) → IsMachine m st → (t : ℕ) → is_message_by st t seq ≡ true → t ≡ tid)
 only_holder m seq None law = tt

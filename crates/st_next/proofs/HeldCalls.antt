@@ -14,7 +14,7 @@ use Rattle.st_next.proofs.NextSteps.{row_of}
 use Rattle.st_next.proofs.Reached.{reached_of}
 use Rattle.st_threads.proofs.Rows.{Holds, held_number, holds}
 
--- ---- what runs
+-- ---- the machine that runs
 
 module _ (m : Running) (st : State) (is : IsMachine m st) where
   reached : Reached m.input st

@@ -1,4 +1,4 @@
--- What a thread does next is what the law's machine has it do.
+-- What a thread does next is what it does next in the law's machine.
 use Rattle.std.proofs.Common.{◌≡◌, ◌≤◌, ◌<◌, ◌∙◌, zero, suc, ℕ, ◌&&◌, ◌||◌, ◌==◌, not, Bool, true, false, cond, length, List, Option, Some, None, inl, inr, refl, ap, sym, subst, arith}
 use Rattle.std.proofs.lemmas.Bool.{ne_eqb, eq-eqb, or_left, or_right, true≢false}
 use Rattle.std.proofs.lemmas.Option.{none-some, same_Some, slice_get_cases}
@@ -37,7 +37,7 @@ module _ (m : Running) (st : State) (is : IsMachine m st) (t : ℕ) where
   pub row_of : (row : ThreadRow) → item_at_number m.threads t ≡ Some row → IsRow row (st.threads t)
   row_of row e = subst (λ (o : Option ThreadRow). IsRowOf o (st.threads t)) e (is.threads t)
 
-  -- ---- whether it runs
+  -- ---- whether the thread runs
 
   pub owner_is : (pid : ℕ) → pid_of m.system.processes t ≡ Some pid → (st.threads t).owner ≡ pid
   owner_is pid e = by (thread_at m.system.processes t) (is.system.threads t) e where
@@ -58,11 +58,11 @@ module _ (m : Running) (st : State) (is : IsMachine m st) (t : ℕ) where
     by None x e = unstarted x.0
     by (Some thread) x e = absurd (none-some thread.pid (sym e))
 
-  -- nor does one that has ended
+  -- a thread that has ended does nothing
   pub entry_ended : (row : ThreadRow) → item_at_number m.threads t ≡ Some row → row.ended ≡ true → thread_entry m.input st t ≡ None
   entry_ended row row_is e = stopped (or_right ((st.threads t).owner == 0) (st.threads t).ended ((row_of row row_is).ended ∙ e))
 
-  -- nor does one that the script doesn't have
+  -- a thread that the script doesn't have does nothing
   pub entry_absent : item_at_number m.threads t ≡ None → thread_entry m.input st t ≡ None
   entry_absent none = by (thread_at m.system.processes t) (is.system.threads t) (is.system.among t) where
     there : (n : ℕ) → item_at_number m.threads n ≡ None → 1 ≤ n → n ≤ length m.threads → ⊥
@@ -76,7 +76,7 @@ module _ (m : Running) (st : State) (is : IsMachine m st) (t : ℕ) where
     by None x among = unstarted x.0
     by (Some thread) x among = absurd (there t none among.0 (subst (λ (n : ℕ). t ≤ n) (sym is.count) among.1))
 
-  -- a thread that runs ends where it is dying, and else goes on
+  -- a thread that runs ends if it is dying, and otherwise goes on
   pub entry_running : (row : ThreadRow) (pid : ℕ) → item_at_number m.threads t ≡ Some row → pid_of m.system.processes t ≡ Some pid → 0 < pid → row.ended ≡ false
       → thread_entry m.input st t ≡ cond row.dying (Some (Ended t)) (running_entry m.input st t row.pending)
   entry_running row pid row_is process some unended =
@@ -103,7 +103,7 @@ module _ (m : Running) (st : State) (is : IsMachine m st) (t pid seq : ℕ) (ent
   number_by (Barred n) e held = absurd held
   number_by Untraced e held = absurd held
 
-  -- its number, where its call is held
+  -- if the call is held, the thread has its number
   pub number_is : IsHeld entered.way → (st.threads t).number ≡ seq
   number_is held = number_by entered.way refl held
 
@@ -138,7 +138,7 @@ module _ (m : Running) (st : State) (is : IsMachine m st) (t q : ℕ) where
   held_waits (Some (Answered v)) come live unanswered unfaulted = absurd (unanswered v refl)
   held_waits (Some (Faulted errno)) come live unanswered unfaulted = absurd (unfaulted errno refl)
 
-  -- the step of a held call, by how far its message has come
+  -- the step of a held call, by the state of its message
   pub held_is : (o : Option MsgState) → HasComeTo m.input st q o → (step : Step) → IsStepOf m st t q o step → held_entry m.input st t q (st.messages q).fault ≡ step_entry m.input st t step
   held_is None come step x = absurd x
   held_is (Some Waiting) come step x = waits false come.1 ∙ sym x
@@ -152,7 +152,7 @@ module _ (m : Running) (st : State) (is : IsMachine m st) (t q : ℕ) where
 
 -- ---- a call that is permitted
 
--- the step by the copies that were sealed, and by the link that their names meet
+-- the step by the copies that were sealed, and by the link in the way of their names
 pub permitted_is : (m : Running) (st : State) → IsMachine m st → (t q : ℕ) (ids : Ids) (copies s : Snapshot) (parts : List ArgText) (link : Option Components) (aliasing : Bool)
     → ((i : Input) (state : State) → IsKept i state (is_live state) m.workers → snapshot_in state q ≡ Some copies)
     → ((i : Input) (state : State) → IsSystem i state m.system → i.options.aliasing ≡ aliasing → link ≡ link_now i state copies.call copies.regs parts) → m.input.options.aliasing ≡ aliasing → parts ≡ copies.parts
@@ -162,13 +162,13 @@ permitted_is m st is t q ids copies s parts link aliasing sealed met alias same 
     ap (λ (x : Snapshot). Some (permitted_entry m.input st t q x ids (link_now m.input st x.call x.regs x.parts))) copies_are
     ∙ ap (λ (o : Option Components). Some (permitted_entry m.input st t q copies ids o)) (ap (link_now m.input st copies.call copies.regs) (sym same) ∙ sym (met m.input st is.system alias))
 
--- the copies that several records hold are those of the message
+-- the copies that several records share are those of the message
 pub shared_are : (m : Running) (q : ℕ) (shared copies : Snapshot) → copies ≡ shared
     → ((i : Input) (state : State) → IsKept i state (is_live state) m.workers → snapshot_in state q ≡ Some shared)
     → (i : Input) (state : State) → IsKept i state (is_live state) m.workers → snapshot_in state q ≡ Some copies
 shared_are m q shared copies same sealed i state kept = sealed i state kept ∙ ap Some (sym same)
 
--- what a good result says, a good result says that follows from it
+-- what follows from a property of a result that is no error holds of it, too
 pub if_ok : {A E : Type 0} (P Q : A → Type 0) (result : Result A E) → ((a : A) → P a → Q a) → IfOk result P → IfOk result Q
 if_ok P Q (Ok a) more x = more a x
 if_ok P Q (Err e) more x = tt

@@ -1,4 +1,4 @@
--- Which held calls are questions for the operator, and how a held call goes on by what is said of its copies.
+-- Which held calls are questions for the operator, and how a held call goes on by the verdict on its copies.
 use Rattle.std.proofs.Common.{◌≡◌, ◌≢◌, ◌∙◌, ◌&&◌, suc, ℕ, Bool, true, false, cond, List, length, Option, Some, None, refl, ap, sym, subst}
 use Rattle.std.proofs.lemmas.Option.{same_Some}
 use Rattle.st_base.specs.declared.errno.Errno.{Errno}
@@ -27,7 +27,7 @@ use Rattle.st_next.specs.Step.{step_entry}
 use Rattle.st_next.specs.declared.step.Step.{Step}
 use Rattle.st_next.specs.declared.step.Step.TheVariants.{Wait, Deny}
 
--- ---- where the filters that were read decide
+-- ---- the filters that were read decide
 
 module _ (m : Running) (t q n : ℕ) where
   pub read_permits : (ids : Ids) (step : Step) → IsPermittedStep m t q ids step → IsDecidedStep m t q (Permit n ids) step
@@ -38,7 +38,7 @@ module _ (m : Running) (t q n : ℕ) where
   read_refuses errno st is s there read =
       ap (decided_entry m.input st t q s) (read_decides (read_for m.input s.policy s.rule) (session_filters st.session s.policy s.rule) s (Refuse n errno) read (λ e. cc))
 
--- ---- where they don't
+-- ---- the filters that were read don't decide
 
 module _ (m : Running) (st : State) (is : IsMachine m st) where
   pub later_decides : (s : Snapshot) → verdict (read_for m.input s.policy s.rule) s ≡ Unmatched → decision_in m.input st s ≡ said_later m s
@@ -46,7 +46,7 @@ module _ (m : Running) (st : State) (is : IsMachine m st) where
       ap (λ (v : Verdict). verdict_or v (verdict_from (suc (length (read_for m.input s.policy s.rule))) (session_filters st.session s.policy s.rule) s)) read
       ∙ ap (λ (session : List SessionFilter). verdict_from (suc (length (read_for m.input s.policy s.rule))) (session_filters session s.policy s.rule) s) is.operator.session
 
-  -- a held call that they don't decide is a question where the session doesn't either, and the operator answers
+  -- a held call that they don't decide is a question iff the session doesn't decide either, and the operator would answer
   question_by : (q : ℕ) (copies : Snapshot) → HasComeTo m.input st q (Some (Answered Unmatched)) → snapshot_in st q ≡ Some copies → is_question m.input st q ≡ (is_undecided (said_later m copies) && answers m.input m.operator copies)
   question_by q copies come there =
       let same : come.2 ≡ copies = same_Some come.2 copies (sym come.3 ∙ there) in
@@ -55,7 +55,7 @@ module _ (m : Running) (st : State) (is : IsMachine m st) where
       ∙ (λ k. is_undecided (later_decides copies read k) && asked_same m.input st m.operator is.operator copies m.input.options.mode k)
 
 module _ (m : Running) (t q : ℕ) (copies : Snapshot) (sealed : (i : Input) (state : State) → IsKept i state (is_live state) m.workers → snapshot_in state q ≡ Some copies) where
-  -- the step of a held call by what the session says of its copies
+  -- the step of a held call by the session's verdict on its copies
   later_step : (v : Verdict) → v ≡ said_later m copies → (step : Step) → ((st : State) → IsMachine m st → snapshot_in st q ≡ Some copies → decided_entry m.input st t q copies v ≡ step_entry m.input st t step) → IsDecidedStep m t q Unmatched step
   later_step v said step next st is s there read =
       let here : snapshot_in st q ≡ Some copies = sealed m.input st is.workers in
@@ -80,12 +80,12 @@ module _ (m : Running) (t q : ℕ) (copies : Snapshot) (sealed : (i : Input) (st
     later_waits b is asks = later_step Unmatched (sym unmatched ∙ said) Wait
         (λ st machine here. ap (λ (x : Bool). cond x None (Some (Denied t (Some q) EPERM NoFilter))) (asked b is st machine here ∙ asks))
 
-    -- and what nobody decides is denied
+    -- a call that nobody decides is denied
     pub later_denies : (b : Bool) → b ≡ answers m.input m.operator copies → b ≡ false → IsDecidedStep m t q Unmatched (Deny (Some q) EPERM NoFilter)
     later_denies b is quiet = later_step Unmatched (sym unmatched ∙ said) (Deny (Some q) EPERM NoFilter)
         (λ st machine here. ap (λ (x : Bool). cond x None (Some (Denied t (Some q) EPERM NoFilter))) (asked b is st machine here ∙ quiet))
 
--- ---- by how far a message has come
+-- ---- by the state of a message
 
 unmatched_is : (o : Option MsgState) → is_unmatched o ≡ true → o ≡ Some (Answered Unmatched)
 unmatched_is (Some (Answered Unmatched)) e = refl
@@ -106,7 +106,7 @@ module _ (m : Running) (st : State) (is : IsMachine m st) (q : ℕ) where
       ∙ (λ k. is_undecided (read_decides (read_for m.input come.2.policy come.2.rule) (session_filters st.session come.2.policy come.2.rule) come.2 v (sym come.4) some k) && is_asked m.input st come.2 m.input.options.mode)
       ∙ ap (λ (b : Bool). b && is_asked m.input st come.2 m.input.options.mode) none
 
-  -- any other is no question
+  -- a message in any other state is no question
   pub no_question : (o : Option MsgState) → HasComeTo m.input st q o → is_unmatched o ≡ false → is_question m.input st q ≡ false
   no_question None come e = λ k. come k && (st.messages q).answered && is_open_question m.input st (snapshot_in st q)
   no_question (Some Waiting) come e = unanswered come.0 come.1.answered
@@ -116,7 +116,7 @@ module _ (m : Running) (st : State) (is : IsMachine m st) (q : ℕ) where
   no_question (Some (Answered (Refuse n errno))) come e = decided (Refuse n errno) (λ x. cc) refl come
   no_question (Some (Answered Unmatched)) come e = cc
 
--- a number whose answer decides nothing is a question as is said of its copies
+-- an unmatched number is a question iff the session doesn't decide on its copies either, and the operator would answer
 pub asked_by : (m : Running) (st : State) → IsMachine m st → (q : ℕ) (copies : Snapshot) (o : Option MsgState) → HasComeTo m.input st q o → is_unmatched o ≡ true → snapshot_in st q ≡ Some copies
     → (b : Bool) → b ≡ (is_undecided (said_later m copies) && answers m.input m.operator copies) → is_question m.input st q ≡ b
 asked_by m st is q copies o come unmatched there b says = question_by m st is q copies (subst (HasComeTo m.input st q) (unmatched_is o unmatched) come) there ∙ sym says

@@ -10,15 +10,15 @@ use Rattle.st_law.specs.State.{State}
 use Rattle.st_reached.proofs.Reached.{Reached, reached_run}
 use Rattle.st_next.specs.Machine.{IsReached}
 
--- all that the law keeps of it
+-- all that the law says of reached states
 pub reached_of : (i : Input) (st : State) → IsReached i st → Reached i st
 reached_of i st reached = subst (Reached i) (sym reached.state_is) (reached_run i reached.startable reached.choices)
 
--- the start is reached
+-- the first state is reached
 pub reached_first : (i : Input) → IsStartable i → IsReached i (first_state i)
 reached_first i startable = record { startable = startable; choices = []; state_is = refl }
 
--- and what a choice leads on to
+-- a state that a choice leads to is reached
 pub reached_more : (i : Input) (st : State) → IsReached i st → (c : Choice) (e : Entry) → entry_of i st c ≡ Some e → IsReached i (state_after i st e)
 reached_more i st reached c e is =
     let before = reverse reached.choices in

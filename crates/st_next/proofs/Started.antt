@@ -1,4 +1,4 @@
--- A thread that has started is there, and has a process.
+-- A thread that has started has a row and a process.
 use Rattle.std.proofs.Common.{◌≡◌, ◌≢◌, ◌≤◌, ◌-◌, ◌∙◌, ℕ, not, Bool, true, false, get_or, [], Option, Some, None, refl, sym, subst}
 use Rattle.std.specs.Option.{option_map}
 use Rattle.std.specs.Prelude.{IsSome}
@@ -22,14 +22,14 @@ module _ (m : Running) (st : State) (is : IsMachine m st) (t : ℕ) (started : (
     by None x among = absurd (started x.0)
     by (Some thread) x among = (get_or m.threads (t - 1) (first_row []), item_here m.threads t (first_row []) among.0 (subst (λ (n : ℕ). t ≤ n) (sym is.count) among.1))
 
-  -- and has a process
+  -- a thread that has started has a process
   pub pid_there : IsSome (pid_of m.system.processes t)
   pid_there = by (thread_at m.system.processes t) (is.system.threads t) where
     by : (o : Option StartedThread) → IsThread o (st.threads t) → IsSome (option_map (λ (thread : StartedThread). thread.pid) o)
     by None x = absurd (started x.0)
     by (Some thread) x = refl
 
-  -- it runs while it hasn't ended
+  -- a thread that has started runs while it hasn't ended
   pub runs : (st.threads t).ended ≡ false → is_running m.system.processes t ≡ true
   runs unended = by (thread_at m.system.processes t) (is.system.threads t) where
     by : (o : Option StartedThread) → IsThread o (st.threads t) → has_not_ended o ≡ true

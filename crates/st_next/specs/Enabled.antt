@@ -1,11 +1,11 @@
--- What has to be there for a thread or a worker to go on.
+-- When a thread or a worker can go on.
 use Rattle.std.specs.Prelude.{Bool, true, false, Option, Some, None}
 use Rattle.st_messages.specs.declared.message.MsgState.{MsgState}
 use Rattle.st_messages.specs.declared.message.MsgState.TheVariants.{Waiting, Claimed, Answered, Faulted}
 use Rattle.st_workers.specs.declared.task.Task.{Task}
 use Rattle.st_workers.specs.declared.task.Task.TheVariants.{Rest, Claim, Copy, Look as LookAt, Fault, Answer}
 
--- whether a message met a fault or was answered
+-- whether a message was faulted or answered
 abbrev pub has_come : Option MsgState → Bool
 has_come None = false
 has_come (Some Waiting) = false

@@ -16,7 +16,7 @@ use Rattle.st_next.specs.Machine.{IsMachine, Running}
 abbrev pub way_in : Input → State → ℕ → SysCall → List ℕ → Way
 way_in i st t call regs = if (process_in st t).traced then way_of_answer (suc st.posted) (answer_in i st (process_in st t) call regs) else Untraced
 
--- it goes on this way, in each state that the machine may be in
+-- a thread's call goes on this way, in each state that the machine represents
 abbrev pub IsWayOf : Running → ℕ → SysCall → List ℕ → Way → Type 0
 IsWayOf m t call regs way = (st : State) → IsMachine m st → way_in m.input st t call regs ≡ way
 

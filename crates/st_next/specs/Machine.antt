@@ -1,4 +1,4 @@
--- What runs, against the law's machine.
+-- The parts of the machine that runs, and how it refines the law's machine.
 use Rattle.std.specs.Prelude.{◌≡◌, ℕ, List, length, Option, Some, None}
 use Rattle.st_base.specs.Numbered.{item_at_number}
 use Rattle.st_compile.specs.Table.{BinaryAnswers, IsTableOf}
@@ -20,7 +20,7 @@ use Rattle.st_next.specs.Step.{step_entry}
 use Rattle.st_threads.specs.Thread.{ThreadRow, IsRowOf}
 use Rattle.st_next.specs.declared.step.Step.{Step}
 
--- the modelled system, the messages under way, and how far each thread of the script has come
+-- the machine that runs: the modelled system, the messages under way, and how far each thread of the script has come
 pub record Running : Type 0 where
   pub input : Input
   pub system : Parts
@@ -31,13 +31,13 @@ pub record Running : Type 0 where
   -- what the operator has added
   pub operator : Added
 
--- some choices lead to a state from where an input starts
+-- some choices lead from the first state of an input to this state
 pub record IsReached (i : Input) (st : State) : Type 0 where
   pub startable : IsStartable i
   pub choices : List Choice
   pub state_is : st ≡ state_of_run i choices
 
--- what runs is the law's machine in this state
+-- the machine that runs represents this state of the law's machine
 pub record IsMachine (m : Running) (st : State) : Type 0 where
   pub reached : IsReached m.input st
   pub bounded : IsBounded m.input.start
@@ -50,25 +50,26 @@ pub record IsMachine (m : Running) (st : State) : Type 0 where
   pub answers : IsTableOf m.input.policies m.answers
   pub operator : IsAdded m.input st m.operator
 
--- what runs is the law's machine in some state
+-- the machine that runs represents some state of the law's machine
 pub record IsRunning (m : Running) : Type 0 where
   pub state : State
   pub is : IsMachine m state
 
--- the law's machine has a thread do this next
+-- this is what a thread does next in the law's machine, in each state that the machine that runs represents
 abbrev pub IsNext : Running → ℕ → Step → Type 0
 IsNext m t step = (st : State) → IsMachine m st → thread_entry m.input st t ≡ step_entry m.input st t step
 
--- what runs is as good as before
+-- the machine that runs still represents each state that it represented before
 abbrev pub Stands : Running → Running → Type 0
 Stands old new = (st : State) → IsMachine old st → IsMachine new st
 
--- a choice adds this entry, and what runs has gone on by it; or it adds none, and what runs is as good as before
+-- a choice adds this entry, and the machine that runs goes on by it; or it adds none, and the machine still represents the same state
 abbrev pub IsStep : Running → Choice → Option Entry → Running → Type 0
 IsStep old c None new = (st : State) → IsMachine old st → (entry_of old.input st c ≡ None) × IsMachine new st
 IsStep old c (Some e) new = (st : State) → IsMachine old st → (entry_of old.input st c ≡ Some e) × IsMachine new (state_after old.input st e)
 
--- a worker does this next, here and by the law's machine, and what it needs for it is there
+-- this is what a worker does next, here and in the law's machine; the number that the task names is live, and a word that it copies is
+-- inside memory
 pub record HasTask (m : Running) (worker : ℕ) (task : Task) : Type 0 where
   pub here : task_of m.workers worker ≡ task
   pub there : IsThere m.workers.calls task

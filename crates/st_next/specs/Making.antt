@@ -1,4 +1,4 @@
--- What calls are made with.
+-- The requests with which calls are made.
 use Rattle.std.specs.Prelude.{ℕ, Option, Some, None}
 use Rattle.st_base.specs.Numbered.{item_at_number}
 use Rattle.st_effects.specs.System.{Request}
@@ -7,7 +7,7 @@ use Rattle.st_next.specs.Machine.{Running}
 use Rattle.st_threads.specs.Thread.{ThreadRow}
 use Rattle.st_next.specs.declared.step.Use.{Use}
 
--- the thread that a thread's pending call starts
+-- the thread that a thread's pending call starts; 0 without a row
 abbrev pub child_of_row : Option ThreadRow → ℕ
 child_of_row None = 0
 child_of_row (Some row) = child_of_pending row.pending

@@ -1,4 +1,4 @@
--- What a thread does next, part by part: each part gives the step whose entry is the law's.
+-- What a thread does next, case by case: the entry of each step is that of the law's machine.
 use Rattle.std.specs.Prelude.{◌≡◌, ℕ, true, false, List, Option, Some, None}
 use Rattle.st_base.specs.Numbered.{item_at_number}
 use Rattle.st_base.specs.declared.ids.Ids.{Ids}
@@ -60,7 +60,7 @@ IsBarredStep m t entered number step =
 abbrev pub IsHeldStep : Running → ℕ → ℕ → Step → Type 0
 IsHeldStep m t seq step = (st : State) → IsMachine m st → held_entry m.input st t seq (st.messages seq).fault ≡ step_entry m.input st t step
 
--- the step of a held call of whose copies the filters that were read say this
+-- the step of a held call on whose copies the filters that were read have this verdict
 abbrev pub IsDecidedStep : Running → ℕ → ℕ → Verdict → Step → Type 0
 IsDecidedStep m t seq read step =
     (st : State) → IsMachine m st → (s : Snapshot) → snapshot_in st seq ≡ Some s → verdict (read_for m.input s.policy s.rule) s ≡ read → decided_entry m.input st t seq s (decision_in m.input st s) ≡ step_entry m.input st t step
@@ -71,7 +71,7 @@ IsPermittedStep m t seq ids step =
     (st : State) → IsMachine m st → (s : Snapshot) → snapshot_in st seq ≡ Some s
     → Some (permitted_entry m.input st t seq s ids (link_now m.input st s.call s.regs s.parts)) ≡ step_entry m.input st t step
 
--- the step of a held call whose message has come so far, where it is live
+-- the step of a held call by the state of its message, which has to be live
 abbrev pub IsStepOf : Running → State → ℕ → ℕ → Option MsgState → Step → Type 0
 IsStepOf m st t seq None step = ⊥
 IsStepOf m st t seq (Some Waiting) step = step_entry m.input st t step ≡ None
@@ -82,7 +82,7 @@ IsStepOf m st t seq (Some (Answered read)) step =
 
 -- ---- whether the call of a step can be made
 
--- the arguments are fit for the call, and where it follows a link at the end of its first name, that is no link's
+-- the arguments are fit for the call, and if the call follows a link at the end of its first name, that name isn't a link's
 pub record IsFit (parts : Parts) (made : Use) : Type 0 where
   pub fit : AreFit made.call made.args
   pub unlinked : follows made.call made.regs 0 ≡ true → IsNoLink parts.tree (first_name made.args)

@@ -1,4 +1,4 @@
--- What the steps of a thread mean: the entry that each adds.
+-- The entry that each step of a thread adds.
 use Rattle.std.specs.Prelude.{ℕ, Option, Some, None}
 use Rattle.st_effects.specs.Effect.{effect}
 use Rattle.st_trace.specs.declared.entry.Entry.{Entry}
@@ -10,11 +10,11 @@ use Rattle.st_next.specs.declared.step.Step.{Step}
 use Rattle.st_next.specs.declared.step.Step.TheVariants.{Wait, End, Store, Enter, Make, Fail, Deny}
 use Rattle.st_next.specs.declared.step.Use.{Use}
 
--- a call is made, with its outcome over the system of now
+-- the entry of a call that is made, with its outcome over the current system
 abbrev pub use_entry : Input → State → ℕ → Use → Entry
 use_entry i st t made = used_entry t made.seq made.call made.regs made.args made.ids (effect (system_of i st) made.call (request_of i st t made.regs made.args made.ids))
 
--- the entry of a step of thread t; none where it waits
+-- the entry of a step of thread t; none if it waits
 abbrev pub step_entry : Input → State → ℕ → Step → Option Entry
 step_entry i st t Wait = None
 step_entry i st t End = Some (Ended t)

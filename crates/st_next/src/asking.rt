@@ -1,4 +1,4 @@
-// Questions, and what the operator answers.
+// Finds the questions that the operator can answer.
 ghost use Rattle.std.specs.Prelude.{◌≡◌, ◌&&◌, is_some, IfOk};
 ghost use Rattle.st_law.specs.Machine.{entry_of};
 ghost use Rattle.st_law.specs.State.{State, is_undecided};
@@ -21,14 +21,14 @@ fn is_unmatched(state: Option<MsgState>) -> bool
     matches!(state, Some(MsgState::Answered(Verdict::Unmatched)))
 }
 
-// Whether a verdict is none.
+// Whether a verdict is unmatched.
 fn is_undecided(verdict: Verdict) -> bool
     ensures { result ≡ is_undecided verdict }
 {
     matches!(verdict, Verdict::Unmatched)
 }
 
-// Whether a question was found, with this number or a smaller one.
+// Whether a question was found with this number or a smaller one.
 fn is_at_most(least: &Option<Shared<Snapshot>>, seq: Seq) -> bool
     ensures { result ≡ is_at_most least.now seq }
 {
@@ -38,7 +38,7 @@ fn is_at_most(least: &Option<Shared<Snapshot>>, seq: Seq) -> bool
     }
 }
 
-// The lesser of two numbers, where there are some.
+// The lesser of two numbers, or the only one that exists.
 fn lesser_number(one: Option<Seq>, other: Option<Seq>) -> Option<Seq>
     ensures { result ≡ lesser one other }
 {
@@ -50,7 +50,7 @@ fn lesser_number(one: Option<Seq>, other: Option<Seq>) -> Option<Seq>
 }
 
 impl<'v, 'a> View<'v, 'a> {
-    // Whether the session doesn't decide on a call with these copies either, and the operator answers.
+    // Whether the session doesn't decide on a call with these copies either, and the operator would answer it.
     fn is_asked(&self, copies: &Snapshot) -> bool
         ensures { result ≡ (is_undecided (said_later self.now copies.now) && answers self.now.input self.now.operator copies.now) }
     {
@@ -58,7 +58,7 @@ impl<'v, 'a> View<'v, 'a> {
             && self.operator.answers(self.input, copies)
     }
 
-    // The copies of a number that is a question: it is answered, no filter decides, and the operator answers.
+    // The copies of a number if it is a question: it is answered, no filter decides it, and the operator would answer it.
     pub(crate) fn question(
         &self,
         alloc: Global,
@@ -76,7 +76,7 @@ impl<'v, 'a> View<'v, 'a> {
         Ok(Some(copies))
     }
 
-    // The lesser of two questions: one that was found, and this number, if it is one.
+    // The lesser of two questions: the question that was found before, and this number if it is a question.
     fn lesser(
         &self,
         alloc: Global,
@@ -92,7 +92,7 @@ impl<'v, 'a> View<'v, 'a> {
         Ok(self.question(alloc, seq)?.or(least))
     }
 
-    // The least number that a thread holds.
+    // The least number of a call that a thread holds.
     fn least_held(&self) -> Option<Seq>
         ensures { result ≡ least_held self.now.threads }
     {
@@ -103,7 +103,7 @@ impl<'v, 'a> View<'v, 'a> {
         least
     }
 
-    /// The copies of the least question. Mostly it is the least number that is held, and then the copies of no other are looked at.
+    /// The copies of the least question. Usually it is the least number that is held, and then no other copies are looked at.
     pub fn least_question(&self, alloc: Global) -> Result<Option<Shared<Snapshot>>, AllocError>
         ensures { IfOk result (IsLeastFound self.now) }
     {

@@ -1,4 +1,4 @@
-// What a thread does next, as the law's machine has it.
+// Decides what a thread does next, as in the law's machine.
 ghost use Rattle.std.specs.Prelude.{◌≡◌, ◌<◌, false, true, IfSome, IfOk, IsNone, None, Some};
 ghost use Rattle.st_law.specs.declared.input.Input.{Input};
 ghost use Rattle.st_next.specs.NextSteps.{CanBeDone, HasEntered, IsAnswerOf, IsBarredStep, IsDecidedStep, IsHeldStep, IsPendingStep, IsPermittedStep, IsUnheldStep};
@@ -57,7 +57,7 @@ impl<'v, 'a> View<'v, 'a> {
         }
     }
 
-    // What a thread does that has entered a call; one that is held has this number.
+    // What a thread does next that has entered a call. If the call is held, it has this number.
     fn pending_step(
         &self,
         alloc: Global,
@@ -93,7 +93,7 @@ impl<'v, 'a> View<'v, 'a> {
         }
     }
 
-    // A call that isn't held copies, looks and acts in one step.
+    // A call that isn't held does its copies, its looks and its effect in one step.
     fn unheld_step(
         &self,
         alloc: Global,
@@ -180,7 +180,7 @@ impl<'v, 'a> View<'v, 'a> {
         }
     }
 
-    // A held call goes on as the verdict on its copies says.
+    // A held call goes on by the verdict on its copies.
     fn decided_step(
         &self,
         alloc: Global,
@@ -200,7 +200,8 @@ impl<'v, 'a> View<'v, 'a> {
         }
     }
 
-    // A held call on which the filters that were read don't decide goes on as those of the session say, or waits for the operator.
+    // A held call on which the filters that were read don't decide goes on by the verdict of the session's filters. If these don't decide
+    // either, it waits for the operator, or is denied if the operator wouldn't answer.
     fn undecided_step(&self, alloc: Global, tid: Tid, seq: Seq) -> Result<Step, AllocError>
         requires here { state_at self.now.workers.calls seq ≡ Some (Answered Unmatched) }
         requires come { (st : State) → IsMachine self.now st → HasComeTo self.now.input st seq (Some (Answered Unmatched)) }
@@ -217,7 +218,7 @@ impl<'v, 'a> View<'v, 'a> {
         }
     }
 
-    // A held call that is permitted is made with its copies, unless it meets a link.
+    // A held call that is permitted is made with its copies, unless a link is in the way.
     fn permitted_step(
         &self,
         alloc: Global,

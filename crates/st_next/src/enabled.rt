@@ -1,4 +1,4 @@
-// Whether a choice would add an entry, without making it. Memory is taken for the copies of a question alone.
+// Whether a choice would add an entry, without making it. Only the copies of a question take memory.
 ghost use Rattle.std.specs.Prelude.{◌≡◌, ℕ, true, is_some, IfOk, IfSome};
 ghost use Rattle.st_law.specs.Machine.{thread_entry, worker_entry};
 ghost use Rattle.st_law.specs.State.{State};
@@ -14,7 +14,7 @@ use st_messages::MsgState;
 use st_workers::Task;
 use std::alloc::{AllocError, Global};
 
-// Whether a message met a fault or was answered.
+// Whether a message was faulted or answered.
 fn has_come(state: Option<MsgState>) -> bool
     ensures { result ≡ has_come state }
 {
@@ -36,7 +36,7 @@ fn is_work(task: Task) -> bool
 }
 
 impl<'v, 'a> View<'v, 'a> {
-    /// Whether a thread can move: it has started, hasn't ended, and neither waits for its held call nor for the operator.
+    /// Whether a thread can move: it has started, hasn't ended, and waits neither for its held call nor for the operator.
     pub fn can_move(&self, alloc: Global, tid: Tid) -> Result<bool, AllocError>
         ensures { IfOk result (λ can. (st : State) → IsMachine self.now st → can ≡ is_some (thread_entry self.now.input st tid)) }
     {
@@ -55,7 +55,7 @@ impl<'v, 'a> View<'v, 'a> {
         }
     }
 
-    // Whether a held call can be made or denied: its message met a fault or was answered, and it is no question.
+    // Whether a held call can be made or denied: its message was faulted or answered, and is no question.
     fn is_over(&self, alloc: Global, seq: Seq) -> Result<bool, AllocError>
         ensures { IfOk result (λ over. (st : State) → IsMachine self.now st → IsOver self.now.input st seq over) }
     {
@@ -65,7 +65,7 @@ impl<'v, 'a> View<'v, 'a> {
         Ok(self.question(alloc, seq)?.is_none())
     }
 
-    /// The thread that holds the call of a number, while the number lives.
+    /// The thread that holds the call of a number, if the number is live.
     pub fn holder(&self, seq: Seq) -> Option<Tid>
         ensures thread { result ≡ thread_at self.now.workers.calls seq }
         ensures law { IfSome result (λ tid. (st : State) → IsMachine self.now st → (t : ℕ) → is_message_by st t seq ≡ true → t ≡ tid) }
@@ -73,7 +73,7 @@ impl<'v, 'a> View<'v, 'a> {
         self.workers.thread(seq)
     }
 
-    /// Whether a worker can move: it is at some number, or one waits.
+    /// Whether a worker can move: it is at some number, or a number is waiting.
     pub fn can_serve(&self, worker: Worker) -> bool
         requires { IsWorker self.now.workers.calls worker }
         ensures { (st : State) → IsMachine self.now st → result ≡ is_some (worker_entry self.now.input st worker) }

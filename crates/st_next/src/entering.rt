@@ -11,7 +11,7 @@ use st_trace::Way;
 use std::alloc::{AllocError, Global};
 
 impl<'v, 'a> View<'v, 'a> {
-    /// How a thread's call goes on. One that has to be judged is held under the next number.
+    /// How a thread's call goes on. A call that has to be judged is held under the next number.
     pub fn way_of(&self, tid: Tid, pid: Pid, call: SysCall, regs: &[u64; 6]) -> Way
         requires process { pid_of self.now.system.processes tid ≡ Some pid }
         requires there { IsPid self.now.system.processes pid }

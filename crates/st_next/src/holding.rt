@@ -7,7 +7,7 @@ use crate::view::View;
 use st_base::{Seq, Tid};
 use st_lookaside::Head;
 
-// Whether two binaries name one policy. Many differ at their ends alone, so the last byte is asked for first.
+// Whether two binaries name one policy. Many differ only at their ends, so the last bytes are compared first.
 fn is_one_policy(one: &[u8], other: &[u8]) -> bool
     ensures { result ≡ bytes_eq one.now other.now }
 {
@@ -15,7 +15,7 @@ fn is_one_policy(one: &[u8], other: &[u8]) -> bool
 }
 
 impl<'v, 'a> View<'v, 'a> {
-    /// The message of a number, while the number lives.
+    /// The message of a number, if the number is live.
     pub fn message(&self, seq: Seq) -> Option<&Head>
         ensures none { result ≡ None → message_at self.now seq ≡ None }
         ensures some { IfSome result (λ head. message_at self.now seq ≡ Some head.now) }
@@ -33,7 +33,7 @@ impl<'v, 'a> View<'v, 'a> {
         Some(self.workers.head(seq))
     }
 
-    /// Whether a thread holds a call of the policy and the rule of a message.
+    /// Whether a thread holds a call of the same policy and rule as a message.
     pub fn holds_alike(&self, tid: Tid, message: &Head) -> bool
         ensures { result ≡ is_alike message.now (message_held self.now tid) }
     {

@@ -1,4 +1,5 @@
-//! The machine that runs, looked at and not changed: what each thread does next, how a call is entered, which calls are questions, who holds what.
+//! Decides what each thread does next, without changing the machine: also how a call is entered, which calls are questions, and which
+//! thread holds which call.
 #![tactic(auto)]
 
 mod asking;

@@ -1,4 +1,4 @@
-// What calls are made with.
+// The requests with which calls are made.
 ghost use Rattle.std.specs.Prelude.{◌≡◌};
 ghost use Rattle.st_base.specs.Numbered.{item_at_number};
 ghost use Rattle.st_next.specs.Making.{child_of_row, request_with};
@@ -9,7 +9,7 @@ use st_base::{Pid, Tid};
 use st_request::Request;
 
 impl<'v, 'a> View<'v, 'a> {
-    /// The thread that a thread's pending call starts; 0 where it is no fork.
+    /// The thread that a thread's pending call starts; 0 if the call is no fork.
     pub fn child_of(&self, tid: Tid) -> Tid
         ensures { result ≡ child_of_row (item_at_number self.now.threads tid) }
     {
@@ -19,7 +19,7 @@ impl<'v, 'a> View<'v, 'a> {
         }
     }
 
-    /// What a thread of this process makes its call with.
+    /// The request with which a thread of this process makes its call.
     pub fn request_with<'b>(&self, tid: Tid, pid: Pid, made: &'b Use) -> Request<'b>
         ensures { result ≡ request_with self.now tid pid made.now }
     {

@@ -45,7 +45,7 @@ pub enum Step {
     },
 }
 
-/// How a call is made: with these arguments and under these ids; a held one has the number of its message.
+/// How a call is made: with these arguments and under these ids. A held call has the number of its message.
 #[derive(Debug, Drop)]
 pub struct Use {
     pub seq: Option<Seq>,
@@ -56,7 +56,7 @@ pub struct Use {
 }
 
 impl Use {
-    /// The entry that this adds, made by a thread with this result and these changes.
+    /// The entry of a thread that makes this call, with this result and these changes.
     pub fn entry(self, tid: Tid, outcome: CallResult, changes: Sequence<Change>) -> Entry
         ensures { result ≡ Used tid self.seq self.call self.regs self.args self.ids outcome changes }
     {
@@ -81,7 +81,7 @@ impl Use {
 }
 
 impl Step {
-    /// The step of a thread without a pending call, by the instructions that it has left.
+    /// The next step of a thread without a pending call, by its instructions left.
     pub fn of_instructions(left: &[Instr]) -> Self
         ensures entry { (i : Input) (st : State) (t : ℕ) → next_instruction_entry i st t left.now ≡ step_entry i st t result }
         ensures fit { (parts : Parts) → CanBeDone parts result }

@@ -12,14 +12,14 @@ use st_threads::Thread;
 use st_workers::Workers;
 use std::marker::Model;
 
-/// The machine that runs, as it stands: the modelled system, the messages under way with the workers that serve them, how far each thread has
-/// come, the kernel's own answers, and what the operator has added.
+/// A view of the machine that runs in its current state: the modelled system, the messages under way with the workers that serve them, how
+/// far each thread has come, the kernel's own answers, and what the operator has added.
 #[derive(Debug, Drop)]
 pub struct View<'v, 'a> {
     pub(crate) input: &'a Input,
     pub(crate) system: &'v System,
     pub(crate) workers: &'v Workers,
-    // Thread t stands at t - 1.
+    // Thread t is at index t - 1.
     pub(crate) threads: &'v [Thread<'a>],
     pub(crate) answers: &'v FastTable,
     pub(crate) operator: &'v Operator<'a>,
@@ -40,7 +40,7 @@ impl<'v, 'a> Model for View<'v, 'a> {
 }
 
 impl<'v, 'a> View<'v, 'a> {
-    /// What is looked at: a machine of these parts.
+    /// A view of a machine with these parts.
     pub fn new(
         input: &'a Input,
         system: &'v System,
@@ -80,7 +80,7 @@ impl<'v, 'a> View<'v, 'a> {
         self.workers.workers()
     }
 
-    // How far a thread has come; none exactly where the script has no such thread.
+    // How far a thread has come; none iff the script has no such thread.
     pub(crate) fn thread(&self, tid: Tid) -> Option<&'v Thread<'a>>
         ensures none { result ≡ None → item_at_number self.now.threads tid ≡ None }
         ensures some { IfSome result (λ thread. item_at_number self.now.threads tid ≡ Some thread.now) }

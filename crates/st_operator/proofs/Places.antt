@@ -1,4 +1,4 @@
--- The places of a kind, in order.
+-- The indices of a kind, in order.
 use native.Mathlib.Omega.{arith}
 use Rattle.std.proofs.Common.{◌≡◌, ◌≢◌, ◌≤◌, ◌<◌, ◌+◌, ◌∙◌, ℕ, zero, suc, ◌&&◌, Bool, true, false, cond, List, [], ◌∷◌, ◌++◌, length, Option, Some, None, refl, ap, sym, subst}
 use Rattle.std.proofs.lemmas.Bool.{ltb-false}
@@ -11,10 +11,10 @@ use Rattle.std.specs.Prelude.{is_some, nat_lt, slice_get}
 use Rattle.st_law.specs.Sessions.{least_from}
 use Rattle.st_operator.specs.Operator.{places_among}
 
--- ---- the places of a kind
+-- ---- the indices of a kind
 
 module _ (is : ℕ → Bool) where
-  -- each of them is of the kind, and none is before the first that was looked at
+  -- each of them is of the kind, and none is less than the first that was tried
   among_by : (b : Bool) (n index place : ℕ) (rest : List ℕ) → is n ≡ b → ((j : ℕ) → slice_get rest j ≡ Some place → (suc n ≤ place) × (is place ≡ true))
       → slice_get (cond b (n ∷ rest) rest) index ≡ Some place → (n ≤ place) × (is place ≡ true)
   among_by true n zero place rest e later there =
@@ -34,7 +34,7 @@ module _ (is : ℕ → Bool) where
   more_by false true n m places = refl
   more_by false false n m places = refl
 
-  -- with one more that is looked at
+  -- with one more index that is tried
   pub among_more : (n count : ℕ) → places_among is n (suc count) ≡ cond (is (n + count)) (places_among is n count ++ (n + count) ∷ []) (places_among is n count)
   among_more n zero = let same : n ≡ n + 0 = omega arith in (λ k. cond (is (same k)) (same k ∷ []) [])
   among_more n (suc count) =
@@ -43,7 +43,7 @@ module _ (is : ℕ → Bool) where
       ∙ more_by (is n) (is (suc n + count)) n (suc n + count) (places_among is (suc n) count)
       ∙ (λ k. cond (is (next k)) (places_among is n (suc count) ++ next k ∷ []) (places_among is n (suc count)))
 
--- a kind, and another that is the same but for this place
+-- a kind, and another that is the same except for this index
 module _ (is but : ℕ → Bool) (place : ℕ) (here : but place ≡ false) (others : (n : ℕ) → n ≢ place → but n ≡ is n) where
   past : (n count : ℕ) → place < n → places_among is n count ≡ places_among but n count
   past n zero above = refl
@@ -64,14 +64,14 @@ module _ (is but : ℕ → Bool) (place : ℕ) (here : but place ≡ false) (oth
       let low = above index there in
       later index there ∙ sym (ap (λ b. cond b (n ∷ more) more) (others n (λ same. absurd (omega (arith, low, same))) ∙ e))
 
-  -- the places of the other are those of the first without this one
+  -- the indices of the other kind are those of the first kind without this one
   pub among_without : (n count index : ℕ) → slice_get (places_among is n count) index ≡ Some place → remove (places_among is n count) index ≡ places_among but n count
   among_without n zero index there = absurd (none-some place (sym (slice_get_past [] index (omega arith)) ∙ there))
   among_without n (suc count) index there =
       without_by (is n) n index (places_among is (suc n) count) (places_among but (suc n) count) refl
       (λ j at. (among_is is (suc n) count j place at).0) (past (suc n) count) (among_without (suc n) count) there
 
--- the least number of two kinds is that of the first place of the one kind that is of the other
+-- the least number of two kinds is that of the first index of the one kind that is also of the other kind
 module _ (kind of for : ℕ → Bool) (both : (n : ℕ) → kind (suc n) ≡ (of n && for n)) where
   mapped : (b : Bool) (n : ℕ) (rest : Option ℕ) → cond b (Some (suc n)) (option_map suc rest) ≡ option_map suc (cond b (Some n) rest)
   mapped true n rest = refl
@@ -85,7 +85,7 @@ module _ (kind of for : ℕ → Bool) (both : (n : ℕ) → kind (suc n) ≡ (of
   least_found n zero = refl
   least_found n (suc count) = (λ k. cond (both n k) (Some (suc n)) (least_found (suc n) count k)) ∙ found_by (of n) n (places_among of (suc n) count)
 
--- ---- what stands where it was found
+-- ---- the item at an index that was found
 
 -- the item at an index, if there is one
 abbrev pub item_at : {X : Type 0} → List X → Option ℕ → Option X
@@ -98,7 +98,7 @@ found_at p xs = by (nat_lt (position_or_len p xs) (length xs)) refl where
   by true e = find_at p xs
   by false e = find_at p xs ∙ slice_get_past xs (position_or_len p xs) (ltb-false (position_or_len p xs) (length xs) e)
 
--- something stands there just where something was found
+-- there is an item iff an index was found
 pub there_at : (p : ℕ → Bool) (xs : List ℕ) → is_some (item_at xs (position p xs)) ≡ is_some (position p xs)
 there_at p xs = by (position p xs) refl where
   by : (o : Option ℕ) → position p xs ≡ o → is_some (item_at xs o) ≡ is_some o

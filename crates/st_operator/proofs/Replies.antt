@@ -1,4 +1,4 @@
--- The next reply that is left, and what the operator's answer leads on to.
+-- The next reply that is left, and the state after the operator's answer.
 use native.Mathlib.Omega.{arith}
 use Rattle.std.proofs.Common.{◌≡◌, ◌≢◌, ◌<◌, ◌+◌, ◌∙◌, ℕ, suc, ◌&&◌, ◌||◌, ◌==◌, Bool, true, false, cond, not, get_or, List, [], ◌∷◌, ◌++◌, length, Option, Some, None, inl, inr, refl, ap, sym, subst}
 use Rattle.std.proofs.Math.Bool.{and-false, and-true, and_assoc, and_comm}
@@ -27,7 +27,7 @@ use Rattle.st_operator.proofs.Places.{among_is, among_more, among_without, found
 
 -- ---- the next reply
 
--- where the next reply was found, the place of a reply stands
+-- where the next reply was found, the index of a reply is
 module _ (added : Added) (policy : List ℕ) (rule : Rule) (index : ℕ) (next : next_left added policy rule ≡ Some index) where
   abbrev place : ℕ
   place = get_or (places_in added.left policy) index 0
@@ -55,7 +55,7 @@ other_policy policy other None apart is = refl
 other_policy policy other (Some reply) apart is = ap (λ binary. bytes_eq binary other) ((bytes_eq-Decides reply.binary policy).0 is) ∙ apart
 
 module _ (replies : List Reply) (given : ℕ → Bool) (place : ℕ) where
-  -- those that were given, and the one at this place
+  -- the replies that were given, and the reply at this index
   abbrev given_too : ℕ → Bool
   given_too n = suc place == n || given n
 
@@ -74,7 +74,7 @@ module _ (replies : List Reply) (given : ℕ → Bool) (place : ℕ) where
     | inr ne ↦ sym (given_elsewhere other n ne)
   ]
 
-  -- those that are left, once the reply at a place is given
+  -- the replies left after the reply at an index was given
   pub left_after : (count index : ℕ) (policy : List ℕ) (old new : List PolicyPlaces) → AreLeft replies given count old → slice_get (places_in old policy) index ≡ Some place → LosesPlace old policy index new → AreLeft replies given_too count new
   left_after count index policy old new left there loses other = loses other ∙ by (bytes_eq policy other) refl where
     at : slice_get (places_among (is_left replies given policy) 0 count) index ≡ Some place
@@ -91,7 +91,7 @@ module _ (replies : List Reply) (given : ℕ → Bool) (place : ℕ) where
     by true e = subst (λ p. remove (places_in old p) index ≡ places_among (is_left replies given_too p) 0 count) ((bytes_eq-Decides policy other).0 e) taken
     by false e = left other ∙ (λ k. places_among (λ n. given_to_other policy other e is n k) 0 count)
 
-  -- with one more reply, which wasn't given
+  -- the replies left with one more reply, which wasn't given
   pub left_more : (reply : Reply) (old new : List PolicyPlaces) → AreLeft replies given place old → slice_get replies place ≡ Some reply → given (suc place) ≡ false → GainsPlace old reply.binary place new → AreLeft replies given (place + 1) new
   left_more reply old new left there none gains other =
       let same : suc place ≡ place + 1 = omega arith in
@@ -113,7 +113,7 @@ module _ (i : Input) (st : State) (added : Added) (is : IsAdded i st added) wher
       let for = is_for_rule rule (Some reply) in
       and_assoc of for (not given) ∙ ap (λ b. of && b) (and_comm for (not given)) ∙ sym (and_assoc of (not given) for)
 
-  -- the next reply is the machine's
+  -- the next reply is that of the law's machine
   pub next_same : (policy : List ℕ) (rule : Rule) → next_reply i st policy rule ≡ option_map suc (item_at (places_in added.left policy) (next_left added policy rule))
   next_same policy rule =
       least_found (is_reply_left i st policy rule) (is_left i.replies st.replied policy) (λ place. is_for_rule rule (slice_get i.replies place))
@@ -121,7 +121,7 @@ module _ (i : Input) (st : State) (added : Added) (is : IsAdded i st added) wher
       ∙ (λ k. option_map suc (find (λ place. is_for_rule rule (slice_get (sym is.replies k) place)) (sym (is.left policy) k)))
       ∙ ap (option_map suc) (found_at (λ place. is_for_rule rule (slice_get added.replies place)) (places_in added.left policy))
 
-  -- so is what the operator answers
+  -- whether the operator answers is as in the law's machine
   pub asked_same : (s : Snapshot) (mode : Mode) → is_asked i st s mode ≡ answers_in added s mode
   asked_same s Enforce = refl
   asked_same s Learn = refl
@@ -132,7 +132,7 @@ module _ (i : Input) (st : State) (added : Added) (is : IsAdded i st added) wher
         still None = refl
         still (Some n) = refl
 
-  -- and what the session says
+  -- the session's filters are those of the law's machine
   pub filters_same : (policy : List ℕ) (rule : Rule) → session_filters st.session policy rule ≡ session_filters added.filters policy rule
   filters_same policy rule = ap (λ session. session_filters session policy rule) is.session
 
@@ -159,7 +159,7 @@ module _ (i : Input) (st : State) (added : Added) (is : IsAdded i st added) wher
       one : suc place ≡ place + 1
       one = omega arith
 
--- what was added is the machine's in each state that has the same session and the same replies given
+-- what was added represents each state that has the same session and the same replies given
 pub added_stands : (i : Input) (st new : State) (added : Added) → new.session ≡ st.session → new.replied ≡ st.replied → IsAdded i st added → IsAdded i new added
 added_stands i st new added session replied is = record {
   session = session ∙ is.session;

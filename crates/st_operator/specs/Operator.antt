@@ -1,4 +1,4 @@
--- What the operator has added to a run, against what the law's machine keeps of it.
+-- What the operator has added to a run, and how it represents the state of the law's machine.
 use Rattle.std.specs.Prelude.{◌≡◌, ℕ, zero, suc, Bool, false, true, ◌&&◌, not, if◌then◌else◌, List, [], ◌∷◌, length, slice_get, Option, Some, None, is_some}
 use Rattle.std.specs.List.{position}
 use Rattle.std.specs.Str.{bytes_eq}
@@ -13,7 +13,7 @@ use Rattle.st_law.specs.declared.input.Mode.{Mode}
 use Rattle.st_law.specs.declared.input.Mode.TheVariants.{Enforce, Learn, AskText}
 use Rattle.st_learn.specs.Places.{PolicyPlaces, places_in}
 
--- the filters of the session, the script's replies, and for each policy the places of those that were not given yet
+-- the filters of the session, the script's replies, and for each policy the indices of its replies that were not given yet
 pub record Added : Type 0 where
   pub filters : List SessionFilter
   pub replies : List Reply
@@ -21,46 +21,46 @@ pub record Added : Type 0 where
 
 -- ---- the next reply
 
--- whether there is a reply here for a rule, of whatever policy
+-- whether an optional reply is for a rule, of whatever policy
 abbrev pub is_for_rule : Rule → Option Reply → Bool
 is_for_rule rule None = false
 is_for_rule rule (Some reply) = is_for rule reply.filter.name
 
--- where among the replies left of a policy the next for a rule stands, if there is one
+-- where, among the replies left of a policy, the next reply for a rule is, if there is one
 abbrev pub next_left : Added → List ℕ → Rule → Option ℕ
 next_left added policy rule = position (λ place. is_for_rule rule (slice_get added.replies place)) (places_in added.left policy)
 
--- whether the operator answers for a call with these copies that no filter decides, by the mode
+-- whether the operator would answer a call with these copies that no filter decides, by this mode
 abbrev pub answers_in : Added → Snapshot → Mode → Bool
 answers_in added s Enforce = false
 answers_in added s Learn = true
 answers_in added s AskText = is_some (next_left added s.policy s.rule)
 
--- whether the operator does
+-- the same by the mode of the input
 abbrev pub answers : Input → Added → Snapshot → Bool
 answers i added s = answers_in added s i.options.mode
 
 -- ---- which replies are left
 
--- those of a kind among so many places from this one on, in order
+-- the numbers of a kind among so many from this one on, in order
 abbrev pub places_among : (ℕ → Bool) → ℕ → ℕ → List ℕ
 places_among is n zero = []
 places_among is n (suc count) = if is n then n ∷ places_among is (suc n) count else places_among is (suc n) count
 
--- whether there is a reply here for a policy, of whatever rule
+-- whether an optional reply is for a policy, of whatever rule
 abbrev pub is_reply_of : List ℕ → Option Reply → Bool
 is_reply_of policy None = false
 is_reply_of policy (Some reply) = bytes_eq reply.binary policy
 
--- whether the reply at a place is for a policy and was not given yet, by the numbers that were; one at place n has number n + 1
+-- whether the reply at an index is for a policy and was not given yet; the reply at index n has number n + 1
 abbrev pub is_left : List Reply → (ℕ → Bool) → List ℕ → ℕ → Bool
 is_left replies given policy place = is_reply_of policy (slice_get replies place) && not (given (suc place))
 
--- of each policy, the places of those of its replies that were not given yet, among the first so many
+-- for each policy, the indices of its replies that were not given yet, among the first so many
 abbrev pub AreLeft : List Reply → (ℕ → Bool) → ℕ → List PolicyPlaces → Type 0
 AreLeft replies given count left = (policy : List ℕ) → places_in left policy ≡ places_among (is_left replies given policy) 0 count
 
--- what was added is what the machine keeps of it
+-- what was added represents the session of the state, and which replies it has given
 pub record IsAdded (i : Input) (st : State) (added : Added) : Type 0 where
   pub session : st.session ≡ added.filters
   pub replies : added.replies ≡ i.replies

@@ -1,4 +1,4 @@
-//! The operator: what is learnt and replied in a run, beside the filters that were read.
+//! Answers questions for the operator: it learns filters or gives the script's replies, which are added to the filters that were read.
 #![tactic(auto)]
 
 pub mod operator;

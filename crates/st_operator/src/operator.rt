@@ -20,17 +20,17 @@ use st_trace::Entry;
 use std::alloc::{AllocError, Global};
 use std::marker::Model;
 
-// So many replies are too many for their numbers.
+// A list of this many replies is refused, so that their numbers fit in 32 bits.
 const MOST_REPLIES: usize = 0xffff_ffff;
 
-/// What the operator has added to a run: the filters of the session, and which of the script's replies were given. Those left for a policy are
-/// found without the others.
+/// What the operator has added to a run: the filters of the session, and which of the script's replies were given. The replies left for a
+/// policy are found without looking at the others.
 #[derive(Debug, Drop)]
 pub struct Operator<'a> {
     session: Session,
-    // Reply n stands at n - 1.
+    // Reply n is at index n - 1.
     replies: &'a [Reply],
-    // Where those of each policy stand that were not given yet.
+    // For each policy, the indices of its replies that were not given yet.
     left: Places,
 }
 
@@ -49,7 +49,7 @@ impl<'a> Model for Operator<'a> {
     ghost invariant = { λ o. length o.replies.now < 2 ^ 32 - 1 };
 }
 
-// Where the replies for each policy stand.
+// The indices of the replies for each policy.
 fn places_of(alloc: Global, replies: &[Reply]) -> Result<Places, AllocError>
     ensures { IfOk result (AreLeft replies.now (λ number. false) (length replies.now)) }
 {
@@ -62,7 +62,7 @@ fn places_of(alloc: Global, replies: &[Reply]) -> Result<Places, AllocError>
 }
 
 impl<'a> Operator<'a> {
-    /// Nothing learnt, and none of these replies given. More replies than have a number of 32 bits are taken as want of memory.
+    /// Nothing learnt, and none of these replies given. More replies than have a number of 32 bits are reported as out of memory.
     pub fn new(alloc: Global, replies: &'a [Reply]) -> Result<Self, AllocError>
         ensures law { IfOk result (λ operator. (input : Input) → input.replies ≡ replies.now → IsAdded input (first_state input) operator) }
     {
@@ -83,21 +83,22 @@ impl<'a> Operator<'a> {
         &self.session
     }
 
-    /// What the kernel answers by itself by the session's first filter for a policy and a rule; none where the session has none.
+    /// The kernel's own answer by the session's first filter for a policy and a rule; none if the session has no such filter.
     pub fn first_answer(&self, policy: &[u8], rule: Rule) -> Option<FastAnswer>
         ensures { result ≡ first_answer (session_filters self.now.filters policy.now rule) }
     {
         self.session.first_answer(policy, rule)
     }
 
-    /// What the session's filters say of a held call on which the filters that were read don't decide, by the copies of its arguments.
+    /// The verdict of the session's filters on a held call on which the filters that were read don't decide, by the copies of its
+    /// arguments.
     pub fn verdict(&self, policies: &PolicySet, copies: &Snapshot) -> Verdict
         ensures { result ≡ verdict_from (suc (length (read_filters policies.now copies.now.policy copies.now.rule))) (session_filters self.now.filters copies.now.policy copies.now.rule) copies.now }
     {
         self.session.verdict(policies, copies)
     }
 
-    // Whether a reply for a rule stands at a place.
+    // Whether the reply at an index is for a rule.
     fn is_for(&self, place: usize, rule: Rule) -> bool
         ensures { result ≡ is_for_rule rule (slice_get self.now.replies place) }
     {
@@ -107,14 +108,14 @@ impl<'a> Operator<'a> {
         }
     }
 
-    // Where among the places of some replies the first for a rule stands.
+    // Where, among these indices of replies, the first reply for a rule is.
     fn first_for(&self, places: &[usize], rule: Rule) -> Option<usize>
         ensures { result ≡ position (λ place. is_for_rule rule (slice_get self.now.replies place)) places.now }
     {
         places.iter().position(|place| self.is_for(*place, rule))
     }
 
-    // In which row the replies left for a policy stand, and where among them the first for a rule does.
+    // The row of the replies left for a policy, and where in it the first reply for a rule is.
     fn next_left(&self, policy: &[u8], rule: Rule) -> Option<(usize, usize)>
         ensures none { result ≡ None → next_left self.now policy.now rule ≡ None }
         ensures row { IfSome result (λ found. row_of self.now.left policy.now ≡ Some found.0) }
@@ -125,8 +126,8 @@ impl<'a> Operator<'a> {
         Some((row, index))
     }
 
-    /// Whether the operator answers for a held call on which no filter decides, by the copies of its arguments: each is learnt, or there is a
-    /// reply left for its policy and rule, as the mode says.
+    /// Whether the operator would answer a held call that no filter decides, by the copies of its arguments. As the mode says, each call is
+    /// learnt, or a reply has to be left for the policy and the rule of the call.
     pub fn answers(&self, input: &Input, copies: &Snapshot) -> bool
         ensures { result ≡ answers input.now self.now copies.now }
     {
@@ -139,7 +140,7 @@ impl<'a> Operator<'a> {
         }
     }
 
-    // Keeps a filter for the policy and the rule of these copies, and gives its number. Without memory nothing changes.
+    // Keeps a filter for the policy and the rule of these copies, and returns its number. If memory runs out, nothing changes.
     fn keep(
         &mut self,
         alloc: Global,
@@ -158,7 +159,7 @@ impl<'a> Operator<'a> {
         Ok(read_count(policies, policy, copies.rule) + before + 1)
     }
 
-    // Keeps the filter that these copies teach.
+    // Keeps the filter that is learnt from these copies.
     fn learn(
         &mut self,
         alloc: Global,
@@ -178,7 +179,7 @@ impl<'a> Operator<'a> {
         })
     }
 
-    // Keeps the filter of the next reply for these copies, which stands at this index of the row of those left for the policy.
+    // Keeps the filter of the next reply for these copies, which is at this index of the row of the replies left for the policy.
     #[tactic(auto, using(crate::proofs::Replies::place_within))]
     fn reply(
         &mut self,
@@ -205,8 +206,8 @@ impl<'a> Operator<'a> {
         })
     }
 
-    /// Answers the question of the call with these copies, as the mode says, and gives the entry that this adds. Without memory nothing
-    /// changes.
+    /// Answers the question of the call with these copies, as the mode says, and returns the entry that this adds. If memory runs out,
+    /// nothing changes.
     pub fn answer(
         &mut self,
         alloc: Global,

@@ -21,7 +21,7 @@ returns-in_err-place-clause-none c = (λ _ seq. none_waits c.args.self.now.live 
 pub returns-in_err-place-clause-first : goal.returns-in_err-place-clause-first
 returns-in_err-place-clause-first c = c.from_residual.ensures ∙ sym (ap (option_map (λ (message : Message). message.seq)) (none c))
 
--- the first message that waits
+-- the first waiting message
 abbrev first : goal.After-set_state_at → Message
 first c = get_or c.args.self.now.live c.in_ok-place.place (waiting_message 0 0)
 

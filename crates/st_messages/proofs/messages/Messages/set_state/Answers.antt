@@ -7,7 +7,7 @@ use Rattle.st_messages.specs.Messages.{HeldCalls, has_number, is_live, message_i
 use Rattle.st_messages.proofs.Lookups.{found_nowhere}
 use Rattle.st_messages.proofs.messages.Messages.set_state.Goals as goal
 
--- the message at the place has the number
+-- the message at the index has the number
 number : (c : goal.After-set_state_at) → c.set_state_at.result ≡ c.args.seq
 number c =
     let default = waiting_message 0 0 in
@@ -20,7 +20,7 @@ returns-in-Some-clause-calls c = c.set_state_at.ensures.calls ∙ ap (λ seq. wi
 pub returns-in-Some-clause-states : goal.returns-in-Some-clause-states
 returns-in-Some-clause-states c = subst (λ seq. ChangesState c.args.self.now seq (Some c.args.state) c.set_state_at.new.self) (number c) c.set_state_at.ensures.states
 
--- a live number stands somewhere
+-- a live number has an index
 nowhere : (c : goal.In_default) → ⊥
 nowhere c =
     let none : message_in c.self.inside.live.items c.args.seq ≡ None = found_nowhere (has_number c.args.seq) c.self.inside.live.items (sym (c.place_of.ensures ∙ ap (position (has_number c.args.seq)) c.deref.ensures.value) ∙ c.in_default.is) in

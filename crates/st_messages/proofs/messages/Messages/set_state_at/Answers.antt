@@ -8,7 +8,7 @@ use Rattle.st_messages.proofs.messages.Messages.set_state_at.Goals as goal
 inside : (c : goal.After-self-1) → c.args.place < length c.self.inside.live.items
 inside c = subst (λ (calls : HeldCalls). c.args.place < length calls.live) (sym c.self.view_is) c.requires.place
 
--- the message is live where it stands
+-- the message at the index is live
 live : (c : goal.After-self-1) → is_live c.args.self.now c.index_mut-message.result.now.seq ≡ true
 live c =
     ap (λ (calls : HeldCalls). is_live calls c.index_mut-message.result.now.seq) (sym c.self.view_is)

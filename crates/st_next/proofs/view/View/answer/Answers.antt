@@ -14,7 +14,7 @@ use Rattle.st_next.specs.Machine.{IsMachine, Running}
 use Rattle.st_next.specs.NextSteps.{IsAnswerOf}
 use Rattle.st_next.proofs.view.View.answer.Goals as goal
 
--- the first of the filters that were read answers, or else the first of those of the session
+-- the first of the filters that were read answers, or otherwise the first of the session's
 answered : (m : Running) (st : State) → IsMachine m st → (own policy : List ℕ) (its rule : Rule) (given : FastAnswer) → own ≡ policy → rule ≡ its
     → unwrap_or (option_or (first_answer (read_filters m.input.policies policy rule)) (first_answer (session_filters m.operator.filters policy rule))) Ask ≡ given
     → fast (read_filters m.input.policies own its ++ session_filters st.session own its) ≡ given
