@@ -30,7 +30,7 @@ last_true : (b : Bool) → (b || true) ≡ true
 last_true true = refl
 last_true false = refl
 
--- some argument has the text that it is asked for
+-- some argument has the text that is asked for
 asked_one : (label : List ℕ) (index : ℕ) (text : List ℕ) (a b : Bool) (arg : ArgText) (args : List ArgText) → test_holds_of label index op.Eq text arg ≡ a → bytes_eq text arg.text ≡ b
     → (a || list_any (test_holds_of label index op.Eq text) args) ≡ true → (list_any (test_holds_of label index op.Eq text) args ≡ true → list_any (λ each. bytes_eq text each.text) args ≡ true) → (b || list_any (λ each. bytes_eq text each.text) args) ≡ true
 asked_one label index text a true arg args passes same some later = refl
@@ -64,7 +64,7 @@ follows true d e = refl
 follows false true e = e refl
 follows false false e = refl
 
--- a filter that decides on a call asks for no text first, or for that of one of its arguments
+-- a filter that decides on a call asks for no text first, or for the text of one of the call's arguments
 pub asks_of_call : (s : Snapshot) (kept : SessionFilter) → ((asks_first [] kept || list_any (λ (arg : ArgText). asks_first arg.text kept) s.parts) && decides s kept) ≡ decides s kept
 asks_of_call s kept =
     follows (asks_first [] kept || list_any (λ (arg : ArgText). asks_first arg.text kept) s.parts) (decides s kept)

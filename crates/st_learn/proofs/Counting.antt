@@ -1,4 +1,4 @@
--- How many filters of a policy and a rule stand before a place of that policy.
+-- How many filters of a policy and a rule are before an index of that policy.
 use Rattle.std.proofs.Common.{◌≡◌, ◌≤◌, ◌<◌, ◌+◌, ◌∙◌, ◌++◌, ◌&&◌, ℕ, suc, zero, Bool, true, false, cond, List, [], ◌∷◌, length, map, filter, Option, Some, None, refl, ap, sym, subst, take, get_or, arith}
 use Rattle.std.proofs.lemmas.List.{append_assoc, append-nil}
 use Rattle.std.specs.Prelude.{slice_get}
@@ -9,7 +9,7 @@ use Rattle.st_law.specs.Sessions.{SessionFilter, session_filters}
 use Rattle.st_learn.specs.Sessions.{is_of, places_from}
 use Rattle.st_learn.proofs.Filters.{filters_at, is_of_rule, one_longer, there, with_kind}
 
--- ---- places are no less than where they are numbered from
+-- ---- indices are at least the number of the first item
 
 low_by : (b : Bool) (n : ℕ) (ps : List ℕ) (i : ℕ) → i < length (cond b (n ∷ ps) ps) → ((j : ℕ) → j < length ps → suc n ≤ get_or ps j 0) → n ≤ get_or (cond b (n ∷ ps) ps) i 0
 low_by true n ps zero inside later = omega arith
@@ -20,9 +20,9 @@ low_from : {X : Type 0} (is : X → Bool) (n : ℕ) (xs : List X) (i : ℕ) → 
 low_from is n [] i inside = absurd (omega (arith, inside))
 low_from is n (x ∷ xs) i inside = low_by (is x) n (places_from is (suc n) xs) i inside (low_from is (suc n) xs)
 
--- ---- the filters before a place
+-- ---- the filters before an index
 
--- so many of some items, of which the first may be left out
+-- so many of some items, where the first may be left out
 abbrev pub of_first : Bool → SessionFilter → (ℕ → List SessionFilter) → ℕ → List SessionFilter
 of_first b kept rest zero = []
 of_first b kept rest (suc n) = cond b (kept ∷ rest n) (rest n)
@@ -65,7 +65,7 @@ module _ (of is : SessionFilter → Bool) where
       inside place
       ∙ ap filters_of (taken_first both kept back q)
 
--- those of a rule among a policy's places before one of them are all before it of that policy and rule
+-- the filters of a rule at a policy's indices before one of them are all the filters before it of that policy and rule
 pub filters_before : (session : List SessionFilter) (policy : List ℕ) (rule : Rule) (items : List ℕ) (i : ℕ) → items ≡ places_from (is_of policy) 0 session → i < length items
     → filters_at session (is_of_rule rule) (take i items) ≡ session_filters (take (get_or items i 0) session) policy rule
 filters_before session policy rule items i are inside =
@@ -73,7 +73,7 @@ filters_before session policy rule items i are inside =
     subst (λ ps. filters_at session (is_of_rule rule) (take i ps) ≡ session_filters (take (get_or ps i 0) session) policy rule) (sym are)
     (taken_behind (is_of policy) (is_of_rule rule) [] session i (get_or (places_from (is_of policy) 0 session) i 0) (subst (λ ps. i < length ps) are inside) sum)
 
--- ---- one place more
+-- ---- one more index
 
 next_by : (is : SessionFilter → Bool) (session : List SessionFilter) (o : Option SessionFilter) (fs gs : List FilterValue) → with_kind is o (fs ++ gs) ≡ with_kind is o fs ++ gs
 next_by is session None fs gs = refl
@@ -89,7 +89,7 @@ filters_next session is (p ∷ ps) (suc i) inside =
     ap (with_kind is (slice_get session p)) (filters_next session is ps i (omega (arith, inside)))
     ∙ next_by is session (slice_get session p) (filters_at session is (take i ps)) (with_kind is (slice_get session (get_or ps i 0)) [])
 
--- a place whose filter isn't of the kind adds none
+-- an index whose filter isn't of the kind adds no filter
 pub filters_without : (session : List SessionFilter) (is : SessionFilter → Bool) (items : List ℕ) (i : ℕ) (kept : SessionFilter) → i < length items → slice_get session (get_or items i 0) ≡ Some kept → is kept ≡ false
     → filters_at session is (take (suc i) items) ≡ filters_at session is (take i items)
 filters_without session is items i kept inside at other =
@@ -98,7 +98,7 @@ filters_without session is items i kept inside at other =
     ∙ (λ k. filters_at session is (take i items) ++ cond (other k) (kept.filter ∷ []) [])
     ∙ append-nil (filters_at session is (take i items))
 
--- and one whose filter is adds one
+-- an index whose filter is of the kind adds one filter
 pub filters_with : (session : List SessionFilter) (is : SessionFilter → Bool) (items : List ℕ) (i : ℕ) (kept : SessionFilter) → i < length items → slice_get session (get_or items i 0) ≡ Some kept → is kept ≡ true
     → length (filters_at session is (take (suc i) items)) ≡ suc (length (filters_at session is (take i items)))
 filters_with session is items i kept inside at other =
@@ -110,7 +110,7 @@ filters_with session is items i kept inside at other =
       longer [] = refl
       longer (f ∷ fs) = ap suc (longer fs)
 
--- ---- a place of a policy is that of a filter of the policy
+-- ---- an index of a policy is that of one of its filters
 
 own_by : (is : SessionFilter → Bool) (b : Bool) (x kept : SessionFilter) (session : List SessionFilter) (n : ℕ) (ps : List ℕ) (i : ℕ) → is x ≡ b → slice_get session n ≡ Some x → ((j : ℕ) → j < length ps → slice_get session (get_or ps j 0) ≡ Some kept → is kept ≡ true)
     → i < length (cond b (n ∷ ps) ps) → slice_get session (get_or (cond b (n ∷ ps) ps) i 0) ≡ Some kept → is kept ≡ true

@@ -1,4 +1,4 @@
--- The policies with what a session has added decide as the session does.
+-- The policies with the session's filters decide as the filters that were read do, followed by the session's.
 use Rattle.std.proofs.Common.{◌≡◌, ◌≢◌, ◌+◌, ◌∙◌, ◌++◌, ◌||◌, ◌&&◌, ℕ, suc, Bool, true, false, cond, List, [], ◌∷◌, length, map, filter, refl, ap, sym, arith}
 use Rattle.std.proofs.lemmas.List.Elements.{All-head, All-tail}
 use Rattle.std.proofs.lemmas.Slice.Eq.{bytes_eq-Decides}
@@ -38,7 +38,7 @@ nothing : (t : Bool) → cond {A = List FilterValue} t [] [] ≡ []
 nothing true = refl
 nothing false = refl
 
--- an empty policy more gives no filters
+-- one more empty policy adds no filters
 none_begun : (ps : List BinaryPolicy) (c b : List ℕ) → policy_of (ps ++ empty_policy c ∷ []) b ≡ policy_of ps b
 none_begun [] c b = nothing (bytes_eq c b)
 none_begun (p ∷ ps) c b = ap (λ fs. cond (bytes_eq p.binary b) p.filters fs) (none_begun ps c b)
@@ -51,7 +51,7 @@ all_same : (session : List SessionFilter) (ps : List BinaryPolicy) (b : List ℕ
 all_same [] ps b = refl
 all_same (kept ∷ session) ps b = all_same session (with_policy ps kept.policy) b ∙ with_by (has_policy ps kept.policy) ps kept.policy b
 
--- a policy that isn't there has no filters
+-- a policy that doesn't exist has no filters
 no_policy : (ps : List BinaryPolicy) (b : List ℕ) → has_policy ps b ≡ false → policy_of ps b ≡ []
 no_policy [] b none = refl
 no_policy (p ∷ ps) b none = by (bytes_eq p.binary b) none (no_policy ps b) where
@@ -109,7 +109,7 @@ rule_added (kept ∷ session) b rule own =
 
 -- ---- verdicts
 
--- where no filter asks, those behind decide where these don't
+-- if no filter asks, the later filters decide what the earlier ones don't
 both_decide : (n : ℕ) (fs gs : List FilterValue) (s : Snapshot) → NoneAsks fs → verdict_from n (fs ++ gs) s ≡ verdict_or (verdict_from n fs s) (verdict_from (n + length fs) gs s)
 both_decide n [] gs s plain = ap (λ m. verdict_from m gs s) (let same : n ≡ n + 0 = omega arith in same)
 both_decide n (f ∷ fs) gs s plain = by (holds f s) (both_decide (suc n) fs gs s plain.1) where
@@ -141,7 +141,7 @@ own_rules : (session : List SessionFilter) → All IsForItsRule session → AreO
 own_rules [] own = tt
 own_rules (kept ∷ session) own = (All-head IsForItsRule kept session own, own_rules session (All-tail IsForItsRule kept session own))
 
--- so the policies decide as the session did
+-- therefore the policies decide as the session did
 pub decides_by : (ps : List BinaryPolicy) (session : List SessionFilter) (s : Snapshot) → All (λ p. All (λ f. f.action ≢ action.Ask) p.filters) ps → AreOwn session
     → verdict (read_filters (learnt_policies ps session) s.policy s.rule) s ≡ decision (read_filters ps s.policy s.rule) (session_filters session s.policy s.rule) s
 decides_by ps session s plain own =

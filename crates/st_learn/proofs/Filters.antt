@@ -1,4 +1,4 @@
--- The filters of a policy and a rule, found by their places.
+-- The filters of a policy and a rule, found by their indices.
 use Rattle.std.proofs.Common.{◌≡◌, ◌≤◌, ◌<◌, ◌+◌, ◌∙◌, ◌++◌, ◌&&◌, ◌==◌, ℕ, suc, zero, Bool, true, false, cond, List, [], ◌∷◌, length, map, filter, Option, Some, None, refl, ap, sym, subst, get_or, arith}
 use Rattle.std.proofs.lemmas.List.{append-nil, append_assoc}
 use Rattle.std.specs.Prelude.{slice_get}
@@ -12,12 +12,12 @@ use Rattle.st_learn.specs.Learnt.{filters_added}
 use Rattle.st_learn.specs.Places.{GainsPlace, PolicyPlaces, places_in}
 use Rattle.st_learn.specs.Sessions.{is_of, places_asking, places_from, places_of}
 
--- a filter of a session before others, where it is there and of a kind
+-- an optional filter of a session before others, if it exists and is of a kind
 abbrev pub with_kind : (SessionFilter → Bool) → Option SessionFilter → List FilterValue → List FilterValue
 with_kind is None rest = rest
 with_kind is (Some kept) rest = cond (is kept) (kept.filter ∷ rest) rest
 
--- the filters of a kind among those at these places, in order
+-- the filters of a kind among those at these indices, in order
 abbrev pub filters_at : List SessionFilter → (SessionFilter → Bool) → List ℕ → List FilterValue
 filters_at session is [] = []
 filters_at session is (p ∷ ps) = with_kind is (slice_get session p) (filters_at session is ps)
@@ -37,7 +37,7 @@ pub one_longer : {X : Type 0} (front : List X) (x : X) → length (front ++ x �
 one_longer [] x = refl
 one_longer (y ∷ front) x = ap suc (one_longer front x)
 
--- their filters, where the first may be left out
+-- the filters of a list, where the first may be left out
 pub mapped : (b : Bool) (x : SessionFilter) (rest : List SessionFilter) → map (λ (each : SessionFilter). each.filter) (cond b (x ∷ rest) rest) ≡ cond b (x.filter ∷ map (λ each. each.filter) rest) (map (λ each. each.filter) rest)
 mapped true x rest = refl
 mapped false x rest = refl
@@ -59,7 +59,7 @@ module _ (policy : List ℕ) (is : SessionFilter → Bool) where
       (subst (λ session. filters_at session is (places_from (is_of policy) (length (front ++ kept ∷ [])) back) ≡ map (λ each. each.filter) (filter (λ each. is_of policy each && is each) back)) (append_assoc front (kept ∷ []) back)
       (found_behind (front ++ kept ∷ []) back)))
 
--- the filters of a rule at the places of a policy are those of the policy and the rule
+-- the filters of a rule at the indices of a policy are those of the policy and the rule
 pub filters_found : (session : List SessionFilter) (policy : List ℕ) (rule : Rule) (items : List ℕ) → items ≡ places_of session policy → filters_at session (is_of_rule rule) items ≡ session_filters session policy rule
 filters_found session policy rule items are = ap (filters_at session (is_of_rule rule)) are ∙ found_behind policy (is_of_rule rule) [] session
 
@@ -71,11 +71,11 @@ any_of : (policy : List ℕ) (session : List SessionFilter) → filter (λ kept.
 any_of policy [] = refl
 any_of policy (kept ∷ session) = any_by (is_of policy kept) kept (filter (λ each. is_of policy each && is_any each) session) (filter (is_of policy) session) (any_of policy session)
 
--- and all filters there are those of the policy
+-- all filters at the indices of a policy are those of the policy
 pub added_found : (session : List SessionFilter) (policy : List ℕ) (items : List ℕ) → items ≡ places_of session policy → filters_at session is_any items ≡ filters_added session policy
 added_found session policy items are = ap (filters_at session is_any) are ∙ found_behind policy is_any [] session ∙ ap (map (λ each. each.filter)) (any_of policy session)
 
--- ---- places
+-- ---- indices
 
 pub inside_by : (b : Bool) (n m : ℕ) (ps : List ℕ) (i d : ℕ) → n < m → i < length (cond b (n ∷ ps) ps) → ((j : ℕ) → j < length ps → get_or ps j d < m) → get_or (cond b (n ∷ ps) ps) i d < m
 inside_by true n m ps zero d low lt later = low
@@ -88,11 +88,11 @@ inside_from is n (x ∷ xs) i d lt =
     inside_by (is x) n (n + suc (length xs)) (places_from is (suc n) xs) i d (omega arith) lt
     (λ j lt. let later : get_or (places_from is (suc n) xs) j d < suc n + length xs = inside_from is (suc n) xs j d lt in omega (arith, later))
 
--- each place of a kind is that of a filter
+-- each index of a kind is that of a filter
 place_inside : (session : List SessionFilter) (is : SessionFilter → Bool) (i d : ℕ) → i < length (places_from is 0 session) → get_or (places_from is 0 session) i d < length session
 place_inside session is i d lt = let inside : get_or (places_from is 0 session) i d < 0 + length session = inside_from is 0 session i d lt in omega (arith, inside)
 
--- the place of an item that is left is that of a filter
+-- an index that is left is that of a filter
 pub item_inside : (session : List SessionFilter) (is : SessionFilter → Bool) (items : List ℕ) (i d : ℕ) → items ≡ places_from is 0 session → i < length items → get_or items i d < length session
 item_inside session is items i d are lt =
     subst (λ ps. get_or ps i d < length session) (sym are) (place_inside session is i d (subst (λ ps. i < length ps) are lt))
@@ -105,7 +105,7 @@ few_from : {X : Type 0} (is : X → Bool) (n : ℕ) (xs : List X) → length (pl
 few_from is n [] = omega arith
 few_from is n (x ∷ xs) = fewer_by (is x) n (length xs) (places_from is (suc n) xs) (few_from is (suc n) xs)
 
--- a policy has no more places than there are filters
+-- a policy has at most as many indices as there are filters
 pub few_items : (session : List SessionFilter) (policy : List ℕ) (items : List ℕ) → items ≡ places_of session policy → length items ≤ length session
 few_items session policy items are = subst (λ ps. length ps ≤ length session) (sym are) (few_from (is_of policy) 0 session)
 
@@ -126,7 +126,7 @@ more_of : (b : Bool) (ps : List ℕ) (n : ℕ) → cond b (ps ++ n ∷ []) ps �
 more_of true ps n = refl
 more_of false ps n = sym (append-nil ps)
 
--- a filter more has its place among those of its key, and no other's
+-- one more filter has its index among those of its key, and of no other
 places_added : (key : SessionFilter → List ℕ) (session : List SessionFilter) (kept : SessionFilter) (wanted : List ℕ) (n : ℕ) → n ≡ length session
     → cond (bytes_eq (key kept) wanted) (places_from (λ each. bytes_eq (key each) wanted) 0 session ++ n ∷ []) (places_from (λ each. bytes_eq (key each) wanted) 0 session) ≡ places_from (λ each. bytes_eq (key each) wanted) 0 (session ++ kept ∷ [])
 places_added key session kept wanted n is =
@@ -135,7 +135,7 @@ places_added key session kept wanted n is =
     ∙ ap (λ m. places_from (λ each. bytes_eq (key each) wanted) 0 session ++ cond (bytes_eq (key kept) wanted) (m ∷ []) []) last
     ∙ sym (places_more (λ each. bytes_eq (key each) wanted) 0 session kept)
 
--- so the places by keys, as of policies, are those of the filters, with one filter more
+-- therefore the indices by keys, such as policies, are those of the filters, with one more filter
 pub added_places : (key : SessionFilter → List ℕ) (old new : List PolicyPlaces) (session : List SessionFilter) (kept : SessionFilter) (n : ℕ)
     → ((wanted : List ℕ) → places_in old wanted ≡ places_from (λ each. bytes_eq (key each) wanted) 0 session) → GainsPlace old (key kept) n new → n ≡ length session
     → (wanted : List ℕ) → places_in new wanted ≡ places_from (λ each. bytes_eq (key each) wanted) 0 (session ++ kept ∷ [])
@@ -147,6 +147,6 @@ pub some_text : (text : List ℕ) → (length text == 0) ≡ false → bytes_eq 
 some_text [] e = cc
 some_text (b ∷ text) e = refl
 
--- where none asked for no text, and one more asks for some, none does
+-- if no filter asked for no text, and one more filter asks for some text, still none does
 pub still_texts : (session : List SessionFilter) (kept : SessionFilter) → asks_first [] kept ≡ false → places_asking session [] ≡ [] → places_asking (session ++ kept ∷ []) [] ≡ []
 still_texts session kept asks none = places_more (asks_first []) 0 session kept ∙ (λ k. none k ++ cond (asks k) ((0 + length session) ∷ []) [])

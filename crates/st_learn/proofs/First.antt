@@ -11,7 +11,7 @@ use Rattle.st_learn.specs.Deciding.{first_at, lesser}
 use Rattle.st_learn.specs.Sessions.{places_from}
 use Rattle.st_learn.proofs.Filters.{one_longer, there}
 
--- of the same kind it is the same
+-- equal kinds have the same first item
 pub first_same : {X : Type 0} (p q : X → Bool) (xs : List X) → ((x : X) → p x ≡ q x) → first_at p xs ≡ first_at q xs
 first_same p q xs same = λ i. first_at (λ x. same x i) xs
 
@@ -57,7 +57,7 @@ lesser_by true false o r both e = least_first r
 lesser_by false true o r both e = least_second o
 lesser_by false false o r both e = lesser_suc o r ∙ ap (option_map suc) e
 
--- the lesser of the first ones of two kinds is the first of either kind
+-- the lesser of the first items of two kinds is the first of either kind
 pub first_lesser : {X : Type 0} (p q : X → Bool) (xs : List X) → lesser (first_at p xs) (first_at q xs) ≡ first_at (λ x. p x || q x) xs
 first_lesser p q [] = refl
 first_lesser p q (x ∷ xs) = lesser_by (p x) (q x) (first_at p xs) (first_at q xs) (first_at (λ y. p y || q y) xs) (first_lesser p q xs)
@@ -78,7 +78,7 @@ joined : (c a r d : Bool) → (((c || a) || r) && d) ≡ ((c || (a || r)) && d)
 joined true a r d = refl
 joined false a r d = refl
 
--- the lesser of the first ones of all of these kinds is the first of any of them
+-- the least of the first items of all these kinds is the first of any of them
 pub first_of_any : {X A : Type 0} (asks : A → X → Bool) (d : X → Bool) (xs : List X) (kinds : List A) (c : X → Bool)
     → fold (λ first a. lesser first (first_at (λ x. asks a x && d x) xs)) (first_at (λ x. c x && d x) xs) kinds ≡ first_at (λ x. (c x || list_any (λ a. asks a x) kinds) && d x) xs
 first_of_any asks d xs [] c = sym (first_same (λ x. (c x || false) && d x) (λ x. c x && d x) xs (λ x. none_more (c x) (d x)))
@@ -88,14 +88,14 @@ first_of_any asks d xs (a ∷ kinds) c =
     ∙ first_of_any asks d xs kinds (λ x. c x || asks a x)
     ∙ first_same (λ x. ((c x || asks a x) || list_any (λ b. asks b x) kinds) && d x) (λ x. (c x || (asks a x || list_any (λ b. asks b x) kinds)) && d x) xs (λ x. joined (c x) (asks a x) (list_any (λ b. asks b x) kinds) (d x))
 
--- ---- among places
+-- ---- among indices
 
--- whether a filter is there, and of a kind
+-- whether an optional filter exists and is of a kind
 abbrev pub is_there : (SessionFilter → Bool) → Option SessionFilter → Bool
 is_there is None = false
 is_there is (Some kept) = is kept
 
--- the first of these places whose filter is of a kind
+-- the first of these indices whose filter is of a kind
 abbrev pub first_in : List SessionFilter → (SessionFilter → Bool) → List ℕ → Option ℕ
 first_in session is [] = None
 first_in session is (p ∷ ps) = cond (is_there is (slice_get session p)) (Some p) (first_in session is ps)
@@ -126,17 +126,17 @@ module _ (of is : SessionFilter → Bool) where
       (subst (λ session. first_in session is (places_from of (length (front ++ kept ∷ [])) back) ≡ option_map (λ i. length (front ++ kept ∷ []) + i) (first_at (λ each. of each && is each) back)) (append_assoc front (kept ∷ []) back)
       (found_behind (front ++ kept ∷ []) back)))
 
--- the first of the places of one kind whose filter is of another is the first of both kinds
+-- the first of the indices of one kind whose filter is of another kind is the first of both kinds
 pub first_found : (session : List SessionFilter) (of is : SessionFilter → Bool) (items : List ℕ) → items ≡ places_from of 0 session → first_in session is items ≡ first_at (λ kept. of kept && is kept) session
 first_found session of is items are = ap (first_in session is) are ∙ found_behind of is [] session ∙ unshifted (first_at (λ kept. of kept && is kept) session)
 
--- the first of those that are left, where it is of the kind
+-- the first of the indices that are left, if its filter is of the kind
 pub here_first : (session : List SessionFilter) (is : SessionFilter → Bool) (items : List ℕ) (i : ℕ) → i < length items → is_there is (slice_get session (get_or items i 0)) ≡ true → Some (get_or items i 0) ≡ first_in session is (drop i items)
 here_first session is [] i inside e = absurd (omega (arith, inside))
 here_first session is (p ∷ ps) zero inside e = λ k. cond (sym e k) (Some p) (first_in session is ps)
 here_first session is (p ∷ ps) (suc i) inside e = here_first session is ps i (omega (arith, inside)) e
 
--- none where none are left
+-- none if none are left
 pub none_left : (session : List SessionFilter) (is : SessionFilter → Bool) (items : List ℕ) (i : ℕ) → length items ≤ i → None ≡ first_in session is (drop i items)
 none_left session is items i e = ap (first_in session is) (sym (drop_all i items e))
 
@@ -147,13 +147,13 @@ inside_by false None n p later e = absurd (clash e) where
   clash e = cc
 inside_by false (Some q) n p later e = let same = same_Some (suc q) p e in let less = later q refl in omega (arith, same, less)
 
--- the first one is there
+-- the first item's index is within the list
 pub first_inside : {X : Type 0} (is : X → Bool) (xs : List X) (p : ℕ) → first_at is xs ≡ Some p → p < length xs
 first_inside is [] p e = absurd (clash e) where
   clash : None ≡ Some p → ⊥
   clash e = cc
 first_inside is (x ∷ xs) p e = inside_by (is x) (first_at is xs) (length xs) p (first_inside is xs) e
 
--- a fold goes on behind an item
+-- a fold goes on after an item
 pub fold_next : {A B : Type 0} (f : B → A → B) (z : B) (xs : List A) (i : ℕ) (d : A) → i < length xs → fold f (f z (get_or xs i d)) (drop (suc i) xs) ≡ fold f z (drop i xs)
 fold_next f z xs i d inside = ap (fold f z) (sym (drop-cons xs i d inside))

@@ -1,4 +1,4 @@
--- The first filter of a session that decides on a call, what it says, and its number.
+-- The first filter of a session that decides on a call, its verdict, and its number.
 use Rattle.std.proofs.Common.{◌≡◌, ◌+◌, ◌∙◌, ◌&&◌, ◌||◌, ℕ, suc, zero, Bool, true, false, cond, List, [], ◌∷◌, length, filter, Option, Some, None, option_map, refl, ap, sym, subst, take, ◌-◌, arith}
 use Rattle.std.proofs.lemmas.List.Elements.{All-cons, All-head, All-nil, All-tail}
 use Rattle.std.proofs.lemmas.Option.{same_Some}
@@ -20,11 +20,11 @@ use Rattle.st_learn.proofs.Asking.{asks_of_call, left_of, right_of}
 use Rattle.st_learn.proofs.Filters.{mapped}
 use Rattle.st_learn.proofs.First.{first_of_any, first_same}
 
--- the first place that decides, or an earlier one whose filter asks for an argument's text first and decides
+-- the first index that decides, or an earlier one whose filter asks for an argument's text first and decides
 abbrev pub earlier_with : Snapshot → List SessionFilter → Option ℕ → ArgText → Option ℕ
 earlier_with s session first arg = lesser first (first_at (λ kept. asks_first arg.text kept && decides s kept) session)
 
--- among those that ask for none, and those that ask for an argument's text, the first that decides is the first of all
+-- among the filters that ask for no text, and those that ask for an argument's text, the first that decides is the first of all
 pub earliest : (s : Snapshot) (session : List SessionFilter) → fold (earlier_with s session) (first_at (λ kept. asks_first [] kept && decides s kept) session) s.parts ≡ first_at (decides s) session
 earliest s session =
     first_of_any (λ (arg : ArgText) kept. asks_first arg.text kept) (decides s) session s.parts (asks_first [])
@@ -34,20 +34,20 @@ earliest s session =
 abbrev pub filters_for : Snapshot → List SessionFilter → List FilterValue
 filters_for s session = session_filters session s.policy s.rule
 
--- this filter, which has so many before it among these, is the first that holds
+-- this filter, which has so many of these filters before it, is the first that holds
 pub record IsFirst (s : Snapshot) (filters : List FilterValue) (n : ℕ) (kept : SessionFilter) : Type 0 where
   pub is_kept : is_kept_for s.policy s.rule kept ≡ true
   pub there : slice_get filters n ≡ Some kept.filter
   pub holds_of_call : holds kept.filter s ≡ true
   pub none_before : NoneHolds (take n filters) s
 
--- which filter holds first where the first one that decides is at this place
+-- the filter at this index, which decides first, is the first that holds
 abbrev pub HoldsFirst : Snapshot → List SessionFilter → Option ℕ → Type 0
 HoldsFirst s session None = NoneHolds (filters_for s session) s
 HoldsFirst s session (Some p) = (kept : SessionFilter) → slice_get session p ≡ Some kept → IsFirst s (filters_for s session) (length (filters_for s (take p session))) kept
 
 module _ (s : Snapshot) (x : SessionFilter) where
-  -- one more before them
+  -- one more filter before them
   with_first : (b : Bool) → is_kept_for s.policy s.rule x ≡ b → (xs : List SessionFilter) → filters_for s (x ∷ xs) ≡ cond b (x.filter ∷ filters_for s xs) (filters_for s xs)
   with_first b is xs = mapped (is_kept_for s.policy s.rule x) x (filter (is_kept_for s.policy s.rule) xs) ∙ ap (λ c. cond c (x.filter ∷ filters_for s xs) (filters_for s xs)) is
 
@@ -77,26 +77,26 @@ module _ (s : Snapshot) (x : SessionFilter) where
       (subst (λ before. IsFirst s (filters_for s xs) (length before) kept) (sym (with_first false a_is (take i xs)))
       (later kept at))
 
--- the first one that decides is the first that holds of its policy's and rule's filters
+-- the first filter that decides is the first that holds among those of its policy and rule
 holds_first : (s : Snapshot) (session : List SessionFilter) → HoldsFirst s session (first_at (decides s) session)
 holds_first s [] = All-nil (λ f. holds f s ≡ false)
 holds_first s (x ∷ xs) = holds_first_by s x (is_kept_for s.policy s.rule x) (holds x.filter s) xs (first_at (decides s) xs) refl refl (holds_first s xs)
 
--- where none decides, none of these holds
+-- if none decides, none of these holds
 pub none_holds : (s : Snapshot) (session : List SessionFilter) → first_at (decides s) session ≡ None → NoneHolds (filters_for s session) s
 none_holds s session none = subst (HoldsFirst s session) none (holds_first s session)
 
--- ---- what they say
+-- ---- their verdict
 
 passed : (s : Snapshot) (f : FilterValue) (fs : List FilterValue) (m : ℕ) → holds f s ≡ false → verdict_from m (f ∷ fs) s ≡ verdict_from (suc m) fs s
 passed s f fs m is = ap (λ b. cond b (verdict_by m f.grant s.ids f.action) (verdict_from (suc m) fs s)) is
 
--- nothing, where none holds
+-- unmatched, if none holds
 pub unmatched : (s : Snapshot) (filters : List FilterValue) (m : ℕ) → NoneHolds filters s → verdict_from m filters s ≡ Unmatched
 unmatched s [] m none = refl
 unmatched s (f ∷ fs) m none = passed s f fs m (All-head (λ g. holds g s ≡ false) f fs none) ∙ unmatched s fs (suc m) (All-tail (λ g. holds g s ≡ false) f fs none)
 
--- what the first says that holds
+-- that of the first filter that holds
 says : (s : Snapshot) (filters : List FilterValue) (n : ℕ) (f : FilterValue) (m : ℕ) → slice_get filters n ≡ Some f → holds f s ≡ true → NoneHolds (take n filters) s → verdict_from m filters s ≡ verdict_by (m + n) f.grant s.ids f.action
 says s [] n f m there is none = cc
 says s (g ∷ fs) zero f m there is none =
@@ -109,7 +109,7 @@ says s (g ∷ fs) (suc n) f m there is none =
     ∙ says s fs n f (suc m) there is (All-tail (λ each. holds each s ≡ false) g (take n fs) none)
     ∙ ap (λ k. verdict_by k f.grant s.ids f.action) sum
 
--- the number among a policy's and a rule's filters is that before it, and one
+-- the number of a filter among those of its policy and rule is one more than how many are before it
 pub deciding : (s : Snapshot) (session : List SessionFilter) (p n : ℕ) (kept : SessionFilter) → first_at (decides s) session ≡ Some p → slice_get session p ≡ Some kept → n ≡ count_for (take p session) kept
     → IsDeciding (session_filters session s.policy s.rule) s (n + 1) kept.filter
 deciding s session p n kept first at number =

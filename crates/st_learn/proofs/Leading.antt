@@ -34,7 +34,7 @@ none_of : (b w : Bool) (ps : List ℕ) (m : ℕ) → w ≡ false → ps ≡ ps +
 none_of true w ps m other = sym (append-nil ps) ∙ (λ k. ps ++ cond (sym other k) (m ∷ []) [])
 none_of false w ps m other = sym (append-nil ps)
 
--- a filter more has its place among them where it is the first for its rule
+-- one more filter has its index among them if it is the first for its rule
 pub firsts_added : (is_first : Bool) (old new : List PolicyPlaces) (session : List SessionFilter) (kept : SessionFilter) (n : ℕ) → ((policy : List ℕ) → places_in old policy ≡ firsts_of session policy) → MayGainPlace is_first old kept.policy n new
     → n ≡ length session → (count_for session kept == 0) ≡ is_first → (policy : List ℕ) → places_in new policy ≡ firsts_of (session ++ kept ∷ []) policy
 firsts_added true old new session kept n were gains is first policy =
@@ -46,10 +46,10 @@ firsts_added false old new session kept n were gains is first policy =
     ∙ none_of (bytes_eq kept.policy policy) (count_for session kept == 0) (firsts_of session policy) (length session) first
     ∙ sym (firsts_more [] policy session kept)
 
--- ---- the first of a rule is among them
+-- ---- the first filter of a rule is among them
 
 module _ (policy : List ℕ) (rule : Rule) where
-  -- one that isn't for them leaves none of them
+  -- a filter for others doesn't change that there are none
   none_more : (front : List SessionFilter) (x : SessionFilter) → session_filters front policy rule ≡ [] → is_kept_for policy rule x ≡ false → session_filters (front ++ x ∷ []) policy rule ≡ []
   none_more front x none other =
       ap (map (λ (each : SessionFilter). each.filter))
@@ -69,7 +69,7 @@ module _ (policy : List ℕ) (rule : Rule) where
   heads_by true false false kept session n ps rest at same first later = later refl
   heads_by false w z kept session n ps rest at same first later = later refl
 
-  -- where there was none before, the first one is the first for its rule
+  -- if there was none before, the first filter is the first for its rule
   is_zero : (front : List SessionFilter) (kept : SessionFilter) → session_filters front policy rule ≡ [] → (is_of policy kept && is_of_rule rule kept) ≡ true → (count_for front kept == 0) ≡ true
   is_zero front kept none is =
       let policy_is : kept.policy ≡ policy = (bytes_eq-Decides kept.policy policy).0 (left_of (is_of policy kept) (is_of_rule rule kept) is) in
@@ -85,11 +85,11 @@ module _ (policy : List ℕ) (rule : Rule) where
       (heads_behind (front ++ kept ∷ []) back (none_more front kept none other)))
       ∙ sym (ap (λ fs. slice_get fs 0) (mapped (is_kept_for policy rule kept) kept (filter (is_kept_for policy rule) back)))
 
--- the first of a rule among the first ones of a policy is the first of the policy and the rule
+-- the first filter of a rule among the first ones of a policy is the first of the policy and the rule
 pub firsts_found : (session : List SessionFilter) (policy : List ℕ) (rule : Rule) (items : List ℕ) → items ≡ firsts_of session policy → slice_get (filters_at session (is_of_rule rule) items) 0 ≡ slice_get (session_filters session policy rule) 0
 firsts_found session policy rule items are = ap (λ ps. slice_get (filters_at session (is_of_rule rule) ps) 0) are ∙ heads_behind policy rule [] session refl
 
--- ---- their places
+-- ---- their indices
 
 inside_behind : (front : List SessionFilter) (policy : List ℕ) (back : List SessionFilter) (i d : ℕ) → i < length (firsts_behind front policy back) → get_or (firsts_behind front policy back) i d < length front + length back
 inside_behind front policy [] i d lt = absurd (omega (arith, lt))
@@ -97,7 +97,7 @@ inside_behind front policy (kept ∷ back) i d lt =
     inside_by (is_of policy kept && (count_for front kept == 0)) (length front) (length front + suc (length back)) (firsts_behind (front ++ kept ∷ []) policy back) i d (omega arith) lt
     (λ j lt. let later = inside_behind (front ++ kept ∷ []) policy back j d lt in let longer = one_longer front kept in omega (arith, later, longer))
 
--- each is that of a filter
+-- each is the index of a filter
 pub first_within : (session : List SessionFilter) (policy : List ℕ) (items : List ℕ) (i d : ℕ) → items ≡ firsts_of session policy → i < length items → get_or items i d < length session
 first_within session policy items i d are lt =
     subst (λ ps. get_or ps i d < length session) (sym are)

@@ -13,7 +13,7 @@ pub numbers_length : (front back : List SessionFilter) → length (numbers_behin
 numbers_length front [] = refl
 numbers_length front (kept ∷ back) = ap suc (numbers_length (front ++ kept ∷ []) back)
 
--- the number at a place is how many there are before it
+-- the number at an index is how many filters for its policy and rule are before it
 pub number_found : (front back : List SessionFilter) (p : ℕ) (kept : SessionFilter) → slice_get back p ≡ Some kept → slice_get (numbers_behind front back) p ≡ Some (count_for (front ++ take p back) kept)
 number_found front [] p kept at = absurd (clash at) where
   clash : slice_get [] p ≡ Some kept → ⊥
@@ -24,7 +24,7 @@ number_found front (x ∷ back) zero kept at =
 number_found front (x ∷ back) (suc p) kept at =
     number_found (front ++ x ∷ []) back p kept at ∙ ap (λ before. Some (count_for before kept)) (append_assoc front (x ∷ []) (take p back))
 
--- one more filter has as its number how many there are
+-- the number of one more filter is how many there are for its policy and rule
 pub number_added : (front back : List SessionFilter) (kept : SessionFilter) → numbers_behind front (back ++ kept ∷ []) ≡ numbers_behind front back ++ count_for (front ++ back) kept ∷ []
 number_added front [] kept = ap (λ before. count_for before kept ∷ []) (sym (append-nil front))
 number_added front (x ∷ back) kept =
@@ -34,7 +34,7 @@ fewer_by : (b : Bool) (kept : SessionFilter) (rest : List SessionFilter) (n : �
 fewer_by true kept rest n few = omega (arith, few)
 fewer_by false kept rest n few = omega (arith, few)
 
--- a policy and a rule have no more filters than there are
+-- a policy and a rule have at most as many filters as there are
 pub few_filters : (session : List SessionFilter) (policy : List ℕ) (rule : Rule) → length (session_filters session policy rule) ≤ length session
 few_filters [] policy rule = omega arith
 few_filters (kept ∷ session) policy rule = fewer_by (is_kept_for policy rule kept) kept (filter (is_kept_for policy rule) session) (length session) (few_filters session policy rule)
@@ -47,6 +47,6 @@ few_numbers front (kept ∷ back) (suc p) d inside =
     let longer = one_longer front kept in
     omega (arith, later, longer)
 
--- so a number is no more than there are
+-- therefore a number is at most the number of filters
 pub number_few : (session : List SessionFilter) (p d : ℕ) → p < length session → get_or (numbers_behind [] session) p d ≤ length session
 number_few session p d inside = let few = few_numbers [] session p d inside in omega (arith, few)

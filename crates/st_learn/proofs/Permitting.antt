@@ -1,4 +1,4 @@
--- The policies with what a run has added permit what the run has made.
+-- The policies with the session's filters permit what the run has made.
 use Rattle.std.proofs.Common.{◌≡◌, ◌≢◌, ◌∙◌, ◌++◌, ◌&&◌, ℕ, Bool, true, not, List, [], ◌∷◌, Option, Some, None, refl, ap, sym}
 use Rattle.std.proofs.lemmas.Bool.{and_parts}
 use Rattle.std.proofs.lemmas.Option.{same_Some}
@@ -81,7 +81,7 @@ decided v n ids is none = clash (sym is ∙ none) where
   clash : Permit n ids ≡ Unmatched → ⊥
   clash e = cc
 
--- what was made is permitted by the policies with what was added up to the end
+-- what was made is permitted by the policies with the session's filters at the end of the run
 pub permits_made : (i : Input) → NoneAsks i.policies → (later earlier : History) (t q : ℕ) (call : SysCall) (regs : List ℕ) (args : List ArgText) (ids : Ids) (result : CallResult) (changes : List Change)
     → IsLawfulBack i (later ++ Used t (Some q) call regs args ids result changes ∷ earlier)
     → IsPermittedBy (learnt_policies i.policies (session_at i (later ++ Used t (Some q) call regs args ids result changes ∷ earlier))) (looking_back i earlier) q ids

@@ -1,4 +1,4 @@
--- The policies with what a session has added, printed one after the other.
+-- The policies with the session's filters, printed one after the other.
 use Rattle.std.proofs.Common.{◌≡◌, ◌<◌, ◌+◌, ◌∙◌, ◌++◌, ◌||◌, ◌==◌, ℕ, suc, zero, Bool, true, false, cond, not, List, [], ◌∷◌, length, map, take, Option, Some, None, option_map, slice_get, refl, ap, sym, drop, get_or, arith}
 use Rattle.std.proofs.Math.Seq.{drop-cons}
 use Rattle.std.proofs.lemmas.Bool.{eq-eqb, ne_eqb}
@@ -36,7 +36,7 @@ one_policy p =
     ap print (append-nil (policy_pieces p)) ∙ print-append (row_pieces (header_pieces p.binary)) (flat_map (λ f. row_pieces (filter_pieces f)) p.filters)
     ∙ ap (λ ps. print ps ++ rows_text p.filters) (sym (append-nil (row_pieces (header_pieces p.binary) ++ []) ∙ append-nil (row_pieces (header_pieces p.binary))))
 
--- a policy with what the session adds
+-- a policy with the session's filters
 pub one_learnt : (session : List SessionFilter) (binary : List ℕ) (filters : List FilterValue) (out header read added : List ℕ) → header ≡ out ++ canon (empty_policy binary ∷ []) → read ≡ header ++ rows_text filters → added ≡ read ++ rows_text (filters_added session binary)
     → added ≡ out ++ canon (with_session session (record { binary = binary; filters = filters }) ∷ [])
 one_learnt session binary filters out header read added h r a =
@@ -54,7 +54,7 @@ one_row f out row new r e =
 
 -- ---- the rows of the session's filters of a policy
 
--- one row more of the session's filters
+-- one more row of the session's filters
 pub row_next : (session : List SessionFilter) (items : List ℕ) (i d : ℕ) (kept : SessionFilter) (f : FilterValue) (out new all : List ℕ) → i < length items → slice_get session (get_or items i d) ≡ Some kept → f ≡ kept.filter → new ≡ out ++ rows_text (f ∷ [])
     → out ++ rows_text (filters_at session is_any (drop i items)) ≡ all → new ++ rows_text (filters_at session is_any (drop (i + 1) items)) ≡ all
 row_next session items i d kept f out new all lt at is written so_far =
@@ -87,7 +87,7 @@ read_next session ps i binary filters first out new b f so_far more =
 
 -- ---- the others
 
--- each policy that a session has filters for is among all
+-- all policies have each policy that a session has filters for
 has_begun : (ps : List BinaryPolicy) (c b : List ℕ) (t : Bool) → has_policy ps c ≡ t → has_policy (cond t ps (ps ++ empty_policy c ∷ [])) b ≡ (has_policy ps b || bytes_eq c b)
 has_begun ps c b true has = by (bytes_eq c b) refl where
   or_false : (x : Bool) → x ≡ (x || false)
@@ -117,7 +117,7 @@ has_all (kept ∷ session) ps b =
     has_all session (with_policy ps kept.policy) b ∙ ap (λ x. x || list_any (is_of b) session) (has_begun ps kept.policy b (has_policy ps kept.policy) refl)
     ∙ or_assoc (has_policy ps b) (bytes_eq kept.policy b) (list_any (is_of b) session)
 
--- one filter more begins its policy where it is the first and the policy wasn't read
+-- one more filter begins its policy if it is the first of it and the policy wasn't read
 module _ (all : List SessionFilter) (ps : List BinaryPolicy) (n : ℕ) (kept : SessionFilter) (at : slice_get all n ≡ Some kept) where
   abbrev front : List SessionFilter
   front = take n all
@@ -146,7 +146,7 @@ module _ (all : List SessionFilter) (ps : List BinaryPolicy) (n : ℕ) (kept : S
       ∙ ap (λ qs. canon (map (with_session all) qs))
       (sym (more ∙ ap (λ b. cond b (all_policies ps front) (all_policies ps front ++ empty_policy kept.policy ∷ [])) (has_all front ps kept.policy ∙ has)))
 
--- ---- the first of a policy
+-- ---- the first filter of a policy
 
 abbrev pub is_place : Option ℕ → ℕ → Bool
 is_place None n = false
@@ -164,7 +164,7 @@ first_from is (x ∷ xs) n zero kept at own =
 first_from is (x ∷ xs) n (suc i) kept at own =
     first_by (is x) n i (places_from is (suc n) xs) (list_any is (take i xs)) (λ differs. first_from is xs (suc n) i kept at own)
 
--- a filter is the first of its policy exactly where its place is the first of the policy's
+-- a filter is the first of its policy iff its index is the first of the policy's
 pub first_place : (session : List SessionFilter) (i : ℕ) (kept : SessionFilter) → slice_get session i ≡ Some kept → is_place (slice_get (places_of session kept.policy) 0) i ≡ is_first_at session i (slice_get session i)
 first_place session i kept at =
     (let same : i ≡ 0 + i = omega arith in ap (is_place (slice_get (places_of session kept.policy) 0)) same)
@@ -172,14 +172,14 @@ first_place session i kept at =
     ∙ ap (is_first_at session i) (sym at)
 
 module _ (session : List SessionFilter) (i : ℕ) (kept : SessionFilter) (at : slice_get session i ≡ Some kept) where
-  -- no filter before the first of a policy is of it
+  -- no filter before the first of a policy is of the policy
   pub first_told : is_first_at session i (slice_get session i) ≡ true → list_any (is_of kept.policy) (take i session) ≡ false
   first_told is = by (list_any (is_of kept.policy) (take i session)) (ap (is_first_at session i) (sym at) ∙ is) where
     by : (b : Bool) → not b ≡ true → b ≡ false
     by true e = cc
     by false e = refl
 
-  -- some filter before a later one of a policy is
+  -- some filter before a later one of a policy is of the policy
   pub later_told : is_first_at session i (slice_get session i) ≡ false → (x : Bool) → (x || list_any (is_of kept.policy) (take i session)) ≡ true
   later_told is x = by x (list_any (is_of kept.policy) (take i session)) (ap (is_first_at session i) (sym at) ∙ is) where
     by : (x b : Bool) → not b ≡ false → (x || b) ≡ true

@@ -1,4 +1,4 @@
--- The rows of places, as a map keeps them.
+-- The rows of indices, as a map keeps them.
 use Rattle.std.proofs.Common.{◌≡◌, ◌≤◌, ◌<◌, ◌+◌, ◌∙◌, ◌++◌, ℕ, suc, zero, Bool, true, false, cond, not, List, [], ◌∷◌, length, map, Option, Some, None, Vec, Global, refl, ap, sym, subst, option_map, vec_capacity, vec_len, arith}
 use Rattle.std.proofs.lemmas.Bool.Decides.{Decides-ltb}
 use Rattle.std.proofs.lemmas.Cmp.{nat_list_eq_equiv}
@@ -83,7 +83,7 @@ found_by false a i n is e = absurd (clash e) where
   clash : Some i ≡ None → ⊥
   clash f = cc
 
--- the row at the first place of a policy is changed, and no other
+-- the first row of a policy is changed, and no other
 pub row_changed : (es : List PlacesEntry) (policy : List ℕ) (i : ℕ) (w : Vec ℕ Global) → Some i ≡ position (is_key policy) (keys_of es) → (other : List ℕ)
     → listing_in (shown_rows (set_value_at es i w)) other ≡ cond (bytes_eq policy other) (Some (shown_listing w)) (listing_in (shown_rows es) other)
 row_changed es policy i w at other =
@@ -92,16 +92,16 @@ row_changed es policy i w at other =
     let inside : position_or_len (is_key policy) (keys_of es) < length es = subst (λ n. position_or_len (is_key policy) (keys_of es) < n) (length-keys_of es) found.1 in
     subst (Changed policy other w es) found.0 (changed policy other w es inside)
 
--- what was there for the policy of that row
+-- the entry of the map for the policy of that row
 pub row_there : (es : List PlacesEntry) (policy : List ℕ) (i : ℕ) (v : Vec ℕ Global) → slice_get (values_of es) i ≡ lookup (is_key policy) es → slice_get (values_of es) i ≡ Some v → listing_in (shown_rows es) policy ≡ Some (shown_listing v)
 row_there es policy i v at is = sym (listing_kept es policy) ∙ ap shown (sym at ∙ is)
 
--- ---- where a row stands
+-- ---- the number of a row
 
 abbrev binaries : List PlacesEntry → List (List ℕ)
 binaries es = map (λ (row : PolicyPlaces). row.binary) (shown_rows es)
 
--- a policy's row stands where the map has its key
+-- the number of a policy's row is the index of its key in the map
 pub row_kept : (es : List PlacesEntry) (policy : List ℕ) → row_of (shown_rows es) policy ≡ position (is_key policy) (keys_of es)
 row_kept es policy = λ k. cond (nat_lt (first es k) (long es k)) (Some (first es k)) None where
   first : (es : List PlacesEntry) → position_or_len (bytes_eq policy) (binaries es) ≡ position_or_len (is_key policy) (keys_of es)
@@ -112,7 +112,7 @@ row_kept es policy = λ k. cond (nat_lt (first es k) (long es k)) (Some (first e
   long [] = refl
   long (e ∷ es) = ap suc (long es)
 
--- what a row has leaves the rows where they are
+-- changing what a row has doesn't move rows
 row_stays : (es : List PlacesEntry) (policy : List ℕ) (i : ℕ) (w : Vec ℕ Global) → row_of (shown_rows (set_value_at es i w)) policy ≡ row_of (shown_rows es) policy
 row_stays es policy i w = ap (position (bytes_eq policy)) (same es i) where
   same : (es : List PlacesEntry) (i : ℕ) → binaries (set_value_at es i w) ≡ binaries es
@@ -127,15 +127,15 @@ module _ (es : List PlacesEntry) (policy : List ℕ) (i : ℕ) (at : row_of (sho
   pub row_inside : i < length es
   row_inside = (Found-position (is_key policy) es i (sym row_is)).within
 
-  -- what stands in a policy's row is the policy's
+  -- what is in a policy's row is the policy's
   pub row_listing : (v : Vec ℕ Global) → slice_get (values_of es) i ≡ Some v → listing_in (shown_rows es) policy ≡ Some (shown_listing v)
   row_listing v is = row_there es policy i v (sym (Found-position (is_key policy) es i (sym row_is)).value) is
 
--- the room of a policy is that of its row
+-- there is room for a policy iff its row has room
 pub room_there : (rows : List PolicyPlaces) (policy : List ℕ) (v : Vec ℕ Global) → listing_in rows policy ≡ Some (shown_listing v) → HasRoom rows policy → vec_len v < vec_capacity v
 room_there rows policy v is left = let had : length v.items < vec_capacity v = subst IsRoomLeft is left in let same : vec_len v ≡ length v.items = v.ok.0 in omega (arith, had, same)
 
--- there are no places where there is no row
+-- there are no indices if there is no row
 pub no_places_there : (es : List PlacesEntry) (policy : List ℕ) → is_some (lookup (is_key policy) es) ≡ false → places_in (shown_rows es) policy ≡ []
 no_places_there es policy none = ap places_with (sym (listing_kept es policy) ∙ none_shown (lookup (is_key policy) es) none)
 
@@ -156,7 +156,7 @@ changed_room true policy other rows v w is was same more left =
 changed_room false policy other rows v w is was same more left = left
 
 module _ (es : List PlacesEntry) (policy : List ℕ) (i : ℕ) (v w : Vec ℕ Global) (at : Some i ≡ position (is_key policy) (keys_of es)) (was : listing_in (shown_rows es) policy ≡ Some (shown_listing v)) where
-  -- other room for the same places
+  -- other room for the same indices
   pub row_keeps : w.items ≡ v.items → vec_capacity v ≤ vec_capacity w → KeepsPlaces (shown_rows es) (shown_rows (set_value_at es i w))
   row_keeps same more = record {
     places = λ other. ap places_with (row_changed es policy i w at other) ∙ changed_places (bytes_eq policy other) policy other (shown_rows es) v w refl was same;
@@ -179,7 +179,7 @@ module _ (es : List PlacesEntry) (policy : List ℕ) (i : ℕ) (v w : Vec ℕ Gl
   pub row_gains : (place : ℕ) → w.items ≡ v.items ++ place ∷ [] → GainsPlace (shown_rows es) policy place (shown_rows (set_value_at es i w))
   row_gains place more other = ap places_with (row_changed es policy i w at other) ∙ gained_by (bytes_eq policy other) other place refl more
 
-  -- other places in the row
+  -- other indices in the row
   row_becomes : (change : List ℕ → List ℕ) → w.items ≡ change v.items → (other : List ℕ) → places_in (shown_rows (set_value_at es i w)) other ≡ cond (bytes_eq policy other) (change (places_in (shown_rows es) other)) (places_in (shown_rows es) other)
   row_becomes change is other = ap places_with (row_changed es policy i w at other) ∙ by (bytes_eq policy other) refl where
     by : (b : Bool) → bytes_eq policy other ≡ b → places_with (cond b (Some (shown_listing w)) (listing_in (shown_rows es) other)) ≡ cond b (change (places_in (shown_rows es) other)) (places_in (shown_rows es) other)
@@ -189,9 +189,9 @@ module _ (es : List PlacesEntry) (policy : List ℕ) (i : ℕ) (v w : Vec ℕ Gl
   pub row_loses : (index : ℕ) → w.items ≡ remove v.items index → LosesPlace (shown_rows es) policy index (shown_rows (set_value_at es i w))
   row_loses index = row_becomes (λ places. remove places index)
 
--- ---- a row is begun
+-- ---- a row is appended
 
--- what is behind the first row comes behind it
+-- what is after the first row is after it in the whole
 behind : (b : Bool) (listing : Listing) (rest more : Option Listing) → cond b (Some listing) (option_or rest more) ≡ option_or (cond b (Some listing) rest) more
 behind true listing rest more = refl
 behind false listing rest more = refl
@@ -216,7 +216,7 @@ module _ (key v : Vec ℕ Global) (other : List ℕ) where
   row_begun [] none = refl
   row_begun (e ∷ es) none = begun_by (bytes_eq key.items e.0.items) e es (nat_list_eq_equiv.symm key.items e.0.items) none (row_begun es)
 
--- the row of a key stands where it was, or behind the others
+-- the row of a key is where it was, or after the others
 module _ (key v : Vec ℕ Global) where
   abbrev place : List PlacesEntry → ℕ
   place es = position_or_len (same_key key) (keys_of es)
@@ -257,7 +257,7 @@ module _ (es : List PlacesEntry) (key v : Vec ℕ Global) (policy : List ℕ) (n
   behind_all : (other : List ℕ) → listing_in (shown_rows (insert_entry same_key es key v)) other ≡ option_or (listing_in (shown_rows es) other) (cond (bytes_eq key.items other) (Some (shown_listing v)) None)
   behind_all other = row_begun key v other es (ap (listing_in (shown_rows es)) key_is ∙ absent)
 
-  -- a row without places
+  -- a row without indices
   pub new_keeps : v.items ≡ [] → KeepsPlaces (shown_rows es) (shown_rows (insert_entry same_key es key v))
   new_keeps empty = record {
     places = λ other. ap places_with (behind_all other) ∙ no_places (listing_in (shown_rows es) other) (bytes_eq key.items other) v empty;
@@ -274,10 +274,10 @@ module _ (es : List PlacesEntry) (key v : Vec ℕ Global) (policy : List ℕ) (n
     room = has_room_behind left;
   }
 
--- nothing was changed
+-- nothing changes
 pub keeps : (rows : List PolicyPlaces) → KeepsPlaces rows rows
 keeps rows = record { places = λ policy. refl; room = λ policy left. left }
 
--- one more place where all had those that they had before
+-- one more index, after a change that kept all indices
 pub gains_then : (old kept new : List PolicyPlaces) (policy : List ℕ) (place : ℕ) → KeepsPlaces old kept → GainsPlace kept policy place new → GainsPlace old policy place new
 gains_then old kept new policy place keeps gains other = gains other ∙ (λ k. cond (bytes_eq policy other) (keeps.places other k ++ place ∷ []) (keeps.places other k))

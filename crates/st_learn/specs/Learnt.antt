@@ -1,4 +1,4 @@
--- The policies with what a session has added.
+-- The policies with the filters that a session has added.
 use Rattle.std.specs.Prelude.{◌≡◌, ◌≢◌, ℕ, List, [], ◌∷◌, ◌++◌, map, filter, take, if◌then◌else◌}
 use Rattle.std.specs.List.{All, flat_map, fold}
 use Rattle.st_filter.specs.Formula.{FilterValue}
@@ -15,7 +15,7 @@ use Rattle.st_learn.specs.Sessions.{is_of}
 abbrev pub filters_added : List SessionFilter → List ℕ → List FilterValue
 filters_added session policy = map (λ kept. kept.filter) (filter (is_of policy) session)
 
--- a policy with the session's filters behind its own
+-- a policy with the session's filters after its own
 abbrev pub with_session : List SessionFilter → BinaryPolicy → BinaryPolicy
 with_session session p = record { binary = p.binary; filters = p.filters ++ filters_added session p.binary }
 
@@ -23,11 +23,11 @@ with_session session p = record { binary = p.binary; filters = p.filters ++ filt
 abbrev pub empty_policy : List ℕ → BinaryPolicy
 empty_policy binary = record { binary = binary; filters = [] }
 
--- policies, and behind them an empty one for this binary where it has none
+-- policies, with an empty policy for this binary appended if it has none
 abbrev pub with_policy : List BinaryPolicy → List ℕ → List BinaryPolicy
 with_policy policies binary = if has_policy policies binary then policies else policies ++ empty_policy binary ∷ []
 
--- policies, and behind them an empty one for each further binary that the session has filters for, in the order of their first
+-- policies, with an empty policy appended for each further binary that the session has filters for, in the order of their first filters
 abbrev pub all_policies : List BinaryPolicy → List SessionFilter → List BinaryPolicy
 all_policies policies session = fold (λ ps kept. with_policy ps kept.policy) policies session
 
@@ -41,7 +41,7 @@ learnt_policies policies session = map (with_session session) (all_policies poli
 abbrev pub rows_text : List FilterValue → List ℕ
 rows_text filters = print (flat_map (λ f. row_pieces (filter_pieces f)) filters)
 
--- the text of the policies, without the others but those of so many of the session's filters
+-- the text of the policies with the session's filters; of the policies that weren't read, only those of the first n of these filters
 abbrev pub learnt_so_far : List BinaryPolicy → List SessionFilter → ℕ → List ℕ
 learnt_so_far policies session n = canon (map (with_session session) (all_policies policies (take n session)))
 

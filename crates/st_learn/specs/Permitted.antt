@@ -1,4 +1,4 @@
--- What policies say by themselves of a held call.
+-- Which held calls policies permit by themselves.
 use Rattle.std.specs.Prelude.{◌≡◌, ℕ, List, Some}
 use Rattle.st_base.specs.declared.ids.Ids.{Ids}
 use Rattle.st_calls.specs.declared.judged.Snapshot.{Snapshot}

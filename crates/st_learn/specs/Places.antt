@@ -1,15 +1,15 @@
--- The places of each policy's filters in a session.
+-- The indices of each policy's filters in a session.
 use Rattle.std.specs.Prelude.{◌≡◌, ◌<◌, ℕ, List, [], ◌∷◌, ◌++◌, map, length, if◌then◌else◌, Option, Some, None, Vec, vec_capacity, Bool, true, false}
 use Rattle.std.specs.List.{position, remove}
 use Rattle.std.specs.Str.{bytes_eq}
 use Rattle.std.specs.declared.alloc.Global.{Global}
 
--- places of filters, with how many there is room for
+-- indices, and for how many there is room
 pub record Listing : Type 0 where
   pub places : List ℕ
   pub capacity : ℕ
 
--- the places of the filters of one policy
+-- the indices of the filters of one policy
 pub record PolicyPlaces : Type 0 where
   pub binary : List ℕ
   pub listing : Listing
@@ -19,12 +19,12 @@ abbrev pub listing_in : List PolicyPlaces → List ℕ → Option Listing
 listing_in [] policy = None
 listing_in (row ∷ rows) policy = if bytes_eq row.binary policy then Some row.listing else listing_in rows policy
 
--- the places that a row has, none where there is no row
+-- the indices of an optional row; none if there is no row
 abbrev pub places_with : Option Listing → List ℕ
 places_with None = []
 places_with (Some listing) = listing.places
 
--- the places of the filters of a policy
+-- the indices of the filters of a policy
 abbrev pub places_in : List PolicyPlaces → List ℕ → List ℕ
 places_in rows policy = places_with (listing_in rows policy)
 
@@ -33,53 +33,53 @@ abbrev pub IsRoomLeft : Option Listing → Type 0
 IsRoomLeft None = ⊥
 IsRoomLeft (Some listing) = length listing.places < listing.capacity
 
--- there is room for one more place of a policy
+-- there is room for one more index of a policy
 abbrev pub HasRoom : List PolicyPlaces → List ℕ → Type 0
 HasRoom rows policy = IsRoomLeft (listing_in rows policy)
 
--- where the row of a policy stands, if there is one
+-- the number of the row of a policy, if there is one
 abbrev pub row_of : List PolicyPlaces → List ℕ → Option ℕ
 row_of rows policy = position (bytes_eq policy) (map (λ (row : PolicyPlaces). row.binary) rows)
 
--- the row of a policy stands here, and there is room in it for one more place
+-- this is the row of a policy, and it has room for one more index
 pub record HasRoomAt (row : ℕ) (rows : List PolicyPlaces) (policy : List ℕ) : Type 0 where
   pub is : row_of rows policy ≡ Some row
   pub room : HasRoom rows policy
 
--- each policy has the places that it had, and room where there was some
+-- each policy has the same indices as before, and still has room if it had room
 pub record KeepsPlaces (old new : List PolicyPlaces) : Type 0 where
   pub places : (policy : List ℕ) → places_in new policy ≡ places_in old policy
   pub room : (policy : List ℕ) → HasRoom old policy → HasRoom new policy
 
--- a policy has one more place, and each other has those that it had
+-- a policy has one more index, and each other has the same as before
 abbrev pub GainsPlace : List PolicyPlaces → List ℕ → ℕ → List PolicyPlaces → Type 0
 GainsPlace old policy place new =
     (other : List ℕ) → places_in new other ≡ (if bytes_eq policy other then places_in old other ++ place ∷ [] else places_in old other)
 
--- a policy has its places but for the one at an index, and each other has those that it had
+-- a policy has lost the index at a position, and each other has the same as before
 abbrev pub LosesPlace : List PolicyPlaces → List ℕ → ℕ → List PolicyPlaces → Type 0
 LosesPlace old policy index new =
     (other : List ℕ) → places_in new other ≡ (if bytes_eq policy other then remove (places_in old other) index else places_in old other)
 
--- a policy has one more place if it is wanted, and else all have those that they had
+-- a policy has one more index if it is wanted; otherwise nothing changes
 abbrev pub MayGainPlace : Bool → List PolicyPlaces → List ℕ → ℕ → List PolicyPlaces → Type 0
 MayGainPlace true old policy place new = GainsPlace old policy place new
 MayGainPlace false old policy place new = new ≡ old
 
 -- ---- as they are kept
 
--- what the map has for one policy: its places
+-- an entry of the map: a policy's binary and its indices
 abbrev pub PlacesEntry : Type 0
 PlacesEntry = Vec ℕ Global × Vec ℕ Global
 
--- the places that a vector stands for
+-- the indices that a vector represents
 abbrev pub shown_listing : Vec ℕ Global → Listing
 shown_listing v = record { places = v.items; capacity = vec_capacity v }
 
--- the row that a binary and its places in the map stand for
+-- the row that an entry of the map represents
 abbrev pub shown_row : PlacesEntry → PolicyPlaces
 shown_row e = record { binary = e.0.items; listing = shown_listing e.1 }
 
--- the rows that the map stands for, in its order
+-- the rows that the map represents, in its order
 abbrev pub shown_rows : List PlacesEntry → List PolicyPlaces
 shown_rows entries = map shown_row entries

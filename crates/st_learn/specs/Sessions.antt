@@ -26,44 +26,45 @@ added policy rule filter = record { policy = policy; rule = rule; filter = filte
 abbrev pub is_of : List ℕ → SessionFilter → Bool
 is_of policy kept = bytes_eq kept.policy policy
 
--- the places of the items of a kind among these, which are numbered from n on
+-- the numbers of the items of a kind, if the items are numbered from n on
 abbrev pub places_from : {X : Type 0} → (X → Bool) → ℕ → List X → List ℕ
 places_from is n [] = []
 places_from is n (x ∷ xs) = if is x then n ∷ places_from is (suc n) xs else places_from is (suc n) xs
 
--- the places of a policy's filters in a session, from 0, in order
+-- the indices of a policy's filters in a session, in order
 abbrev pub places_of : List SessionFilter → List ℕ → List ℕ
 places_of session policy = places_from (is_of policy) 0 session
 
--- whether the filter at a place, if there is one, is the first of its policy
+-- whether the optional filter at an index is the first of its policy
 abbrev pub is_first_at : List SessionFilter → ℕ → Option SessionFilter → Bool
 is_first_at session place None = false
 is_first_at session place (Some kept) = not (list_any (is_of kept.policy) (take place session))
 
--- the places of those of a policy's filters that are the first for their rule, behind others, in order
+-- the indices of those filters of a policy that are the first for their rule, in order, if the session begins with others
 abbrev pub firsts_behind : List SessionFilter → List ℕ → List SessionFilter → List ℕ
 firsts_behind front policy [] = []
 firsts_behind front policy (kept ∷ back) =
     if is_of policy kept && (count_for front kept == 0) then length front ∷ firsts_behind (front ++ kept ∷ []) policy back
     else firsts_behind (front ++ kept ∷ []) policy back
 
--- of all
+-- the same for a whole session
 abbrev pub firsts_of : List SessionFilter → List ℕ → List ℕ
 firsts_of session policy = firsts_behind [] policy session
 
--- the places of the filters that ask for a text first
+-- the indices of the filters that ask for a text first
 abbrev pub places_asking : List SessionFilter → List ℕ → List ℕ
 places_asking session text = places_from (asks_first text) 0 session
 
 -- ---- as it is kept
 
--- for each of these filters, how many there are before it for its policy and rule, behind others
+-- for each filter, how many before it are for its policy and rule, if the session begins with others
 abbrev pub numbers_behind : List SessionFilter → List SessionFilter → List ℕ
 numbers_behind front [] = []
 numbers_behind front (kept ∷ back) = count_for front kept ∷ numbers_behind (front ++ kept ∷ []) back
 
--- the places of each policy are those of its filters, the first ones those of the first for their rules, those of each text those of the filters that ask for it first,
--- and where it is said that none asks for no text, none does; each filter has its number, and numbers stay within 32 bits
+-- the invariant of a session: the indices of each policy are those of its filters, and the first ones those of the first filters for their
+-- rules; the indices of each text are those of the filters that ask for it first; if no filter is said to ask for no text, none does; each
+-- filter has its number; and numbers fit in 32 bits
 pub record IsSession (filters : List SessionFilter) (numbers : List ℕ) (policies firsts texts : List PolicyPlaces) (has_textless : Bool) : Type 0 where
   pub policies_are : (policy : List ℕ) → places_in policies policy ≡ places_of filters policy
   pub firsts_are : (policy : List ℕ) → places_in firsts policy ≡ firsts_of filters policy

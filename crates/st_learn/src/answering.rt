@@ -1,4 +1,4 @@
-// What a session's filters say of calls.
+// The session's filters on a call: which one decides, its verdict, and the kernel's own answer.
 ghost use Rattle.std.specs.Prelude.{◌≡◌, ◌≤◌, ◌^◌, ℕ, suc, length, None, IfSome};
 ghost use Rattle.st_calls.specs.declared.judged.Verdict.TheVariants.{Unmatched};
 ghost use Rattle.st_filter.specs.Fast.{first_answer};
@@ -12,7 +12,7 @@ use crate::session::Session;
 use st_calls::{FastAnswer, Rule, Snapshot, Verdict};
 use st_filter::{Filter, PolicySet, fast_answer, verdict_of};
 
-/// How many filters that were read there are for a policy and a rule. Those of a session are numbered on behind them.
+/// How many filters were read for a policy and a rule. The filters of a session are numbered on after them.
 pub fn read_count(policies: &PolicySet, policy: &[u8], rule: Rule) -> u32
     ensures is { result ≡ length (read_filters policies.now policy.now rule) }
     ensures few { result ≤ MOST_FILTERS }
@@ -26,8 +26,8 @@ pub fn read_count(policies: &PolicySet, policy: &[u8], rule: Rule) -> u32
 }
 
 impl Session {
-    /// The session's filter that decides on a held call by the copies of its arguments, as the first for its policy and rule that holds, also where it
-    /// asks, with its number among those of the session, from 1; none where none holds.
+    /// The session's filter that decides on a held call, by the copies of its arguments: the first for its policy and rule that holds, even
+    /// if it asks. Also returns its number among the session's filters for them, from 1. None if no filter holds.
     pub fn deciding(&self, copies: &Snapshot) -> Option<(u32, &Filter)>
         ensures few { IfSome result (λ found. found.0 ≤ 2 ^ 31) }
         ensures none { result ≡ None → NoneHolds (session_filters self.now.filters copies.now.policy copies.now.rule) copies.now }
@@ -38,8 +38,8 @@ impl Session {
         Some((self.number_before(place) + 1, self.kept(place).filter()))
     }
 
-    /// What the session's filters say of a held call on which those that were read don't decide, by the copies of its arguments: as the first
-    /// for its policy and rule that holds says, of filters that are numbered on behind those that were read.
+    /// The verdict of the session's filters on a held call that the filters that were read don't decide, by the copies of its arguments.
+    /// The first filter for its policy and rule that holds decides; filters are numbered on after those that were read.
     pub fn verdict(&self, policies: &PolicySet, copies: &Snapshot) -> Verdict
         ensures { result ≡ verdict_from (suc (length (read_filters policies.now copies.now.policy copies.now.rule))) (session_filters self.now.filters copies.now.policy copies.now.rule) copies.now }
     {
@@ -52,7 +52,7 @@ impl Session {
         }
     }
 
-    /// What the kernel answers by itself by the session's first filter for a policy and a rule; none where the session has none.
+    /// The kernel's own answer by the session's first filter for a policy and a rule; none if the session has no such filter.
     pub fn first_answer(&self, policy: &[u8], rule: Rule) -> Option<FastAnswer>
         ensures { result ≡ first_answer (session_filters self.now.filters policy.now rule) }
     {

@@ -6,7 +6,7 @@ use st_calls::Rule;
 use st_filter::Filter;
 use std::marker::Model;
 
-/// A filter of a session, with the policy and the rule that it is for.
+/// A filter of a session, with its policy and its rule.
 #[derive(Debug, Drop)]
 pub struct Kept {
     policy: Text,

@@ -20,14 +20,14 @@ fn test_of(alloc: Global, arg: &ArgText) -> Result<Expr, AllocError>
     })
 }
 
-// Both of two expressions.
+// The conjunction of two expressions.
 fn both(alloc: Global, left: Expr, right: Expr) -> Result<Expr, AllocError>
     ensures { IfOk result (λ expr. formula expr ≡ And (formula left) (formula right)) }
 {
     Ok(Expr::And(Box::new(alloc, left)?, Box::new(alloc, right)?))
 }
 
-// An expression and the tests of further arguments, joined from the left.
+// The conjunction of an expression and the tests of further arguments, from the left.
 fn with_tests(alloc: Global, first: Expr, rest: &[ArgText]) -> Result<Expr, AllocError>
     ensures { IfOk result (λ expr. formula expr ≡ fold (λ joined arg. And joined (test_of arg)) (formula first) rest.now) }
 {
@@ -38,7 +38,7 @@ fn with_tests(alloc: Global, first: Expr, rest: &[ArgText]) -> Result<Expr, Allo
     Ok(expr)
 }
 
-// The tests of all arguments; every call where there are none.
+// The conjunction of the tests of all arguments; true of every call if there are none.
 fn learnt_expr(alloc: Global, args: &[ArgText]) -> Result<Expr, AllocError>
     ensures { IfOk result (λ expr. formula expr ≡ learnt_formula args.now) }
 {
@@ -48,8 +48,8 @@ fn learnt_expr(alloc: Global, args: &[ArgText]) -> Result<Expr, AllocError>
     }
 }
 
-/// The filter that the copies of a call teach: a plain permit of the calls of its rule of which each argument has exactly the text
-/// that it has here.
+/// The filter that is learnt from the copies of a call: a plain permit of the calls of its rule each of whose arguments has exactly the
+/// text that it has here.
 pub fn learnt_filter(alloc: Global, copies: &Snapshot) -> Result<Filter, AllocError>
     ensures { IfOk result (λ filter. filter ≡ learnt_filter copies.now) }
 {

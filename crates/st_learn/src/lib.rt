@@ -1,4 +1,5 @@
-//! What a session learns: the filter that copies teach, and the filters that a run adds to those that were read.
+//! Keeps the session of a run, the filters that are learnt or replied: it finds the filter that decides on a call, and prints the policies
+//! with the session's filters.
 #![tactic(auto)]
 
 mod answering;

@@ -6,10 +6,10 @@ use st_base::Text;
 use std::alloc::{AllocError, Global};
 use std::marker::Model;
 
-/// For each policy places in a list, in order, as those that its filters have in a session.
+/// For each policy, indices into a list, in order, such as those of its filters in a session.
 #[derive(Debug, Drop)]
 pub struct Places {
-    // By the policies' binaries.
+    // By the binaries of the policies.
     rows: IndexMap<Vec<u8>, Vec<usize>>,
 }
 
@@ -23,7 +23,7 @@ impl Model for Places {
 }
 
 impl Places {
-    /// None, which takes no memory.
+    /// No indices. It takes no memory.
     pub fn new(alloc: Global) -> Self
         ensures { result ≡ [] }
     {
@@ -32,7 +32,7 @@ impl Places {
         }
     }
 
-    /// Those of a policy.
+    /// The indices of a policy.
     pub fn of(&self, policy: &[u8]) -> &[usize]
         ensures { result.now ≡ places_in self.now policy.now }
     {
@@ -46,7 +46,7 @@ impl Places {
         }
     }
 
-    /// The row where those of a policy stand, if it has one.
+    /// The row of a policy, if it has one.
     pub fn row_of(&self, policy: &[u8]) -> Option<usize>
         ensures is { result ≡ row_of self.now policy.now }
         ensures none { result ≡ None → places_in self.now policy.now ≡ [] }
@@ -54,7 +54,7 @@ impl Places {
         self.rows.get_index_of(policy)
     }
 
-    /// Those of the policy with a row.
+    /// The indices of the policy of a row.
     pub fn at(&self, row: usize) -> &[usize]
         requires { (policy : List ℕ) × (row_of self.now policy ≡ Some row) }
         ensures { (policy : List ℕ) → row_of self.now policy ≡ Some row → result.now ≡ places_in self.now policy }
@@ -62,7 +62,7 @@ impl Places {
         self.rows[row].as_slice()
     }
 
-    /// Makes room for one more of a policy, and gives the row where they stand. Without memory all is as good as before.
+    /// Makes room for one more index of a policy, and returns its row. If memory runs out, the abstract state is unchanged.
     pub fn reserve(&mut self, alloc: Global, policy: &[u8]) -> Result<usize, AllocError>
         ensures room { IfOk result (λ row. HasRoomAt row self.new policy.now) }
         ensures kept { KeepsPlaces self.old self.new }
@@ -82,7 +82,7 @@ impl Places {
         }
     }
 
-    /// Adds a place to those of the policy with a row, in the room that was made, so it takes no memory.
+    /// Appends an index to those of the policy of a row. The room was made before, so this takes no memory.
     pub fn push_at(&mut self, row: usize, place: usize)
         requires { (policy : List ℕ) × HasRoomAt row self.old policy }
         ensures { (policy : List ℕ) → HasRoomAt row self.old policy → GainsPlace self.old policy place self.new }
@@ -91,7 +91,7 @@ impl Places {
         places.push_reserved(place);
     }
 
-    /// Adds a place to those of a policy. Without memory all is as good as before.
+    /// Appends an index to those of a policy. If memory runs out, the abstract state is unchanged.
     pub fn add(&mut self, alloc: Global, policy: &[u8], place: usize) -> Result<(), AllocError>
         ensures ok { OnOk result (GainsPlace self.old policy.now place self.new) }
         ensures err { OnErr result (KeepsPlaces self.old self.new) }
@@ -101,7 +101,7 @@ impl Places {
         Ok(())
     }
 
-    /// Takes the place at an index out of those of the policy with a row, which takes no memory.
+    /// Removes one of the indices of the policy of a row. It takes no memory.
     pub fn take_out_at(&mut self, row: usize, index: usize)
         requires { (policy : List ℕ) × ((row_of self.old policy ≡ Some row) × (index < length (places_in self.old policy))) }
         ensures { (policy : List ℕ) → row_of self.old policy ≡ Some row → LosesPlace self.old policy index self.new }

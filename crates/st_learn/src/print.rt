@@ -1,4 +1,4 @@
-// The policies with what a session has added, as text.
+// Prints the policies with the session's filters as text.
 ghost use Rattle.std.specs.Prelude.{◌≡◌, ◌+◌, ◌<◌, ◌++◌, ◌∷◌, [], length, map, IfOk, OnOk};
 ghost use Rattle.st_learn.specs.Learnt.{empty_policy, filters_added, learnt_policies, learnt_so_far, rows_text, with_session};
 ghost use Rattle.st_printing.specs.Canon.{canon};
@@ -9,7 +9,7 @@ use st_filter::{Filter, Policy, PolicySet};
 use st_printing::{print_filter, print_policies};
 use std::alloc::{AllocError, Global};
 
-// Appends the row of a policy's header, which is all that is printed of one without filters.
+// Appends the row of a policy's header. A policy without filters has no other row.
 fn append_header(alloc: Global, binary: &[u8], out: &mut Text) -> Result<(), AllocError>
     ensures { OnOk result (out.new ≡ out.old ++ canon (empty_policy binary.now ∷ [])) }
 {
@@ -52,7 +52,7 @@ fn append_added(
     Ok(())
 }
 
-// Appends the policies that were read, each with the session's filters behind its own.
+// Appends the policies that were read, each with the session's filters after its own.
 fn append_policies(
     alloc: Global,
     policies: &PolicySet,
@@ -70,7 +70,7 @@ fn append_policies(
     Ok(())
 }
 
-// Appends the policy of the filter at a place, where it wasn't read and the filter is its first.
+// Appends the policy of the session's filter at an index, if the policy wasn't read and the filter is its first.
 fn append_other(
     alloc: Global,
     policies: &PolicySet,
@@ -92,8 +92,8 @@ fn append_other(
     append_added(alloc, session, policy, out)
 }
 
-/// The canonical text of all policies with the filters that were read and then the session's: the policies that were read, in order, and
-/// behind them the others that the session has filters for, in the order of their first.
+/// The canonical text of all policies, with the filters that were read and then the session's. The policies that were read come first, in
+/// order. The other policies of the session's filters follow, in the order of their first filters.
 pub fn print_learnt(
     alloc: Global,
     policies: &PolicySet,

@@ -13,24 +13,24 @@ use st_filter::{Filter, holds};
 use std::alloc::{AllocError, Global};
 use std::marker::Model;
 
-// So many filters are the most, so that the number of each has 32 bits.
+// The greatest number of filters, so that the number of each fits in 32 bits.
 const MOST_KEPT: usize = 0x7fff_ffff;
 
-/// What a run adds to the policies that were read: filters for policies and rules, in order. Those of a policy are found without
-/// the others, and so are those that ask an argument for a text.
+/// What a run adds to the policies that were read: filters for policies and rules, in order. The filters of a policy, and those that ask
+/// for a text, are found without looking at the others.
 #[derive(Debug, Drop)]
 pub struct Session {
     // In the order in which they were added.
     kept: Vec<Kept>,
-    // How many before each of them are for its policy and rule.
+    // For each filter, how many before it are for its policy and rule.
     numbers: Vec<u32>,
-    // Where the filters of each policy stand,
+    // The indices of the filters of each policy,
     policies: Places,
-    // where those of them do that are the first for their rule,
+    // of those among them that are the first for their rule,
     firsts: Places,
-    // and where those do that ask for a text first.
+    // and of the filters that ask for each text first.
     texts: Places,
-    // Whether one of them asks for none.
+    // Whether some filter asks for no text.
     has_textless: bool,
 }
 
@@ -48,7 +48,7 @@ impl Model for Session {
     ghost invariant = { λ s. IsSession s.kept.items s.numbers.items s.policies s.firsts s.texts s.has_textless };
 }
 
-// The lesser of two places, where there are some.
+// The lesser of two indices, or the only one that exists.
 fn lesser(first: Option<usize>, other: Option<usize>) -> Option<usize>
     ensures { result ≡ lesser first other }
 {
@@ -59,7 +59,7 @@ fn lesser(first: Option<usize>, other: Option<usize>) -> Option<usize>
     }
 }
 
-// Adds a place to those of a policy, if it is wanted there. Without memory all is as good as before.
+// Adds an index to those of a policy, if it is wanted there. If memory runs out, the abstract state is unchanged.
 fn add_if(
     alloc: Global,
     places: &mut Places,
@@ -78,7 +78,7 @@ fn add_if(
 }
 
 impl Session {
-    /// No filters, which takes no memory.
+    /// No filters. It takes no memory.
     pub fn new(alloc: Global) -> Self
         ensures { result ≡ session_with [] }
     {
@@ -92,8 +92,8 @@ impl Session {
         }
     }
 
-    /// Adds a filter for a policy and a rule, at the end, and gives how many there were for them. Without memory all is as before; a session of
-    /// `MOST_KEPT` filters takes no more either.
+    /// Appends a filter for a policy and a rule, and returns how many there were for them. If memory runs out, or if the session has
+    /// `MOST_KEPT` filters, nothing changes.
     pub fn add(
         &mut self,
         alloc: Global,
@@ -133,7 +133,7 @@ impl Session {
         self.kept.as_slice()
     }
 
-    /// The filter at a place, from 0.
+    /// The filter at an index.
     pub fn kept(&self, place: usize) -> &Kept
         requires { place < length self.now.filters }
         ensures { slice_get self.now.filters place ≡ Some result.now }
@@ -141,7 +141,7 @@ impl Session {
         &self.kept[place]
     }
 
-    /// The places of a policy's filters among all, from 0, in order.
+    /// The indices of a policy's filters, in order.
     pub fn places_of(&self, policy: &[u8]) -> &[usize]
         ensures few { length result.now < 2 ^ 31 }
         ensures is { result.now ≡ places_of self.now.filters policy.now }
@@ -149,25 +149,25 @@ impl Session {
         self.policies.of(policy)
     }
 
-    // The places of those of a policy that are the first for their rule.
+    // The indices of those filters of a policy that are the first for their rule.
     pub(crate) fn firsts_of(&self, policy: &[u8]) -> &[usize]
         ensures { result.now ≡ firsts_of self.now.filters policy.now }
     {
         self.firsts.of(policy)
     }
 
-    // The places of the filters that ask for a text first.
+    // The indices of the filters that ask for a text first.
     fn places_asking(&self, text: &[u8]) -> &[usize]
         ensures { result.now ≡ places_asking self.now.filters text.now }
     {
-        // What is learnt mostly asks for one, and then nothing is hashed for those that ask for none.
+        // Learnt filters usually ask for a text. Then nothing is hashed for the filters that ask for none.
         if text.is_empty() && !self.has_textless {
             return &[];
         }
         self.texts.of(text)
     }
 
-    /// Whether the filter at a place is the first of its policy.
+    /// Whether the filter at an index is the first of its policy.
     pub fn is_first(&self, place: usize) -> bool
         requires { place < length self.now.filters }
         ensures { result ≡ is_first_at self.now.filters place (slice_get self.now.filters place) }
@@ -178,7 +178,7 @@ impl Session {
         }
     }
 
-    // How many of the filters before a place are for the policy and the rule of the one there.
+    // How many filters before an index are for the policy and the rule of the filter at it.
     pub(crate) fn number_before(&self, place: usize) -> u32
         requires { place < length self.now.filters }
         ensures few { result < 2 ^ 31 }
@@ -187,7 +187,7 @@ impl Session {
         self.numbers[place]
     }
 
-    // How many filters for a rule stand at the places of a policy: one more than before the last of them.
+    // How many filters of a policy are for a rule, by the policy's indices: one more than before the last of them.
     fn count_at(&self, places: &[usize], rule: Rule) -> usize
         requires { (policy : List ℕ) × (places.now ≡ places_of self.now.filters policy) }
         ensures few { result ≤ 2 ^ 31 }
@@ -203,7 +203,7 @@ impl Session {
         0
     }
 
-    // The first place whose filter asks for this text first, is for the policy and the rule of a call, and holds of it.
+    // The first index whose filter asks for this text first, is for the policy and the rule of a call, and holds of it.
     fn first_asking(&self, text: &[u8], copies: &Snapshot) -> Option<usize>
         ensures { result ≡ first_at (λ kept. asks_first text.now kept && decides copies.now kept) self.now.filters }
     {
@@ -217,8 +217,8 @@ impl Session {
         None
     }
 
-    // The first place whose filter is for the policy and the rule of a call, and holds of it. One that asks an argument for a text first holds
-    // of no call without that text.
+    // The first index whose filter is for the policy and the rule of a call, and holds of it. A filter that asks for a text first holds of
+    // no call without an argument of that text.
     pub(crate) fn first_deciding(&self, copies: &Snapshot) -> Option<usize>
         ensures { result ≡ first_at (decides copies.now) self.now.filters }
     {

@@ -1,4 +1,4 @@
--- The held calls of threads, and what becomes of them where calls and threads end.
+-- The held calls of threads, and how they end with calls and with threads.
 use native.Mathlib.Omega.{arith}
 use Rattle.std.proofs.Common.{◌≡◌, ◌≢◌, ◌≤◌, ◌+◌, ◌-◌, ◌∙◌, ℕ, zero, suc, ◌&&◌, ◌||◌, ◌==◌, Bool, true, false, cond, set, List, ◌∷◌, length, Option, Some, None, inl, inr, refl, ap, sym, subst}
 use Rattle.std.proofs.lemmas.Bool.{cases_eq, eq-eqb, le-leb, ne_eqb, true≢false}
@@ -30,7 +30,7 @@ pub not_dead : (b alive : Bool) → cond b false alive ≡ true → (b ≡ false
 not_dead true alive e = cc
 not_dead false alive e = (refl, e)
 
--- the number that a thread holds is the one of its head
+-- the number that a thread holds is that of its head
 mine_alone : (st : State) (alive : ℕ → Bool) (rows : List ThreadRow) → AreHeld st alive rows → (t : ℕ) (row : ThreadRow) → item_at_number rows t ≡ Some row → (q : ℕ) (head : Head) → (st.messages q).head ≡ Some head → head.tid ≢ t → is_number q (number_held row) ≡ false
 mine_alone st alive rows are t row row_is q head posted other = by (number_held row) refl where
   by : (o : Option ℕ) → number_held row ≡ o → is_number q o ≡ false
@@ -68,11 +68,11 @@ module _ (st : State) (alive : ℕ → Bool) (rows : List ThreadRow) (are : AreH
         }
   ]
 
-  -- each live number is still held where a call that has ended is held no more
+  -- each live number is still that of a held call after one call has ended
   pub closed_held : AreHeld st (life_without_number alive (number_held row)) (set rows (t - 1) closed)
   closed_held = record { own = closed_own; lives = closed_lives }
 
--- ---- threads that have nothing left but to end
+-- ---- dying threads
 
 spared : (o : Option ThreadRow) (q : ℕ) → HasNumber o q → HasNumber (option_map (λ (row : ThreadRow). row_dying_if false row) o) q
 spared None q x = x
@@ -100,7 +100,7 @@ module _ (dies : ℕ → Bool) (rows new : List ThreadRow) (each : (t : ℕ) →
           tid_is = was.tid_is;
         }
 
-  -- each live number is still held where threads have ended with theirs
+  -- each live number is still that of a held call after threads have ended with theirs
   pub left_held : AreHeld st (life_but dies st alive) new
   left_held = record { own = left_own; lives = left_lives }
 
@@ -114,7 +114,7 @@ all_spared : (o : Option ThreadRow) → o ≡ option_map (λ (row : ThreadRow). 
 all_spared None = refl
 all_spared (Some row) = refl
 
--- where none ends, all stands
+-- if no thread ends, nothing changes
 pub none_ended : (rows : List ThreadRow) (workers : UnderWay) → HaveEnded (λ t. false) rows workers rows workers
 none_ended rows workers = record {
   count = refl;
@@ -136,7 +136,7 @@ both_among a b (Some head) alive = by (a head.tid) (b head.tid) where
   by true false = refl
   by false y = refl
 
--- some end, and then others
+-- some threads end, and then others
 pub both_ended : (a b : ℕ → Bool) (rows : List ThreadRow) (workers : UnderWay) (mid : List ThreadRow) (between : UnderWay) (new : List ThreadRow) (left : UnderWay)
     → HaveEnded a rows workers mid between → HaveEnded b mid between new left → HaveEnded (λ t. a t || b t) rows workers new left
 both_ended a b rows workers mid between new left first second = record {
@@ -146,7 +146,7 @@ both_ended a b rows workers mid between new left first second = record {
       (second.kept i st (life_but a st alive) (first.kept i st alive kept are) (left_held a rows mid first.rows st alive are));
 }
 
--- the same threads end, by another test
+-- the same threads end, by an equal test
 pub ended_as : (a b : ℕ → Bool) → ((t : ℕ) → a t ≡ b t) → (rows : List ThreadRow) (workers : UnderWay) (new : List ThreadRow) (left : UnderWay) → HaveEnded a rows workers new left → HaveEnded b rows workers new left
 ended_as a b same rows workers new left x = subst (λ (dies : ℕ → Bool). HaveEnded dies rows workers new left) (λ k t. same t k) x
 
@@ -186,7 +186,7 @@ module _ (rows : List ThreadRow) (workers left : UnderWay) (u : ℕ) (row : Thre
           none false true = refl
           none false false = refl
 
-  -- one thread has nothing left but to end, and its held call has ended
+  -- one thread is dying, and its held call has ended
   pub one_ended : HaveEnded (λ t. t == u) rows workers (set rows (u - 1) (record row { dying = true })) left
   one_ended = record {
     count = length-set rows (u - 1) _;
@@ -196,7 +196,7 @@ module _ (rows : List ThreadRow) (workers left : UnderWay) (u : ℕ) (row : Thre
 
 -- ---- the threads of the script up to a number
 
--- the same threads end, by a test that agrees where there is a row
+-- the same threads end, by a test that agrees wherever there is a row
 pub ended_where : (a b : ℕ → Bool) (rows : List ThreadRow) → ((t : ℕ) (row : ThreadRow) → item_at_number rows t ≡ Some row → a t ≡ b t) → (workers : UnderWay) (new : List ThreadRow) (left : UnderWay)
     → HaveEnded a rows workers new left → HaveEnded b rows workers new left
 ended_where a b rows same workers new left x = record {
@@ -270,7 +270,7 @@ no_more n t dies stays = elim (cases_eq t (suc n)) [
 ]
 
 module _ (dies : ℕ → Bool) (rows : List ThreadRow) (workers : UnderWay) (now : List ThreadRow) (between : UnderWay) (n : ℕ) (so_far : HaveEnded (λ t. nat_le t n && dies t) rows workers now between) where
-  -- the next thread ends too
+  -- the next thread ends, too
   pub next_ended : dies (suc n) ≡ true → (row : ThreadRow) → item_at_number now (suc n) ≡ Some row → (left : UnderWay) → EndsCall (number_held row) between left
       → HaveEnded (λ t. nat_le t (n + 1) && dies t) rows workers (set now n (record row { dying = true })) left
   next_ended goes row row_is left ends =
@@ -279,11 +279,11 @@ module _ (dies : ℕ → Bool) (rows : List ThreadRow) (workers : UnderWay) (now
       (ended_as (λ t. (nat_le t n && dies t) || (t == suc n)) (λ t. nat_le t (n + 1) && dies t) (λ t. one_more n t dies goes) rows workers (set now (suc n - 1) (record row { dying = true })) left
       (both_ended (λ t. nat_le t n && dies t) (λ t. t == suc n) rows workers now between (set now (suc n - 1) (record row { dying = true })) left so_far (one_ended now between left (suc n) row row_is ends)))
 
-  -- or goes on
+  -- the next thread goes on
   pub next_spared : dies (suc n) ≡ false → HaveEnded (λ t. nat_le t (n + 1) && dies t) rows workers now between
   next_spared stays = ended_as (λ t. nat_le t n && dies t) (λ t. nat_le t (n + 1) && dies t) (λ t. no_more n t dies stays) rows workers now between so_far
 
-  -- its held call lives
+  -- the number of its held call is live
   pub next_lives : HaveCalls rows workers → (row : ThreadRow) → item_at_number now (suc n) ≡ Some row → IfSome (number_held row) (λ q. calls.is_live between.calls q ≡ true)
   next_lives have row row_is = by (number_held row) refl where
     held : AreHeld have.state (life_but (λ t. nat_le t n && dies t) have.state have.alive) now
@@ -300,7 +300,7 @@ all_ended dies rows workers new left n high x = ended_where (λ t. nat_le t n &&
 
 -- ---- what changes end
 
--- the calls that are held still, where threads have ended with theirs
+-- the calls that are still held after threads have ended with theirs
 pub calls_after : (dies : ℕ → Bool) (rows : List ThreadRow) (workers : UnderWay) (new : List ThreadRow) (left : UnderWay) → HaveEnded dies rows workers new left → HaveCalls rows workers → HaveCalls new left
 calls_after dies rows workers new left ended have = record {
   input = have.input;
@@ -316,7 +316,7 @@ ends_none processes caller pid t (Dying dying) alive same = absurd (alive dying 
 ends_none processes caller pid t (Execed binary space) alive same = absurd (same binary space refl)
 ends_none processes caller pid t _ alive same = refl
 
--- a change ends its threads, and those behind it theirs
+-- a change ends its threads, and the later changes end theirs
 pub next_change : (processes : Processes) (caller pid : ℕ) (change : Change) (changes : List Change) (rows : List ThreadRow) (workers : UnderWay) (mid : List ThreadRow) (between : UnderWay) (new : List ThreadRow) (left : UnderWay)
     → HaveEnded (λ t. is_end_of processes caller pid t change) rows workers mid between → HaveEnded (is_ended_by processes caller pid changes) mid between new left → HaveEnded (is_ended_by processes caller pid (change ∷ changes)) rows workers new left
 next_change processes caller pid change changes rows workers mid between new left first later =

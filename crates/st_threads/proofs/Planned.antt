@@ -1,4 +1,4 @@
--- What renewals need is planned one after the other.
+-- What renewals need is planned thread by thread.
 use native.Mathlib.Omega.{arith}
 use Rattle.std.proofs.Common.{◌≡◌, ◌≤◌, ◌<◌, ◌+◌, ◌-◌, ◌^◌, ◌∙◌, ℕ, suc, drop, replicate, List, [], ◌∷◌, ◌++◌, length, Option, Some, None, refl, ap, sym}
 use Rattle.std.proofs.lemmas.List.{append_assoc, append-nil}

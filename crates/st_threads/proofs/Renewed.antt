@@ -1,4 +1,4 @@
--- Held calls that draw new numbers one after the other.
+-- Held calls get new numbers one after the other.
 use native.Mathlib.Omega.{arith}
 use Rattle.std.proofs.Common.{◌≡◌, ◌≢◌, ◌≤◌, ◌<◌, ◌+◌, ◌-◌, ◌^◌, ◌∙◌, ℕ, zero, suc, ◌==◌, Bool, true, false, cond, set, get_or, take, drop, replicate, List, [], ◌∷◌, ◌++◌, length, Option, Some, None, refl, ap, sym, subst, length-append}
 use Rattle.std.proofs.lemmas.Bool.{ne_eqb}
@@ -30,7 +30,7 @@ last_of front x all item split same =
 
 -- ---- one number is renewed
 
--- numbers that live go on where another is renewed
+-- live numbers stay live if another number is renewed
 live_behind : (alive : ℕ → Bool) (q fresh : ℕ) (numbers : List ℕ) → AreOthers q numbers → LiveApart alive numbers → LiveApart (λ other. cond (other == fresh) true (cond (other == q) false (alive other))) numbers
 live_behind alive q fresh [] others live = tt
 live_behind alive q fresh (p ∷ numbers) others live = (
@@ -61,7 +61,7 @@ module _ (process : Process) (q : ℕ) (numbers : List ℕ) (between left : Unde
   one_can : CanRenew left numbers
   one_can = record { input = can.input; state = then; alive = later; kept = kept; live = live_behind can.alive q fresh numbers can.live.1 can.live.2 }
 
--- ---- one is, if there is one
+-- ---- an optional number is renewed
 
 pub lives_if : (seq : Option ℕ) (numbers : List ℕ) (workers : UnderWay) → CanRenew workers (with_number seq numbers) → IfSome seq (λ q. calls.is_live workers.calls q ≡ true)
 lives_if None numbers workers can = tt
@@ -99,7 +99,7 @@ module _ (processes : Processes) (pid caller : ℕ) where
   abbrev process : Process
   process = process_at processes pid
 
-  -- the calls of the first n threads have drawn their numbers
+  -- the calls of the first n threads have got their new numbers
   pub record RenewedSoFar (before : List ThreadRow) (workers : UnderWay) (n : ℕ) (now : List ThreadRow) (between : UnderWay) (cwds : List Components) : Type 0 where
     pub rows : take n now ++ renewed between.calls.next (suc n) (drop n now) ≡ renewed workers.calls.next 1 before
     pub all : (left : UnderWay) → RenewsAll process (numbers (suc n) (drop n now)) between left → RenewsAll process (numbers 1 before) workers left
@@ -107,12 +107,12 @@ module _ (processes : Processes) (pid caller : ℕ) where
     pub copies : cwds ≡ replicate (length (numbers (suc n) (drop n now))) process.cwd
     pub room : between.calls.next + length (drop n now) < 2 ^ 64
 
-  -- none of them has at first
+  -- at first no call has got a new number
   pub none_so_far : (before : List ThreadRow) (workers : UnderWay) (cwds : List Components) → CanRenew workers (numbers 1 before) → workers.calls.next + length before < 2 ^ 64 → cwds ≡ replicate (length (numbers 1 before)) process.cwd → RenewedSoFar before workers 0 before workers cwds
   none_so_far before workers cwds can room copies = record { rows = refl; all = λ left all. all; can = can; copies = copies; room = room }
 
   module _ (before : List ThreadRow) (workers : UnderWay) (n : ℕ) (now : List ThreadRow) (between : UnderWay) (cwds : List Components) (so_far : RenewedSoFar before workers n now between cwds) where
-    -- all of them have at last
+    -- at last all calls have got their new numbers
     pub all_renewed : length now ≤ n → HaveRenewed processes pid caller before workers now between
     all_renewed end =
         let none : drop n now ≡ [] = drop_of_length-le now {i = n} end in
@@ -191,7 +191,7 @@ module _ (processes : Processes) (pid caller : ℕ) where
         few : length fewer ≡ length rest
         few = let a = one in let b = count in let d = one_length seq rest in omega (arith, a, b, d)
 
-        -- the next thread's has drawn one too, if it does
+        -- the next thread's call has got one, too, if it is renewed
         pub next_renewed : RenewedSoFar before workers (n + 1) rows_next left fewer
         next_renewed = record {
           rows = rows_then ∙ so_far.rows;

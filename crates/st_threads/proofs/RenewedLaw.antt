@@ -1,4 +1,4 @@
--- What renewals make of rows, numbers and messages, against what the law's machine makes of them.
+-- How renewals change rows, numbers and messages, compared with the law's machine.
 use native.Mathlib.Omega.{arith}
 use Rattle.std.proofs.Common.{◌≡◌, ◌≢◌, ◌≤◌, ◌<◌, ◌+◌, ◌∙◌, ℕ, zero, suc, ◌&&◌, ◌==◌, not, Bool, true, false, cond, set, List, [], ◌∷◌, ◌++◌, length, Option, Some, None, refl, ap, sym, subst, option_map}
 use Rattle.std.proofs.lemmas.Bool.{eq-eqb, ne_eqb}
@@ -27,13 +27,13 @@ use Rattle.st_threads.specs.Renewing.{AreOthers, LiveApart, RenewsAll, next_behi
 use Rattle.st_threads.specs.Thread.{ThreadRow, IsRow, IsRowOf, number_by_way, number_held, number_pending}
 use Rattle.st_threads.proofs.Rows.{either_none, holds}
 
--- ---- changes that leave what renewals leave
+-- ---- changes that renewals preserve
 
 pub renewals_leave : {A : Type 0} (f : A → Change → A) → ((a : A) (old new : ℕ) → f a (Renewed old new) ≡ a) → (a : A) (next : ℕ) (numbers : List ℕ) → fold f a (renewals_from next numbers) ≡ a
 renewals_leave f same a next [] = refl
 renewals_leave f same a next (q ∷ numbers) = ap (λ b. fold f b (renewals_from (suc next) numbers)) (same a q next) ∙ renewals_leave f same a (suc next) numbers
 
--- ---- rows from a thread on
+-- ---- the rows from a thread on
 
 abbrev pub AreRowsFrom : (ℕ → ThreadState) → ℕ → List ThreadRow → Type 0
 AreRowsFrom threads u [] = Unit {0}
@@ -56,7 +56,7 @@ pub rows_at : (threads : ℕ → ThreadState) (rows : List ThreadRow) → AreRow
 rows_at threads rows are zero = tt
 rows_at threads rows are (suc k) = each_from threads rows 1 are k (suc k) (omega arith)
 
--- a thread is as before, but for its number
+-- a thread is unchanged except for its number
 pub record SameBut (f : ℕ → ℕ) (a b : ThreadState) : Type 0 where
   pub left : b.left ≡ a.left
   pub pending : b.pending ≡ a.pending
@@ -64,9 +64,9 @@ pub record SameBut (f : ℕ → ℕ) (a b : ThreadState) : Type 0 where
   pub dying : b.dying ≡ a.dying
   pub ended : b.ended ≡ a.ended
 
--- ---- whose the numbers are
+-- ---- the threads of the numbers
 
--- a number lives, is of a thread, and was drawn before
+-- a number is live, is a thread's, and was given before
 pub record IsTagged (owner : ℕ → ℕ) (alive : ℕ → Bool) (low u q : ℕ) : Type 0 where
   pub live : alive q ≡ true
   pub tid : owner q ≡ u
@@ -129,7 +129,7 @@ module _ (processes : Processes) (pid caller : ℕ) where
   some_held u p None false e rest ns later next = later next
   some_held u p (Some q) b e rest ns later next = ap (λ (d : Bool). cond d (Renewed q next ∷ renewals pid caller (next + 1) rest) (renewals pid caller next rest)) e ∙ one_held u q p b e rest ns later next
 
-  -- the numbers of rows are drawn as the law says
+  -- the numbers of rows are given as the law says
   pub law_renewals : (st : State) → ((u : ℕ) → owner_of processes u ≡ (st.threads u).owner) → (rows : List ThreadRow) (u next : ℕ) → AreRowsFrom st.threads u rows → renewals pid caller next (held_from st u (length rows)) ≡ renewals_from next (numbers u rows)
   law_renewals st owners [] u next are = refl
   law_renewals st owners (row ∷ rows) u next are =
@@ -146,7 +146,7 @@ module _ (processes : Processes) (pid caller : ℕ) where
   none_own : (u : ℕ) → u ≡ caller → (row : ThreadRow) → number u row ≡ None
   none_own u same row = ap (λ (b : Bool). cond b (number_held row) None) (ap (λ (b : Bool). owner_of processes u == pid && not b) (eq-eqb u caller same) ∙ and_not (owner_of processes u == pid))
 
-  -- the caller's own row tells nothing
+  -- the caller's own row makes no difference
   pub set_numbers : (rows : List ThreadRow) (u k : ℕ) (other : ThreadRow) → k + u ≡ caller → numbers u (set rows k other) ≡ numbers u rows
   set_numbers [] u zero other e = refl
   set_numbers [] u (suc k) other e = refl
@@ -173,14 +173,14 @@ module _ (processes : Processes) (pid caller : ℕ) where
     one_other q u row ns None e apart rest = rest
     one_other q u row ns (Some p) e apart rest = (apart p (of_held u row p e), rest)
 
-    -- those of later threads are others
+    -- the numbers of later threads are others
     others : (q : ℕ) (rows : List ThreadRow) (u : ℕ) → Tagged u rows → owner q < u → AreOthers q (numbers u rows)
     others q [] u tags below = tt
     others q (row ∷ rows) u tags below = one_other q u row (numbers (suc u) rows) (number u row) refl
         (λ p e same. let tid = (tags.0 p e).tid in let eq = ap owner same in omega (arith, tid, eq, below))
         (others q rows (suc u) tags.1 (omega (arith, below)))
 
-    -- and so are those that are drawn later
+    -- the numbers that are given later are others, too
     below_fresh : (n : ℕ) → low ≤ n → (rows : List ThreadRow) (u : ℕ) → Tagged u rows → AreOthers n (numbers u rows)
     below_fresh n high [] u tags = tt
     below_fresh n high (row ∷ rows) u tags = one_other n u row (numbers (suc u) rows) (number u row) refl
@@ -194,18 +194,18 @@ module _ (processes : Processes) (pid caller : ℕ) where
         let tid = tag.tid in
         (tag.live, others q rows (suc u) tags.1 (omega (arith, tid)), rest)
 
-    -- they live, and no two are one
+    -- the numbers are live, and no two are equal
     pub live_apart : (rows : List ThreadRow) (u : ℕ) → Tagged u rows → LiveApart alive (numbers u rows)
     live_apart [] u tags = tt
     live_apart (row ∷ rows) u tags = one_live u row rows tags (number u row) refl (live_apart rows (suc u) tags.1)
 
-    -- ---- what numbers the changes give
+    -- ---- which numbers the changes give
 
     seq_others : (q next : ℕ) (ns : List ℕ) → AreOthers q ns → seq_after q (renewals_from next ns) ≡ q
     seq_others q next [] x = refl
     seq_others q next (p ∷ ns) x = ap (λ (n : ℕ). seq_after n (renewals_from (suc next) ns)) (ap (λ (b : Bool). cond b next q) (ne_eqb p q x.0)) ∙ seq_others q (suc next) ns x.1
 
-    -- the number of a thread, once it was drawn or not
+    -- the number of a thread after one was given or not
     abbrev number_behind : ℕ → Option ℕ → ℕ → ℕ
     number_behind next None q = q
     number_behind next (Some p) q = next
@@ -261,7 +261,7 @@ abbrev pub messages_after : Process → List ℕ → ℕ → (ℕ → Message) �
 messages_after process [] posted messages = messages
 messages_after process (q ∷ ns) posted messages = messages_after process ns (suc posted) (messages_renewed process q (suc posted) messages)
 
--- the numbers that are renewed have these heads, and were drawn before
+-- the numbers that are renewed have these heads, and were given before
 abbrev pub HaveHeads : (ℕ → Option Head) → ℕ → (ℕ → Message) → List ℕ → Type 0
 HaveHeads heads bound messages [] = Unit {0}
 HaveHeads heads bound messages (q ∷ ns) = ((messages q).head ≡ heads q) × (q ≤ bound) × HaveHeads heads bound messages ns
@@ -281,7 +281,7 @@ module _ (heads : ℕ → Option Head) (process : Process) (bound : ℕ) where
       message_is ns (suc posted) (messages_renewed process q (suc posted) messages) (omega (arith, high)) (heads_then messages q posted high ns x.2) r
       ∙ ap (λ (h : Option Head). record (messages r) { head = fold (head_after_change heads process r) (cond (suc posted == r) (option_map (renewed_head process) h) (messages r).head) (renewals_from (suc (suc posted)) ns) }) x.0
 
--- what is kept behind renewals, one after the other
+-- the messages and workers after renewals, one after the other
 pub kept_all : (i : Input) (turns : ℕ → Option ℕ) (process : Process) (st : State) (m : ℕ) (ns : List ℕ) (messages : ℕ → Message) (alive : ℕ → Bool) (posted : ℕ) (workers left : UnderWay) → AreKept i messages turns alive posted workers → RenewsAll process ns workers left
     → AreKept i (messages_after process ns posted messages) turns (life_after_changes st m alive (renewals_from (suc posted) ns)) (fold posted_after_change posted (renewals_from (suc posted) ns)) left
 kept_all i turns process st m [] messages alive posted workers left kept all = subst (λ (w : UnderWay). AreKept i messages turns alive posted w) (sym all) kept

@@ -26,15 +26,15 @@ by_row row q true dying o pending e = absurd (none-some q e)
 by_row row q false dying None pending e = absurd (none-some q e)
 by_row row q false dying (Some entered) pending e = by_way row q dying entered pending entered.way refl e
 
--- what a number that is held says
+-- what a held number says of its row
 pub holds : (row : ThreadRow) (q : ℕ) → number_held row ≡ Some q → Holds row q
 holds row q e = by_row row q row.dying refl row.pending refl e
 
--- and from what it follows
+-- a row that fulfils this holds the number
 pub held_number : (row : ThreadRow) → row.dying ≡ false → (entered : PendingCall) → row.pending ≡ Some entered → (first : ℕ) → entered.way ≡ Held first → number_held row ≡ Some row.number
 held_number row undying entered pending first way = (λ k. cond (undying k) None (number_pending row.number (pending k))) ∙ ap (number_by_way row.number) way
 
--- one that is dying, or has no call pending, holds none
+-- a row that is dying, or has no pending call, holds no number
 pub none_dying : (row : ThreadRow) → row.dying ≡ true → number_held row ≡ None
 none_dying row dying = ap (λ (b : Bool). cond b None (number_pending row.number row.pending)) dying
 

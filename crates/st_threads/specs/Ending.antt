@@ -1,4 +1,4 @@
--- How the held calls of threads end: their own as it is made or denied, and those of threads that have nothing left but to end.
+-- How the held calls of threads end: a thread's own when it is made or denied, and those of threads that are dying.
 use Rattle.std.specs.Prelude.{◌≡◌, ℕ, Bool, true, false, ◌&&◌, ◌||◌, ◌==◌, not, if◌then◌else◌, List, [], ◌∷◌, length, Option, Some, None, unwrap_or, option_map}
 use Rattle.st_base.specs.Numbered.{item_at_number}
 use Rattle.st_model.specs.Processes.{Processes, pid_of}
@@ -19,14 +19,14 @@ abbrev pub HasNumber : Option ThreadRow → ℕ → Type 0
 HasNumber None q = ⊥
 HasNumber (Some row) q = number_held row ≡ Some q
 
--- a number lives, and is this thread's
+-- a number is live, and is this thread's
 pub record IsNumberOf (st : State) (alive : ℕ → Bool) (t q : ℕ) : Type 0 where
   pub lives : alive q ≡ true
   pub head : Head
   pub posted : (st.messages q).head ≡ Some head
   pub tid_is : head.tid ≡ t
 
--- each number that lives is that of its thread's held call, and the number of each held call lives
+-- each live number is that of its thread's held call, and the number of each held call is live
 pub record AreHeld (st : State) (alive : ℕ → Bool) (rows : List ThreadRow) : Type 0 where
   pub own : (q : ℕ) (head : Head) → alive q ≡ true → (st.messages q).head ≡ Some head → HasNumber (item_at_number rows head.tid) q
   pub lives : (t : ℕ) (row : ThreadRow) (q : ℕ) → item_at_number rows t ≡ Some row → number_held row ≡ Some q → IsNumberOf st alive t q
@@ -41,17 +41,17 @@ pub record HaveCalls (rows : List ThreadRow) (workers : UnderWay) : Type 0 where
 
 -- ---- a call ends
 
--- its number, if it has one, lives no more
+-- its number, if it has one, is no longer live
 abbrev pub life_without_number : (ℕ → Bool) → Option ℕ → ℕ → Bool
 life_without_number alive seq other = if is_number other seq then false else alive other
 
--- what is kept once it has ended
+-- the messages and workers after the call has ended
 abbrev pub EndsCall : Option ℕ → UnderWay → UnderWay → Type 0
 EndsCall seq old new = (i : Input) (st : State) (alive : ℕ → Bool) → IsKept i st alive old → IsKept i st (life_without_number alive seq) new
 
--- ---- threads have nothing left but to end
+-- ---- threads that are dying
 
--- a thread that has nothing left but to end, or that goes on
+-- a thread that is dying, or that goes on
 abbrev pub row_dying_if : Bool → ThreadRow → ThreadRow
 row_dying_if true row = record row { dying = true }
 row_dying_if false row = row
@@ -60,7 +60,7 @@ row_dying_if false row = row
 abbrev pub owner_of : Processes → ℕ → ℕ
 owner_of processes t = unwrap_or (pid_of processes t) 0
 
--- whether a thread ends with a process; one is spared
+-- whether a thread ends with a process; one thread is spared
 abbrev pub ends_with : Processes → ℕ → ℕ → ℕ → Bool
 ends_with processes pid spared t = owner_of processes t == pid && not (t == spared)
 
@@ -69,11 +69,11 @@ abbrev pub is_head_among : (ℕ → Bool) → Option Head → Bool
 is_head_among dies None = false
 is_head_among dies (Some head) = dies head.tid
 
--- which numbers live without those of these threads
+-- which numbers are live without those of these threads
 abbrev pub life_but : (ℕ → Bool) → State → (ℕ → Bool) → ℕ → Bool
 life_but dies st alive other = if is_head_among dies (st.messages other).head then false else alive other
 
--- these threads have nothing left but to end, and their held calls have ended
+-- these threads are dying, and their held calls have ended
 pub record HaveEnded (dies : ℕ → Bool) (before : List ThreadRow) (workers : UnderWay) (new : List ThreadRow) (left : UnderWay) : Type 0 where
   pub count : length new ≡ length before
   pub rows : (t : ℕ) → item_at_number new t ≡ option_map (λ row. row_dying_if (dies t) row) (item_at_number before t)
@@ -81,13 +81,13 @@ pub record HaveEnded (dies : ℕ → Bool) (before : List ThreadRow) (workers : 
 
 -- ---- what changes end
 
--- whether a change ends a thread, this being the caller with its process
+-- whether a change ends a thread, if this is the caller and its process
 abbrev pub is_end_of : Processes → ℕ → ℕ → ℕ → Change → Bool
 is_end_of processes caller pid t (Dying dying) = ends_with processes dying 0 t
 is_end_of processes caller pid t (Execed binary space) = ends_with processes pid caller t
 is_end_of processes caller pid t _ = false
 
--- whether one of these changes does
+-- whether one of these changes ends a thread
 abbrev pub is_ended_by : Processes → ℕ → ℕ → List Change → ℕ → Bool
 is_ended_by processes caller pid [] t = false
 is_ended_by processes caller pid (change ∷ changes) t = is_end_of processes caller pid t change || is_ended_by processes caller pid changes t

@@ -1,4 +1,4 @@
--- How the held calls of a process draw new numbers behind a call that sets ids.
+-- How the held calls of a process get new numbers after a call that sets ids.
 use Rattle.std.specs.Prelude.{◌≡◌, ◌≢◌, ℕ, suc, Bool, true, not, ◌&&◌, ◌==◌, if◌then◌else◌, List, [], ◌∷◌, Option, Some, None}
 use Rattle.st_model.specs.Process.{Process}
 use Rattle.st_model.specs.Processes.{Processes, process_at}
@@ -11,13 +11,13 @@ use Rattle.st_workers.specs.UnderWay.{UnderWay}
 use Rattle.st_threads.specs.Ending.{owner_of}
 use Rattle.st_threads.specs.Thread.{ThreadRow, number_held}
 
--- ---- which calls
+-- ---- which calls are renewed
 
--- the number of a thread's held call, if it is renewed: the thread is of the process, and isn't the caller
+-- the number of a thread's held call, if it is renewed: the thread is one of the process, and isn't the caller
 abbrev pub number_renewed : Processes → ℕ → ℕ → ℕ → ThreadRow → Option ℕ
 number_renewed processes pid caller t row = if owner_of processes t == pid && not (t == caller) then number_held row else None
 
--- one number more, if there is one
+-- numbers, with one more if it exists
 abbrev pub with_number : Option ℕ → List ℕ → List ℕ
 with_number None numbers = numbers
 with_number (Some q) numbers = q ∷ numbers
@@ -27,24 +27,24 @@ abbrev pub numbers_from : Processes → ℕ → ℕ → ℕ → List ThreadRow �
 numbers_from processes pid caller t [] = []
 numbers_from processes pid caller t (row ∷ rows) = with_number (number_renewed processes pid caller t row) (numbers_from processes pid caller (suc t) rows)
 
--- ---- what becomes of them
+-- ---- how they are renewed
 
--- each number is renewed, under the numbers from this one on
+-- the changes that renew each number, under the numbers from this one on
 abbrev pub renewals_from : ℕ → List ℕ → List Change
 renewals_from next [] = []
 renewals_from next (q ∷ numbers) = Renewed q next ∷ renewals_from (suc next) numbers
 
--- the next number, once one was drawn or not
+-- the next number after one was given or not
 abbrev pub next_behind : ℕ → Option ℕ → ℕ
 next_behind next None = next
 next_behind next (Some q) = suc next
 
--- a thread whose held call has drawn a number, or hasn't
+-- a thread whose held call has got a new number, or hasn't
 abbrev pub row_renewed : ℕ → Option ℕ → ThreadRow → ThreadRow
 row_renewed next None row = row
 row_renewed next (Some q) row = record row { number = next }
 
--- the threads from t on, once each number is renewed
+-- the threads from t on, after each number was renewed
 abbrev pub rows_renewed : Processes → ℕ → ℕ → ℕ → ℕ → List ThreadRow → List ThreadRow
 rows_renewed processes pid caller next t [] = []
 rows_renewed processes pid caller next t (row ∷ rows) =
@@ -57,12 +57,12 @@ abbrev pub RenewsOne : Process → ℕ → UnderWay → UnderWay → Type 0
 RenewsOne process q old new = (i : Input) (messages : ℕ → Message) (turns : ℕ → Option ℕ) (alive later : ℕ → Bool) (posted : ℕ)
     → AreKept i messages turns alive posted old → RenewsLife alive q (suc posted) later → AreKept i (messages_renewed process q (suc posted) messages) turns later (suc posted) new
 
--- one is, if there is one
+-- an optional number is renewed
 abbrev pub RenewsIf : Process → Option ℕ → UnderWay → UnderWay → Type 0
 RenewsIf process None old new = new ≡ old
 RenewsIf process (Some q) old new = RenewsOne process q old new
 
--- one after the other is
+-- the numbers are renewed one after the other
 abbrev pub RenewsAll : Process → List ℕ → UnderWay → UnderWay → Type 0
 RenewsAll process [] old new = new ≡ old
 RenewsAll process (q ∷ numbers) old new = (between : UnderWay) × RenewsOne process q old between × RenewsAll process numbers between new
@@ -72,12 +72,12 @@ abbrev pub AreOthers : ℕ → List ℕ → Type 0
 AreOthers q [] = Unit {0}
 AreOthers q (p ∷ numbers) = (p ≢ q) × AreOthers q numbers
 
--- each of these numbers lives, and no two of them are one
+-- each of these numbers is live, and no two of them are equal
 abbrev pub LiveApart : (ℕ → Bool) → List ℕ → Type 0
 LiveApart alive [] = Unit {0}
 LiveApart alive (q ∷ numbers) = (alive q ≡ true) × AreOthers q numbers × LiveApart alive numbers
 
--- the messages under way are those of some state, where each of these numbers lives
+-- the messages under way are those of some state in which each of these numbers is live
 pub record CanRenew (workers : UnderWay) (numbers : List ℕ) : Type 0 where
   pub input : Input
   pub state : State
@@ -85,7 +85,7 @@ pub record CanRenew (workers : UnderWay) (numbers : List ℕ) : Type 0 where
   pub kept : IsKept input state alive workers
   pub live : LiveApart alive numbers
 
--- the held calls of a process but the caller's have drawn new numbers, in the order of threads
+-- the held calls of a process except the caller's have got new numbers, in the order of threads
 pub record HaveRenewed (processes : Processes) (pid caller : ℕ) (rows : List ThreadRow) (workers : UnderWay) (new : List ThreadRow) (left : UnderWay) : Type 0 where
   pub rows_are : new ≡ rows_renewed processes pid caller workers.calls.next 1 rows
   pub all : RenewsAll (process_at processes pid) (numbers_from processes pid caller 1 rows) workers left

@@ -1,4 +1,4 @@
--- What is kept of a thread beside its process, which the system knows.
+-- The state of a thread except its process, which the system keeps.
 use Rattle.std.specs.Prelude.{◌≡◌, ℕ, Bool, false, if◌then◌else◌, List, drop, Option, Some, None}
 use Rattle.st_trace.specs.declared.entry.Way.{Way}
 use Rattle.st_trace.specs.declared.entry.Way.TheVariants.{Fast, Barred, Held, Untraced}
@@ -9,7 +9,7 @@ use Rattle.st_law.specs.Threads.{PendingCall, child_of_next}
 
 -- how far a thread has come
 pub record ThreadRow : Type 0 where
-  -- the instructions that it has left
+  -- the instructions left
   pub left : List Instr
   pub pending : Option PendingCall
   -- the number of its held call
@@ -21,14 +21,14 @@ pub record ThreadRow : Type 0 where
 abbrev pub first_row : List Instr → ThreadRow
 first_row body = record { left = body; pending = None; number = 0; dying = false; ended = false }
 
--- the number of a held call that is entered this way
+-- the number of a thread after it entered a call this way
 abbrev pub number_of_way : Way → ℕ → ℕ
 number_of_way (Held q) before = q
 number_of_way Fast before = before
 number_of_way (Barred n) before = before
 number_of_way Untraced before = before
 
--- a thread that enters its next instruction's call this way
+-- a thread after it entered its next instruction's call this way
 abbrev pub row_entered : ThreadRow → SysCall → List ℕ → Way → ThreadRow
 row_entered row call regs way = record {
   left = drop 1 row.left;
@@ -50,11 +50,11 @@ abbrev pub number_pending : ℕ → Option PendingCall → Option ℕ
 number_pending number None = None
 number_pending number (Some entered) = number_by_way number entered.way
 
--- the number of the call that a thread holds; one that is dying holds none
+-- the number of the call that a thread holds; a dying thread holds none
 abbrev pub number_held : ThreadRow → Option ℕ
 number_held row = if row.dying then None else number_pending row.number row.pending
 
--- a row is what the law's machine keeps of a thread; its number means something only while it holds a call
+-- a row represents a thread's state in the law's machine; its number means something only while it holds a call
 pub record IsRow (row : ThreadRow) (thread : ThreadState) : Type 0 where
   pub left : thread.left ≡ row.left
   pub pending : thread.pending ≡ row.pending
@@ -62,12 +62,12 @@ pub record IsRow (row : ThreadRow) (thread : ThreadState) : Type 0 where
   pub dying : thread.dying ≡ row.dying
   pub ended : thread.ended ≡ row.ended
 
--- a row, where there is one
+-- a row, if it exists, represents a thread's state
 abbrev pub IsRowOf : Option ThreadRow → ThreadState → Type 0
 IsRowOf None thread = Unit {0}
 IsRowOf (Some row) thread = IsRow row thread
 
--- a call that is held
+-- the way of a call that is held
 abbrev pub IsHeld : Way → Type 0
 IsHeld (Held q) = Unit {0}
 IsHeld Fast = ⊥

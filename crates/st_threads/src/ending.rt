@@ -1,4 +1,4 @@
-// Held calls end with their threads.
+// Ends held calls with their threads.
 ghost use Rattle.std.specs.Prelude.{◌≡◌, ◌<◌, ◌^◌, true, length, IfSome};
 ghost use Rattle.st_threads.specs.Ending.{EndsCall, HaveCalls, HaveEnded, ends_with, is_end_of, is_ended_by, owner_of, row_dying_if};
 ghost use Rattle.st_threads.specs.Thread.{number_held};
@@ -10,7 +10,7 @@ use st_system::System;
 use st_trace::Change;
 use st_workers::Workers;
 
-/// The call of this number ends, if there is one.
+/// Ends the call of this number, if there is one.
 pub fn end_call(workers: &mut Workers, seq: Option<Seq>)
     requires { IfSome seq (λ q. is_live workers.old.calls q ≡ true) }
     ensures { EndsCall seq workers.old workers.new }
@@ -20,7 +20,7 @@ pub fn end_call(workers: &mut Workers, seq: Option<Seq>)
     }
 }
 
-// A thread has nothing left but to end, and the call that it holds ends.
+// Makes a thread dying, and ends the call that it holds.
 fn make_dying(thread: &mut Thread<'_>, workers: &mut Workers)
     requires { IfSome (number_held thread.old) (λ q. is_live workers.old.calls q ≡ true) }
     ensures thread { thread.new ≡ row_dying_if true thread.old }
@@ -30,7 +30,7 @@ fn make_dying(thread: &mut Thread<'_>, workers: &mut Workers)
     thread.die();
 }
 
-// Whether a thread ends with a process; one is spared.
+// Whether a thread ends with a process; one thread is spared.
 fn ends_with(system: &System, pid: Pid, spared: Tid, tid: Tid) -> bool
     ensures { result ≡ ends_with system.now.processes pid spared tid }
 {
@@ -38,7 +38,7 @@ fn ends_with(system: &System, pid: Pid, spared: Tid, tid: Tid) -> bool
     owner == pid && tid != spared
 }
 
-// The threads of a process have nothing left but to end; one is spared.
+// Makes the threads of a process dying; one thread is spared.
 fn end_threads(
     threads: &mut [Thread<'_>],
     workers: &mut Workers,
@@ -57,7 +57,7 @@ fn end_threads(
     }
 }
 
-// What a change ends: an end of a process ends all its threads, and another binary all but the caller.
+// Ends what a change ends: the end of a process ends all its threads, and running another binary ends all but the caller.
 fn end_by(
     threads: &mut [Thread<'_>],
     workers: &mut Workers,
@@ -77,7 +77,7 @@ fn end_by(
     }
 }
 
-/// What the changes of a caller's call end: the threads of a process that dies, and all but the caller where another binary runs.
+/// Ends what the changes of a caller's call end: the threads of a process that dies, and all but the caller if another binary runs.
 pub fn end_by_all(
     threads: &mut [Thread<'_>],
     workers: &mut Workers,

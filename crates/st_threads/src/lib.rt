@@ -1,4 +1,4 @@
-//! The threads of a run: how far each has come, and how the calls that they hold end and draw new numbers.
+//! Keeps how far each thread has come, and ends or renews the calls that threads hold.
 #![tactic(auto)]
 
 mod ending;

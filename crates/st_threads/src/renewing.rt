@@ -1,4 +1,4 @@
-// Held calls draw new numbers behind a call that sets ids of their process.
+// Gives held calls new numbers after a call that sets ids of their process.
 ghost use Rattle.std.specs.Prelude.{◌≡◌, ◌≢◌, ◌<◌, ◌+◌, ◌-◌, ◌^◌, true, [], ◌∷◌, ◌++◌, length, replicate, IfSome, IfOk, OnOk};
 ghost use Rattle.st_lookaside.specs.Need.{IsShort};
 ghost use Rattle.st_threads.specs.Renewing.{next_behind, number_renewed, numbers_from, renewals_from, row_renewed, with_number, CanRenew, HaveRenewed, RenewsIf};
@@ -15,7 +15,7 @@ use st_trace::Change;
 use st_workers::Workers;
 use std::alloc::{AllocError, Global};
 
-// The number of a thread's held call, if it is renewed: the thread is of the process, and isn't the caller.
+// The number of a thread's held call, if it is renewed: the thread is one of the process, and isn't the caller.
 fn number_renewed(
     thread: &Thread<'_>,
     system: &System,
@@ -33,19 +33,19 @@ fn number_renewed(
     }
 }
 
-// ---- with memory, before anything changes
+// ---- what takes memory, before anything changes
 
-/// What renewals need: the changes that the entry tells, and the directory of the process for each.
+/// What renewals need: the changes for the entry, and the directory of the process for each renewal.
 #[derive(Debug, Drop)]
 pub struct RenewalPlan {
     pub changes: Sequence<Change>,
     pub cwds: Vec<Shared<AbsName>>,
-    // The number that the next renewal draws.
+    // The number that the next renewal gives.
     next: Seq,
 }
 
 impl RenewalPlan {
-    // No renewal yet, behind the change of ids.
+    // No renewal yet, after the change of ids.
     fn new(alloc: Global, set: Ids, next: Seq) -> Result<Self, AllocError>
         ensures changes { IfOk result (λ plan. plan.changes ≡ SetIds set ∷ []) }
         ensures cwds { IfOk result (λ plan. plan.cwds.items ≡ []) }
@@ -60,7 +60,7 @@ impl RenewalPlan {
         })
     }
 
-    // One renewal more, if there is one.
+    // Adds one more renewal, if the number exists.
     fn add(&mut self, seq: Option<Seq>, cwd: &Shared<AbsName>) -> Result<(), AllocError>
         requires { IfSome seq (λ q. self.old.next < 2 ^ 64 - 1) }
         ensures changes { OnOk result (self.new.changes ≡ self.old.changes ++ renewals_from self.old.next (with_number seq [])) }
@@ -77,7 +77,7 @@ impl RenewalPlan {
     }
 }
 
-/// Plans that the held calls of a process but the caller's draw new numbers, from the next one on. All memory is taken here.
+/// Plans new numbers, from the next one on, for the held calls of a process except the caller's. All memory is taken here.
 pub fn plan_renewals(
     alloc: Global,
     threads: &[Thread<'_>],
@@ -103,9 +103,9 @@ pub fn plan_renewals(
     Ok(plan)
 }
 
-// ---- without memory, once the ids are set
+// ---- what takes no memory, after the ids are set
 
-// The call that a thread holds draws the next number, if it is one that does.
+// Gives the call that a thread holds the next number, if it is renewed.
 fn renew_call(
     thread: &mut Thread<'_>,
     workers: &mut Workers,
@@ -133,7 +133,7 @@ fn renew_call(
     }
 }
 
-/// The held calls of a process but the caller's draw new numbers, in the order of threads. Each takes one of these copies of the
+/// Gives the held calls of a process except the caller's new numbers, in the order of threads. Each takes one of these copies of the
 /// process's directory.
 pub fn renew_all(
     threads: &mut [Thread<'_>],

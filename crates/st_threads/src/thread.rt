@@ -14,7 +14,7 @@ pub struct PendingCall {
     pub call: SysCall,
     pub regs: [u64; 6],
     pub way: Way,
-    /// The thread that it starts; 0 where it is no fork of the body.
+    /// The thread that it starts; 0 if it is no fork of the body.
     pub child: Tid,
 }
 
@@ -28,7 +28,7 @@ impl Model for PendingCall {
     ghost inverse = { λ p. record { call = p.call; regs = p.regs; way = p.way; child = p.child } };
 }
 
-/// How far a thread has come. Which process is its own, the system knows.
+/// How far a thread has come. Its process is kept by the system.
 #[derive(Debug, Drop)]
 pub struct Thread<'a> {
     left: &'a [Instr],
@@ -46,7 +46,7 @@ impl<'a> Model for Thread<'a> {
     ghost view = { λ t. record { left = t.left.now; pending = t.pending; number = t.number; dying = t.dying; ended = t.ended } };
 }
 
-// What follows the first instruction.
+// The instructions after the first one.
 fn rest_of<'a>(body: &'a [Instr]) -> &'a [Instr]
     ensures { result.now ≡ drop 1 body.now }
 {
@@ -56,7 +56,7 @@ fn rest_of<'a>(body: &'a [Instr]) -> &'a [Instr]
     }
 }
 
-// The thread that the first instruction starts; 0 where it is no fork.
+// The thread that the first instruction starts; 0 if it is no fork.
 fn child_of(body: &[Instr]) -> Tid
     ensures { result ≡ child_of_next body.now }
 {
@@ -80,14 +80,14 @@ impl<'a> Thread<'a> {
         }
     }
 
-    /// The instructions that are left.
+    /// The instructions left.
     pub fn left(&self) -> &'a [Instr]
         ensures { result.now ≡ self.now.left }
     {
         self.left
     }
 
-    /// The call that it has entered.
+    /// The pending call.
     pub fn pending(&self) -> Option<PendingCall>
         ensures { result ≡ self.now.pending }
     {
@@ -101,7 +101,7 @@ impl<'a> Thread<'a> {
         self.number
     }
 
-    /// The number of the call that it holds; one that is dying holds none.
+    /// The number of the call that it holds. A dying thread holds none.
     pub fn number_held(&self) -> Option<Seq>
         ensures { result ≡ number_held self.now }
     {
@@ -114,7 +114,7 @@ impl<'a> Thread<'a> {
         }
     }
 
-    /// The thread that its pending call starts; 0 where it is no fork of the body.
+    /// The thread that its pending call starts; 0 if it is no fork of the body.
     pub fn child(&self) -> Tid
         ensures { result ≡ child_of_pending self.now.pending }
     {
@@ -124,7 +124,7 @@ impl<'a> Thread<'a> {
         }
     }
 
-    /// Whether it has nothing left but to end.
+    /// Whether it is dying: it can only end.
     pub fn is_dying(&self) -> bool
         ensures { result ≡ self.now.dying }
     {
@@ -138,14 +138,14 @@ impl<'a> Thread<'a> {
         self.ended
     }
 
-    /// Goes on behind its next instruction.
+    /// Goes on after its next instruction.
     pub fn go_on(&mut self)
         ensures { self.new ≡ record self.old { left = drop 1 self.old.left } }
     {
         self.left = rest_of(self.left);
     }
 
-    /// Enters the call of its next instruction, and goes on behind that. A held call has the number of its message.
+    /// Enters the call of its next instruction, and goes on after it. A held call has the number of its message.
     pub fn enter(&mut self, call: SysCall, regs: [u64; 6], way: Way)
         ensures { self.new ≡ row_entered self.old call regs way }
     {
@@ -161,21 +161,21 @@ impl<'a> Thread<'a> {
         self.left = rest_of(self.left);
     }
 
-    /// Its call was made or denied.
+    /// Ends the pending call, because it was made or denied.
     pub fn close(&mut self)
         ensures { self.new ≡ record self.old { pending = None } }
     {
         self.pending = None;
     }
 
-    /// The call that it holds has a new number.
+    /// Gives the call that it holds a new number.
     pub fn renew(&mut self, seq: Seq)
         ensures { self.new ≡ record self.old { number = seq } }
     {
         self.number = seq;
     }
 
-    /// It has nothing left but to end.
+    /// Makes it dying: it can only end.
     pub fn die(&mut self)
         ensures { self.new ≡ record self.old { dying = true } }
     {

@@ -4,7 +4,7 @@ use Rattle.st_learn.specs.Sessions.{places_of}
 use Rattle.st_learn.proofs.Filters.{filters_at, is_any}
 use Rattle.st_learn.proofs.print.append_added.Given as goal
 
--- the text, and the rows that are left, are all of them
+-- the text, and the rows that are left, are together the whole text
 abbrev pub invariant-loop-place : goal.invariant-loop-place
 invariant-loop-place l = record {
   items : l.place-items ≡ places_of l.session.filters l.policy;

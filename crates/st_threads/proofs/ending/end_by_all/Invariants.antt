@@ -4,7 +4,7 @@ use Rattle.st_threads.specs.Ending.{HaveCalls, HaveEnded, is_ended_by}
 use Rattle.st_threads.specs.Thread.{ThreadRow}
 use Rattle.st_threads.proofs.ending.end_by_all.Given as goal
 
--- what the changes that are left end, and those before them, all of them end
+-- what the remaining changes end, and those before them, is what all of them end
 abbrev pub invariant-loop-change : goal.invariant-loop-change
 invariant-loop-change l = HaveCalls l.threads l.workers
     × ((new : List ThreadRow) (left : UnderWay) → HaveEnded (is_ended_by l.fn.system.processes l.fn.caller l.fn.pid (drop l.change-index l.fn.changes)) l.threads l.workers new left

@@ -4,7 +4,7 @@ use Rattle.st_learn.specs.Sessions.{places_of}
 use Rattle.st_learn.proofs.Filters.{filters_at, is_of_rule}
 use Rattle.st_learn.proofs.session.Session.count_at.Given as goal
 
--- none of those that were passed is of the rule
+-- no filter that was passed is of the rule
 abbrev pub invariant-loop-left : goal.invariant-loop-left
 invariant-loop-left l = record {
   within : l.left ≤ length l.places;

@@ -5,7 +5,7 @@ use Rattle.st_learn.specs.Sessions.{firsts_of}
 use Rattle.st_learn.proofs.Filters.{filters_at, is_of_rule}
 use Rattle.st_learn.proofs.session.Session.first_answer.Given as goal
 
--- the first of the rule is among those that are left
+-- the first filter of the rule is among those that are left
 abbrev pub invariant-loop-place : goal.invariant-loop-place
 invariant-loop-place l = record {
   items : l.place-items ≡ firsts_of l.self.filters l.policy;

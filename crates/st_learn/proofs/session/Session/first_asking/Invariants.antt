@@ -4,7 +4,7 @@ use Rattle.st_learn.specs.Sessions.{places_asking}
 use Rattle.st_learn.proofs.First.{first_in}
 use Rattle.st_learn.proofs.session.Session.first_asking.Given as goal
 
--- the first of those that are left is the first of all
+-- the first filter among those that are left is the first of all
 abbrev pub invariant-loop-place : goal.invariant-loop-place
 invariant-loop-place l = record {
   items : l.place-items ≡ places_asking l.self.filters l.text;

@@ -5,7 +5,7 @@ use Rattle.st_learn.specs.Deciding.{asks_first, decides, first_at}
 use Rattle.st_learn.proofs.FirstDeciding.{earlier_with}
 use Rattle.st_learn.proofs.session.Session.first_deciding.Given as goal
 
--- with those of the arguments that are left it is the first of all
+-- the least so far, with the filters of the arguments that are left, gives the first of all
 abbrev pub invariant-loop-part : goal.invariant-loop-part
 invariant-loop-part l = record {
   items : l.part-items ≡ l.copies.parts;
