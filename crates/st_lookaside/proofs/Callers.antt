@@ -1,4 +1,4 @@
--- What a caller knows once it has asked what is needed next.
+-- What a caller knows after it has asked what is needed next.
 use Rattle.std.proofs.Common.{◌≡◌, ◌∙◌, ap, refl, sym, subst, cond, ℕ, Bool, List, Some, IsSome}
 use Rattle.std.proofs.lemmas.Bool.{eq-eqb}
 use Rattle.st_effects.specs.Progress.{Progress, Word, Look, Stuck, Ready}

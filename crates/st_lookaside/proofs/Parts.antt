@@ -1,4 +1,4 @@
--- What a further word or look makes of an argument.
+-- How one more word or look changes an argument.
 use Rattle.std.proofs.Common.{◌≡◌, ◌<◌, ◌≤◌, ℕ, zero, suc, Bool, List, [], ◌∷◌, ◌++◌, length, take, Option, Some, refl, ap, sym, ◌∙◌, subst, arith, append_assoc, append-nil, length-append, inl, inr}
 use Rattle.std.proofs.lemmas.Bool.{cases_eq}
 use Rattle.st_calls.specs.declared.argument.ArgSpec.{ArgSpec}
@@ -43,7 +43,7 @@ text_no_word kind.Octal spec cwd follow lookups text is = is
 text_no_word kind.Domain spec cwd follow lookups text is = is
 text_no_word kind.SockType spec cwd follow lookups text is = is
 
--- where a word is needed it is needed whatever was seen
+-- a word that is needed is needed whatever was seen
 word_alone : (spec : ArgSpec) (cwd : Components) (follow : Bool) (lookups other : List SeenText) (s : spelling.Spelled) →
     IsWord (need_of (progress_alone spec cwd follow lookups s)) → need_of (progress_alone spec cwd follow other s) ≡ need.Look → ⊥
 word_alone spec cwd follow lookups other (spelling.More place) is look = cc
@@ -54,11 +54,11 @@ unseen_by : (asked : ArgRequest) (spec : ArgSpec) (words : List ℕ) (lookups : 
 unseen_by asked spec words [] seen is = refl
 unseen_by asked spec words (s ∷ lookups) seen is = absurd (word_alone spec asked.cwd (is_followed asked spec) (s ∷ lookups) [] (spelled_of asked spec words) is (seen 0 (omega arith)))
 
--- of an argument that needs a word nothing is seen
+-- nothing is seen of an argument that needs a word
 pub unseen : (asked : ArgRequest) (part : Part) → IsPart asked part → IsWord part.need → part.lookups.items ≡ []
 unseen asked part is word = unseen_by asked part.spec (words_in part.copying) part.lookups.items is.seen (subst IsWord is.need word)
 
--- ---- a look more
+-- ---- one more look
 
 name_by : (k : PartKind) (asked : ArgRequest) (spec : ArgSpec) (lookups : List SeenText) (s : spelling.Spelled) (text : List ℕ) → k ≡ kind.Name → s ≡ spelling.Text text → spec.kind ≡ k →
     progress_alone spec asked.cwd (is_followed asked spec) lookups s ≡ progress_of_walk 0 spec (start_walk text asked.cwd (is_followed asked spec) lookups) (Ready [])
@@ -66,7 +66,7 @@ name_by k asked spec lookups s text is done of =
     ap (λ (t : spelling.Spelled). progress_alone spec asked.cwd (is_followed asked spec) lookups t) done
     ∙ ap (λ (j : PartKind). progress_of_text j 0 spec asked.cwd (is_followed asked spec) lookups text (Ready [])) (of ∙ is)
 
--- a name that is wholly copied goes by its walk
+-- the progress of a name that is completely copied is that of its walk
 pub name_progress : (asked : ArgRequest) (spec : ArgSpec) (words : List ℕ) (lookups : List SeenText) (text : List ℕ) → spec.kind ≡ kind.Name → spelled_of asked spec words ≡ spelling.Text text →
     progress_of_arg asked spec words lookups ≡ progress_of_walk 0 spec (start_walk text asked.cwd (is_followed asked spec) lookups) (Ready [])
 name_progress asked spec words lookups text is done = name_by spec.kind asked spec lookups (spelled_of asked spec words) text is done refl
@@ -100,7 +100,7 @@ asked_more asked spec words lookups s seen look count within =
       | inr ne ↦ ap (λ (l : List SeenText). need_of (progress_of_arg asked spec words l)) front ∙ seen count (omega (arith, len, within, ne))
     ]
 
--- the walk behind one more look
+-- the walk after one more look
 pub walk_more : (asked : ArgRequest) (spec : ArgSpec) (words : List ℕ) (lookups after : List SeenText) (walk new : Walk) (s : SeenText) → IsWalk asked spec words lookups walk →
     ((more : List SeenText) → walk_from new more ≡ walk_from walk (s ∷ more)) → after ≡ lookups ++ s ∷ [] → IsWalk asked spec words after new
 walk_more asked spec words lookups after walk new s is goes_on after_is = record {
@@ -110,13 +110,13 @@ walk_more asked spec words lookups after walk new s is goes_on after_is = record
   goes_on = λ more. goes_on more ∙ is.goes_on (s ∷ more) ∙ sym (ap (λ (l : List SeenText). start_walk is.text asked.cwd (is_followed asked spec) l) (ap (λ (l : List SeenText). l ++ more) after_is ∙ append_assoc lookups (s ∷ []) more));
 }
 
--- what an argument needs whose walk has come so far
+-- what an argument needs, by the last step of its walk
 pub need_by_walk : (asked : ArgRequest) (spec : ArgSpec) (words : List ℕ) (lookups : List SeenText) (walk : Walk) → IsWalk asked spec words lookups walk → need_of (progress_of_arg asked spec words lookups) ≡ need_of_walk (step_of (walk_from walk []))
 need_by_walk asked spec words lookups walk is =
     name_need asked spec words lookups is.text is.is_name is.text_is
     ∙ sym (ap (λ (w : WalkState). need_of_walk (step_of w)) (is.goes_on [] ∙ ap (λ (l : List SeenText). start_walk is.text asked.cwd (is_followed asked spec) l) (append-nil lookups)))
 
--- the argument behind one more look
+-- the argument after one more look
 pub part_seen : (asked : ArgRequest) (part after : Part) (walk new : Walk) (s : SeenText) → IsPart asked part → part.need ≡ need.Look → part.walk ≡ Some walk →
     ((more : List SeenText) → walk_from new more ≡ walk_from walk (s ∷ more)) → after.need ≡ need_of_walk (step_of (walk_from new [])) → after.lookups.items ≡ part.lookups.items ++ s ∷ [] →
     after.spec ≡ part.spec → after.copying ≡ part.copying → after.walk ≡ Some new → IsPart asked after
@@ -157,11 +157,11 @@ step_asks step.More e = refl
 step_asks step.Name e = cc
 step_asks (step.Fault errno) e = cc
 
--- the walk asks for each look that was answered
+-- the walk needs each look that was answered
 pub walk_asks : (asked : ArgRequest) (spec : ArgSpec) (words : List ℕ) (lookups : List SeenText) (walk : Walk) → IsWalk asked spec words lookups walk → need_of (progress_of_arg asked spec words lookups) ≡ need.Look → step_of (walk_from walk []) ≡ step.More
 walk_asks asked spec words lookups walk is look = step_asks _ (sym (need_by_walk asked spec words lookups walk is) ∙ look)
 
--- ---- the last word taken back
+-- ---- the last word is undone
 
 parted : (words : List ℕ) → 0 < length words → (front : List ℕ) × (last : ℕ) × (words ≡ front ++ last ∷ [])
 parted [] some = absurd (omega arith)

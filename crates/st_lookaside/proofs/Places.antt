@@ -1,4 +1,4 @@
--- Which slot is found under a number, once one is changed, put in or taken out.
+-- Which slot is found under a number, after one is changed, inserted or removed.
 use Rattle.std.proofs.Common.{◌≡◌, ◌≢◌, ◌<◌, ◌≤◌, ℕ, zero, suc, ◌+◌, ◌-◌, ◌==◌, Bool, true, false, cond, nat_lt, List, [], ◌∷◌, ◌++◌, length, take, drop, get_or, set, Option, Some, None, inl, inr, refl, ap, sym, ◌∙◌, subst, arith, drop-cons, Less, Equal, Greater}
 use Rattle.std.specs.Prelude.{find, IfErr, IfOk, Ok, Err, Result, IfSome}
 use Rattle.std.specs.List.{insert, remove}
@@ -26,7 +26,7 @@ module _ {X : Type 0} (p : X → Bool) where
   find_none [] none = refl
   find_none (x ∷ xs) none = ap (λ (b : Bool). cond b (Some x) (find p xs)) (none 0 x (omega arith)) ∙ find_none xs (λ k d lt. none (suc k) d (omega arith))
 
-  -- one that fails doesn't matter
+  -- an item that fails the test makes no difference
   find_skip : (front back : List X) (y : X) → p y ≡ false → find p (front ++ y ∷ back) ≡ find p (front ++ back)
   find_skip [] back y fails = ap (λ (b : Bool). cond b (Some y) (find p back)) fails
   find_skip (x ∷ front) back y fails = ap (λ (o : Option X). cond (p x) (Some x) o) (find_skip front back y fails)
@@ -57,21 +57,21 @@ get_at [] i within = absurd (omega arith)
 get_at (slot ∷ slots) i within = slot
 
 module _ (slots : List Slot) (ascending : AreAscending slots) (seq i : ℕ) where
-  -- the slot that stands at its place is found
+  -- the slot at its index is found
   pub found_at : IsAt slots seq i → (d : Slot) → slot_at slots seq ≡ Some (get_or slots i d)
   found_at at d =
       find_here (has_number seq) slots i d at.within
       (λ k lt. differs (get_or slots k d) seq (let less = ascending k i d lt at.within in let here = at.here d in λ e. let same : (get_or slots k d).head.seq ≡ seq = e in omega (arith, less, here, same)))
       (is_it (get_or slots i d) seq (at.here d))
 
-  -- none is found of a number that has no place
+  -- no slot is found for a number that has no index
   pub none_at : IsGap slots seq i → slot_at slots seq ≡ None
   none_at gap = find_none (has_number seq) slots (λ k d within. differs (get_or slots k d) seq (elim (cases_lt k i) [
     | inl lt ↦ (let less = gap.before k d lt in λ e. let same : (get_or slots k d).head.seq ≡ seq = e in omega (arith, less, same))
     | inr ge ↦ (let more = gap.behind k d ge within in λ e. let same : (get_or slots k d).head.seq ≡ seq = e in omega (arith, more, same))
   ]))
 
-  -- ---- one is changed
+  -- ---- a slot is changed
 
   pub ascending_set : IsAt slots seq i → (slot : Slot) → slot.head.seq ≡ seq → AreAscending (set slots i slot)
   ascending_set at slot is a b d lt within =
@@ -98,7 +98,7 @@ module _ (slots : List Slot) (ascending : AreAscending slots) (seq i : ℕ) wher
     | inr ne ↦ rw (ne_eqb other seq ne) (find_set_other (has_number other) slots i slot slot (differs slot other (λ x. ne (sym x ∙ is))) (differs (get_or slots i slot) other (λ x. ne (sym x ∙ at.here slot))))
   ]
 
-  -- ---- one is taken out
+  -- ---- a slot is removed
 
   remove_none : IsAt slots seq i → slot_at (remove slots i) seq ≡ None
   remove_none at = find_none (has_number seq) (remove slots i) (λ k d within. elim (cases_lt k i) [
@@ -117,7 +117,7 @@ module _ (slots : List Slot) (ascending : AreAscending slots) (seq i : ℕ) wher
     | inr ne ↦ rw (ne_eqb other seq ne) (let d : Slot = get_at slots i at.within in find_remove_other (has_number other) slots i d at.within (differs (get_or slots i d) other (λ x. ne (sym x ∙ at.here d))))
   ]
 
-  -- ---- one is put in
+  -- ---- a slot is inserted
 
   insert_here : IsGap slots seq i → (slot : Slot) → slot.head.seq ≡ seq → slot_at (insert slots i slot) seq ≡ Some slot
   insert_here gap slot is =
@@ -134,7 +134,7 @@ module _ (slots : List Slot) (ascending : AreAscending slots) (seq i : ℕ) wher
     | inr ne ↦ rw (ne_eqb other seq ne) (find_insert_other (has_number other) slots i slot (differs slot other (λ x. ne (sym x ∙ is))))
   ]
 
-  -- how the number at a place compares, once one is put in
+  -- how the number at an index compares, after a slot is inserted
   number_above : IsGap slots seq i → (slot d : Slot) (k : ℕ) → i < k → (get_or (insert slots i slot) k d).head.seq ≡ (get_or slots (k - 1) d).head.seq
   number_above gap slot d k lt =
       let back : k ≡ (k - 1) + 1 = omega (arith, lt) in
@@ -164,7 +164,7 @@ module _ (slots : List Slot) (ascending : AreAscending slots) (seq i : ℕ) wher
         ]
       ]
 
--- ---- the place that a search gives
+-- ---- the index that a search gives
 
 order_equal : (x y : ℕ) (b c : Bool) → nat_lt x y ≡ b → (x == y) ≡ c → cond b Less (cond c Equal Greater) ≡ Equal → x ≡ y
 order_equal x y true c lt eq e = cc
@@ -228,13 +228,13 @@ module _ (slots now same : List Slot) (ascending : AreAscending slots) (view : s
   at_place : IsAt same seq i → IsAt slots seq i
   at_place at = subst (λ (l : List Slot). IsAt l seq i) copied at
 
-  -- a number that has a slot has no gap
+  -- a number that has a slot isn't missing
   pub gone : IsGap same seq i → IsSome (slot_at now seq) → ⊥
   gone gap some = no_some (ap (λ (l : List Slot). slot_at l seq) (sym view) ∙ none_at slots ascending seq i (subst (λ (l : List Slot). IsGap l seq i) copied gap)) some where
     no_some : {o : Option Slot} → o ≡ None → IsSome o → ⊥
     no_some e is = true≢false (sym (subst IsSome e is))
 
-  -- a number that has none has no place
+  -- a number that has no slot has no index
   pub taken : IsAt same seq i → slot_at now seq ≡ None → ⊥
   taken at none =
       let slot : Slot = get_at slots i (at_place at).within in
@@ -247,11 +247,11 @@ module _ (slots now same : List Slot) (ascending : AreAscending slots) (view : s
     pub number_is : slot.head.seq ≡ seq
     number_is = ap (λ (s : Slot). s.head.seq) here ∙ (at_place at).here slot
 
-    -- what is asked of the slot of the number
+    -- what holds of the slot of the number, if there is one, holds of this slot
     pub asked_of : (P : Slot → Type 0) → IfSome (slot_at now seq) P → P slot
     asked_of P p = if_some (slot_at now seq) slot P found_now p
 
-    -- what is told of it
+    -- what holds of this slot holds of the slot of the number
     pub told_of : (P : Slot → Type 0) → P slot → IfSome (slot_at now seq) P
     told_of P p = some_if (slot_at now seq) slot P found_now p
 
@@ -266,7 +266,7 @@ module _ (slots now same : List Slot) (ascending : AreAscending slots) (view : s
         told_of (λ s. ChangesSlot now seq (Some (change s)) (set slots i after))
         (subst (λ (s : Slot). ChangesSlot now seq (Some s) (set slots i after)) is (now_changed after (ap (λ (s : Slot). s.head.seq) is ∙ same_number)))
 
-    -- where that slot stands so, this one takes its place
+    -- if that is the slot, this slot replaces it
     pub changed_to : (stands taken_by after : Slot) → slot_at now seq ≡ Some stands → (slot ≡ stands → after ≡ taken_by) → after.head.seq ≡ slot.head.seq → ChangesSlot now seq (Some taken_by) (set slots i after)
     changed_to stands taken_by after found is same_number =
         subst (λ (s : Slot). ChangesSlot now seq (Some s) (set slots i after)) (is (same_Some slot stands (sym found_now ∙ found))) (now_changed after same_number)
@@ -283,11 +283,11 @@ module _ (slots now same : List Slot) (ascending : AreAscending slots) (view : s
   pub now_inserted : IsGap same seq i → (slot : Slot) → slot.head.seq ≡ seq → ChangesSlot now seq (Some slot) (insert slots i slot)
   now_inserted gap slot is = subst (λ (l : List Slot). ChangesSlot l seq (Some slot) (insert slots i slot)) view (changed_insert slots ascending seq i (subst (λ (l : List Slot). IsGap l seq i) copied gap) slot is)
 
--- a number that is taken out and put in again under another
+-- a number is removed, and is inserted again under another
 pub now_renewed : (now middle new : List Slot) (seq fresh : ℕ) (slot : Slot) → ChangesSlot now seq None middle → ChangesSlot middle fresh (Some slot) new → RenewsSlot now seq fresh slot new
 now_renewed now middle new seq fresh slot out back other = back other ∙ ap (λ (o : Option Slot). cond (other == fresh) (Some slot) o) (out other)
 
--- what has no slot has none once another is taken out
+-- a number without a slot has none after another slot is removed
 pub still_free : (now middle : List Slot) (seq fresh : ℕ) → ChangesSlot now seq None middle → slot_at now fresh ≡ None → slot_at middle fresh ≡ None
 still_free now middle seq fresh out free = out fresh ∙ by (fresh == seq) where
   by : (b : Bool) → cond b None (slot_at now fresh) ≡ None

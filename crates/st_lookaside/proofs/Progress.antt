@@ -1,4 +1,4 @@
--- How far a message has come, by the first of its arguments that isn't finished.
+-- The progress of a message, by the first of its arguments that isn't finished.
 use Rattle.std.proofs.Common.{◌≡◌, ◌<◌, ◌≤◌, ℕ, zero, suc, ◌+◌, Bool, true, false, not, cond, nat_lt, List, [], ◌∷◌, ◌++◌, length, map, get_or, Some, None, refl, ap, sym, ◌∙◌, subst, arith, append_assoc, length-append}
 use Rattle.std.specs.Prelude.{All}
 use Rattle.std.specs.List.{position}
@@ -28,9 +28,9 @@ use Rattle.st_model.specs.Walk.{WalkState, start_walk}
 use Rattle.st_names.specs.Name.{Components}
 use Rattle.st_names.specs.declared.seen.SeenText.{SeenText}
 
--- ---- one argument in front of others
+-- ---- an argument before others
 
--- an argument that has come so far alone, at this place in front of others
+-- the progress of an argument by itself, with this index and before others
 abbrev pub in_front : ℕ → Progress → Progress → Progress
 in_front j (Word part place) rest = Word j place
 in_front j (Look part name) rest = Look j name
@@ -62,11 +62,11 @@ front_is j spec cwd follow lookups (spelling.Text text) rest = front_of_text spe
 
 -- ---- the arguments that are kept
 
--- how far an argument has come that is kept so
+-- the progress of an argument, by what is kept of it
 abbrev pub progress_of_part : ArgRequest → Part → Progress
 progress_of_part asked part = progress_of_arg asked part.spec (words_in part.copying) part.lookups.items
 
--- how far these have come, from this place on
+-- the progress of these arguments, from this index on
 abbrev pub progress_kept : ℕ → ArgRequest → List Part → Progress
 progress_kept j asked [] = Ready []
 progress_kept j asked (part ∷ parts) = in_front j (progress_of_part asked part) (progress_kept (j + 1) asked parts)
@@ -91,15 +91,15 @@ kept_from asked all front (part ∷ parts) e =
     ∙ ap (λ (f : Filled). in_front j (progress_of_arg asked part.spec f.words f.lookups) (progress_from (j + 1) (map (λ part. part.spec) parts) asked w l)) here
     ∙ ap (in_front j (progress_of_part asked part)) rest
 
--- how far a message has come is how far the arguments have come that are kept of it
+-- the progress of a message is that of the arguments that are kept of it
 pub progress_is : (head : Head) (parts : List Part) → map (λ part. part.spec) parts ≡ args_of head.rule → progress_of_parts head (map filled_of parts) ≡ progress_kept 0 (request_of head) parts
 progress_is head parts specs =
     ap (λ (ss : List ArgSpec). progress_from 0 ss (request_of head) (λ j. (part_at (map filled_of parts) j).words) (λ j. (part_at (map filled_of parts) j).lookups)) (sym specs)
     ∙ kept_from (request_of head) parts [] parts refl
 
--- ---- the first that isn't finished
+-- ---- the first argument that isn't finished
 
--- something is needed, or a fault stands
+-- something is needed, or there is a fault
 abbrev pub is_open : Progress → Bool
 is_open p = not (is_finished (need_of p))
 
@@ -140,7 +140,7 @@ module _ (asked : ArgRequest) (parts : List Part) (are : All (IsPart asked) part
   kept_open : (k : ℕ) → k < length parts → not (is_finished (get_or parts k d).need) ≡ is_open (progress_of_part asked (get_or parts k d))
   kept_open k within = ap (λ (n : Need). not (is_finished n)) (are k d within).need
 
--- the arguments before it are finished, and it decides how far the message has come
+-- the arguments before it are finished, and it decides the progress of the message
 pub record IsOpenAt (head : Head) (parts : List Part) (j : ℕ) (part : Part) : Type 0 where
   pub within : j < length parts
   pub is_part : IsPart (request_of head) part
@@ -174,7 +174,7 @@ open_at head parts same j part slot copied first here =
           ∙ ap (λ (p : Part). in_front j (progress_of_part asked p) (Ready [])) (sym here);
     }
 
--- what is needed next where an argument decides it
+-- what is needed next, by the argument that decides it
 abbrev pub next_at : ℕ → Need → Next
 next_at j (need.Word place) = next.Word j place
 next_at j need.Look = next.Look j
@@ -226,7 +226,7 @@ module _ (head : Head) (parts : List Part) (j : ℕ) (part : Part) (at : IsOpenA
   pub due_place : IsDue (progress_of_parts head (map filled_of parts)) → part_next (progress_of_parts head (map filled_of parts)) ≡ j
   due_place is = ap part_next at.progress ∙ due_in_front j (progress_of_part (request_of head) part) (subst IsDue at.progress is)
 
-  -- an argument that needs something is not finished
+  -- an argument that needs something isn't finished
   pub not_finished : part.need ≡ need.Nothing → ⊥
   not_finished is = true≢false (sym at.opened ∙ ap (λ (n : Need). not (is_finished n)) (sym at.is_part.need ∙ is))
 
@@ -238,7 +238,7 @@ module _ (head : Head) (parts : List Part) (j : ℕ) (part : Part) (at : IsOpenA
     ready_open (Stuck errno) is e = is
     ready_open (Ready args) is e = true≢false (sym e)
 
--- ---- all are finished
+-- ---- all arguments are finished
 
 none_in_front : (j : ℕ) (p rest : Progress) → is_open p ≡ false → is_open rest ≡ false → is_open (in_front j p rest) ≡ false
 none_in_front j (Word part place) rest p_is rest_is = cc
@@ -254,7 +254,7 @@ none_open : (asked : ArgRequest) (parts : List Part) (j : ℕ) (d : Part) → ((
 none_open asked [] j d are = refl
 none_open asked (part ∷ parts) j d are = none_in_front j (progress_of_part asked part) _ (are 0 (omega arith)) (none_open asked parts (j + 1) d (λ k lt. are (suc k) (omega arith)))
 
--- nothing is needed and no fault stands
+-- nothing is needed and there is no fault
 pub record IsAllThere (p : Progress) : Type 0 where
   pub ready : next.Ready ≡ next_of p
   pub no_word : IsWordNext p → ⊥
@@ -275,7 +275,7 @@ none_passes : (test : Part → Bool) (parts : List Part) (k : ℕ) (d : Part) �
 none_passes test parts k d none within =
     fails_before_first test parts k d (let all = none_by _ (position_or_len test parts) (length parts) refl none in omega (arith, all, within))
 
--- where none is open the message is ready
+-- if no argument is open, the message is ready
 finished_all : (head : Head) (parts : List Part) → map (λ part. part.spec) parts ≡ args_of head.rule → All (IsPart (request_of head)) parts → None ≡ position (λ part. not (is_finished part.need)) parts → IsAllThere (progress_of_parts head (map filled_of parts))
 finished_all head [] specs are none = ready_next _ (ap is_open (progress_is head [] specs))
 finished_all head (part ∷ parts) specs are none =
@@ -289,7 +289,7 @@ all_finished head parts same now slot view copied none =
 
 -- ---- the arguments of a message that is ready
 
--- these are the arguments of such parts, each of one
+-- these are the arguments of such parts, one for each
 abbrev pub AreArgs : ArgRequest → List Part → List ArgText → Type 0
 AreArgs asked [] [] = Unit {0}
 AreArgs asked [] (arg ∷ args) = ⊥

@@ -1,4 +1,4 @@
--- The way of one message, computed: what it needs next, what each word, look, renewal and seal leaves, and what each number has.
+-- The course of one message, computed: what it needs next, the slot after each word, look, renewal and seal, and what each number has.
 use Rattle.std.proofs.Common.{◌≡◌, ◌≤◌, ℕ, List, [], ◌∷◌, ◌++◌, length, map, Some, None, refl, sym, subst, arith, codes, replicate}
 use Rattle.std.proofs.lemmas.Option.{none-some}
 use Rattle.st_base.specs.Ids.{identity}
@@ -68,7 +68,7 @@ texts = refl
 outside : progress_of (new_slot (record head { regs = 65536 ∷ 8 ∷ 0 ∷ 0 ∷ 0 ∷ 0 ∷ [] })) ≡ Stuck EFAULT
 outside = refl
 
--- the number, ids and directory of a renewal are new, all else of the message stays, and nothing is copied or seen
+-- the number, ids and directory of a renewal are new, everything else in the message stays, and nothing is copied or seen
 begun_anew : renewed done 9 (identity 7 8) (components_of (codes "/v")) ≡ record {
   head = record head { seq = 9; ids = identity 7 8; cwd = components_of (codes "/v") };
   parts = record { words = []; lookups = [] } ∷ record { words = []; lookups = [] } ∷ [];
@@ -101,11 +101,11 @@ three = numbered 2 ∷ numbered 5 ∷ numbered 7 ∷ []
 found : map (slot_at three) (1 ∷ 2 ∷ 5 ∷ 6 ∷ 7 ∷ []) ≡ None ∷ Some (numbered 2) ∷ Some (numbered 5) ∷ None ∷ Some (numbered 7) ∷ []
 found = refl
 
--- where the slot of 2 goes, that of 5 may not go with it
+-- if the slot of 2 is removed, that of 5 may not be removed with it
 no_other_goes : ChangesSlot three 2 None (numbered 7 ∷ []) → ⊥
 no_other_goes changes = none-some (numbered 5) (changes 5)
 
--- where 2 is renewed as 9, that of 5 may not go with it, and 2 may have none any more
+-- if 2 is renewed as 9, that of 5 may not be removed with it, and 2 no longer has a slot
 no_other_is_renewed : RenewsSlot three 2 9 (numbered 9) (numbered 7 ∷ numbered 9 ∷ []) → ⊥
 no_other_is_renewed renews = none-some (numbered 5) (renews 5)
 

@@ -1,4 +1,4 @@
--- What a change of one argument makes of a message.
+-- How a change of one argument changes a message.
 use Rattle.std.proofs.Common.{◌≡◌, ◌<◌, ◌≤◌, ◌+◌, ℕ, zero, suc, nat_lt, not, Bool, true, false, cond, List, [], ◌∷◌, length, ◌++◌, map, take, drop, get_or, set, append-nil, inl, inr, refl, ap, sym, ◌∙◌, subst, arith, Fits, w32}
 use Rattle.std.specs.Prelude.{All, Some, None, Result, Ok, Err, OnOk, OnErr}
 use Rattle.st_effects.specs.Progress.{Progress, Word, Look, Stuck, Ready, progress}
@@ -28,7 +28,7 @@ use Rattle.st_lookaside.proofs.Progress.{due_place, in_front, look_due, next_at,
 
 -- ---- an argument that may change
 
--- those before it are finished, and behind it nothing is there
+-- the arguments before it are finished, and nothing is copied or seen of those after it
 pub record IsTurn (parts : List Part) (j : ℕ) : Type 0 where
   pub within : j < length parts
   pub before : (k : ℕ) (d : Part) → k < j → (get_or parts k d).need ≡ need.Nothing
@@ -42,7 +42,7 @@ order_kept parts j after turn i k d lt within unfinished =
       | inr from ↦ ap filled_of (get_or-set_other parts j k after d (λ e. let here : k ≡ j = e in omega (arith, here, from, lt))) ∙ turn.behind k d (omega (arith, from, lt)) (omega (arith, len, within))
     ]
 
--- the message is kept well with another argument in its turn
+-- the invariant of the message is preserved if that argument is replaced
 pub slot_kept : (head : Head) (parts : List Part) (j : ℕ) (part after : Part) → IsSlot head parts → IsTurn parts j → part ≡ get_or parts j part → IsPart (request_of head) after → after.spec ≡ part.spec → IsSlot head (set parts j after)
 slot_kept head parts j part after slot turn here is same = record {
   short = slot.short;
@@ -55,7 +55,7 @@ slot_kept head parts j part after slot turn here is same = record {
 pub filled_at : (parts : List Part) (j : ℕ) (part : Part) → j < length parts → part ≡ get_or parts j part → part_at (map filled_of parts) j ≡ filled_of part
 filled_at parts j part within here = get_or-map filled_of parts j part nothing_filled within ∙ ap filled_of (sym here)
 
--- what is seen of a message with another argument
+-- the slot of a message with another argument
 pub view_with : (head : Head) (parts : List Part) (now : Slot) (j : ℕ) (after : Part) (filled : Filled) → record { head = head; parts = map filled_of parts } ≡ now → filled_of after ≡ filled →
     record { head = head; parts = map filled_of (set parts j after) } ≡ with_part now j filled
 view_with head parts now j after filled view is =
@@ -100,18 +100,18 @@ few_specs (rule.Call call) = few_of_call call
 few_specs rule.FsRead = omega arith
 few_specs rule.FsWrite = omega arith
 
--- ---- a message that begins
+-- ---- a message that begins anew
 
 untouched : (parts : List Part) → All (λ part. filled_of part ≡ nothing_filled) parts → map filled_of parts ≡ map (λ (spec : ArgSpec). nothing_filled) (map (λ part. part.spec) parts)
 untouched [] are = refl
 untouched (part ∷ parts) are = λ k. are 0 part (omega arith) k ∷ untouched parts (λ i d lt. are (suc i) d (omega arith)) k
 
--- arguments of which nothing is copied or seen make a message that begins
+-- arguments of which nothing is copied or seen make a message that begins anew
 pub begun_anew : (head : Head) (parts : List Part) → map (λ part. part.spec) parts ≡ args_of head.rule → All (λ part. filled_of part ≡ nothing_filled) parts → record { head = head; parts = map filled_of parts } ≡ new_slot head
 begun_anew head parts specs are =
     ap (λ (all : List Filled). record { head = head; parts = all }) (untouched parts are ∙ ap (map (λ (spec : ArgSpec). nothing_filled)) specs)
 
--- as many items as there were take their place
+-- as many new items replace all the old ones
 pub whole_again : (new old : List Part) (n : ℕ) → n ≡ length old → length new ≡ length old → take n (new ++ drop (length new) old) ≡ new
 whole_again new old n is same =
     ap (λ (l : List Part). take n (new ++ l)) (drop_of_length-le old {i = length new} (omega (arith, same))) ∙ ap (λ (l : List Part). take n l) (append-nil new) ∙ ap (λ (m : ℕ). take m new) (is ∙ sym same) ∙ take-length new
@@ -156,7 +156,7 @@ module _ (head : Head) (parts : List Part) (now : Slot) (j : ℕ) (part : Part) 
     behind = λ _ k lt. behind_here k (subst (λ (n : ℕ). n < k) (here_due due) lt);
   }
 
-  -- what is seen of the message where that argument changes
+  -- the slot of the message after that argument has changed
   pub here_changed : (change : Filled → Filled) (after : Part) → IsDue (progress_of now) → filled_of after ≡ change (filled_of part) →
       record { head = head; parts = map filled_of (set parts j after) } ≡ (let k = part_next (progress_of now) in with_part now k (change (part_at now.parts k)))
   here_changed change after due is =
@@ -169,15 +169,15 @@ module _ (head : Head) (parts : List Part) (now : Slot) (j : ℕ) (part : Part) 
       let found : progress_of now ≡ Look j name = sym (ap progress_of view) ∙ at.progress ∙ ap (λ (p : Progress). in_front j p (Ready [])) is in
       found ∙ ap (λ (k : ℕ). Look k name) (sym (ap part_next found))
 
-  -- the message with that argument as it was
+  -- the slot of the message with that argument unchanged
   pub here_same : (after : Part) → filled_of after ≡ filled_of part → record { head = head; parts = map filled_of (set parts j after) } ≡ now
   here_same after is = ap (λ (all : List Filled). record { head = head; parts = all }) (map-set_same filled_of parts j after part (is ∙ ap filled_of at.here)) ∙ view
 
-  -- an argument's place is a small number
+  -- an argument's index is a small number
   pub few_args : Fits w32 j
   few_args = let few = few_specs head.rule in let len = ap length slot.specs in let same = length-map parts (λ (p : Part). p.spec) in let within = at.within in omega (arith, few, len, same, within)
 
--- ---- an argument that isn't finished yet once it has changed
+-- ---- an argument that still isn't finished after its change
 
 first_place : (p : Part → Bool) (parts : List Part) (j : ℕ) (d : Part) → j < length parts → ((k : ℕ) → k < j → p (get_or parts k d) ≡ false) → p (get_or parts j d) ≡ true → position_or_len p parts ≡ j
 first_place p [] j d within before here = absurd (omega (arith, within))
@@ -192,7 +192,7 @@ first_is : (p : Part → Bool) (parts : List Part) (j : ℕ) (d : Part) → j < 
 first_is p parts j d within before here =
     ap (λ (n : ℕ). cond (nat_lt n (length parts)) (Some n) None) (first_place p parts j d within before here) ∙ ap (λ (b : Bool). cond b (Some j) None) (lt-ltb j (length parts) within)
 
--- it decides again what is needed next
+-- it decides what is needed next again
 pub next_again : (head : Head) (parts : List Part) (now new : Slot) (j : ℕ) (part after : Part) → IsSlot head parts → record { head = head; parts = map filled_of parts } ≡ now → IsOpenAt head parts j part
     → IsPart (request_of head) after → after.spec ≡ part.spec → not (is_finished after.need) ≡ true → record { head = head; parts = map filled_of (set parts j after) } ≡ new → next_at j after.need ≡ next_of (progress_of new)
 next_again head parts now new j part after slot view at is_part same unfinished new_view =

@@ -27,13 +27,13 @@ use Rattle.st_names.specs.declared.limits.TheConstants.{LONGEST_NAME}
 use Rattle.st_names.specs.declared.seen.SeenText.{SeenText}
 use Rattle.st_translate.proofs.Letters.{bytes_of_none}
 
--- ---- of an argument of which no word is copied nothing is seen
+-- ---- nothing is seen of an argument of which no word is copied
 
 next_no_text : (b : Bool) (place : ℕ) (text : List ℕ) → cond b (spelling.Fault EFAULT) (spelling.More place) ≡ spelling.Text text → ⊥
 next_no_text true place text e = cc
 next_no_text false place text e = cc
 
--- no word spells no name
+-- no words spell no name
 no_name : (at : ℕ) (text : List ℕ) → spelling.spell_name at [] ≡ spelling.Text text → ⊥
 no_name at text e =
     next_no_text (nat_le SPACE_WORDS (at / 8 + 0)) (at / 8 + 0) text
@@ -74,7 +74,7 @@ not_begun asked part is e =
     let lookups = no_lookups asked part.spec (words_in part.copying) part.lookups.items words is.seen in
     λ k. record { words = words k; lookups = lookups k }
 
--- ---- the last argument of which a word is copied has its turn
+-- ---- the last argument of which a word is copied may change
 
 finished_or : (n : Need) → (n ≡ need.Nothing) ⊎ (n ≡ need.Nothing → ⊥)
 finished_or (need.Word place) = inr (λ e. cc)
@@ -92,7 +92,7 @@ turn_of_last head parts j slot last = record {
   behind = λ k d lt within. not_begun (request_of head) (get_or parts k d) (slot.parts k d within) (last.behind k d (omega (arith, lt)) within);
 }
 
--- ---- the argument that was last changed
+-- ---- the argument that was changed last
 
 due_with_arg : (arg : _) (p : Progress) → IsDue (with_arg arg p) → IsDue p × (part_next (with_arg arg p) ≡ part_next p)
 due_with_arg arg (Word part place) due = (tt, refl)
@@ -159,7 +159,7 @@ module _ (head : Head) (parts : List Part) (now before : Slot) (filled : Filled)
   begun_by d false e =
       absurd (some (sym (changed_filled d) ∙ not_begun (request_of head) (get_or parts (part_next (progress_of before)) d) (slot.parts (part_next (progress_of before)) d changed_within) e))
 
-  -- it is the last of which a word is copied
+  -- it is the last argument of which a word is copied
   pub changed_last : (j : ℕ) (part : Part) → IsLastBegun parts j → part ≡ get_or parts j part → (part_next (progress_of before) ≡ j) × (filled_of part ≡ filled)
   changed_last j part last here = elim (cases_eq (part_next (progress_of before)) j) [
     | inl e ↦ (e, ap filled_of here ∙ sym (ap (λ (n : ℕ). filled_of (get_or parts n part)) e) ∙ changed_filled part)
@@ -173,7 +173,7 @@ module _ (head : Head) (parts : List Part) (now before : Slot) (filled : Filled)
   pub changed_begun : AreNotBegun parts 0 → ⊥
   changed_begun none = let d = item_of parts (part_next (progress_of before)) changed_within in true≢false (sym (begun_by d _ refl) ∙ none (part_next (progress_of before)) d (omega arith) changed_within)
 
-  -- undoing that change
+  -- that change is undone
   pub undone : (j : ℕ) → part_next (progress_of before) ≡ j → with_part now j (part_at before.parts (part_next (progress_of before))) ≡ before
   undone j e =
       let was : Filled = part_at before.parts (part_next (progress_of before)) in

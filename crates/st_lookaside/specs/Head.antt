@@ -1,7 +1,7 @@
--- What a message is judged by.
+-- How a message asks for its arguments.
 use Rattle.st_effects.specs.Progress.{ArgRequest}
 use Rattle.st_lookaside.specs.declared.head.Head.{Head}
 
--- what gives a message's arguments
+-- the request for a message's arguments
 abbrev pub request_of : Head → ArgRequest
 request_of head = record { rule = head.rule; call = head.call; regs = head.regs; cwd = head.cwd }

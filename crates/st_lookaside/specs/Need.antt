@@ -1,4 +1,4 @@
--- What an argument needs next, by how far it has come.
+-- What an argument needs next, by its progress.
 use Rattle.std.specs.Prelude.{◌≤◌, ◌<◌, Bool, true, false, List, [], length}
 use Rattle.st_calls.specs.declared.argument.ArgSpec.{ArgSpec}
 use Rattle.st_effects.specs.Progress.{Progress, Word, Look, Stuck, Ready, progress_of_spelling}
@@ -12,24 +12,24 @@ use Rattle.st_names.specs.declared.seen.SeenText.{SeenText}
 use Rattle.st_resolve.specs.declared.walk.WalkStep.{WalkStep}
 use Rattle.st_resolve.specs.declared.walk.WalkStep.TheVariants as step
 
--- how far an argument has come that is the only one
+-- the progress of an argument as if it were the only one
 abbrev pub progress_alone : ArgSpec → Components → Bool → List SeenText → Spelled → Progress
 progress_alone spec cwd follow lookups s = progress_of_spelling 0 spec cwd follow lookups s (Ready [])
 
--- what it needs next then
+-- what an argument with this progress needs next
 abbrev pub need_of : Progress → Need
 need_of (Word part place) = need.Word place
 need_of (Look part name) = need.Look
 need_of (Stuck errno) = need.Fault errno
 need_of (Ready args) = need.Nothing
 
--- what a name needs whose walk has come so far
+-- what a name needs next, by the last step of its walk
 abbrev pub need_of_walk : WalkStep → Need
 need_of_walk step.More = need.Look
 need_of_walk step.Name = need.Nothing
 need_of_walk (step.Fault errno) = need.Fault errno
 
--- a name that is no longer than a name may be
+-- a name that isn't too long
 abbrev pub IsShort : Components → Type 0
 IsShort name = length (printed_name name) ≤ LONGEST_NAME
 
@@ -40,7 +40,7 @@ IsWord need.Look = ⊥
 IsWord (need.Fault errno) = ⊥
 IsWord need.Nothing = ⊥
 
--- a word that is needed lies in memory
+-- the index of a word that is needed is inside memory
 abbrev pub IsInside : Need → Type 0
 IsInside (need.Word place) = place < SPACE_WORDS
 IsInside need.Look = Unit {0}

@@ -1,4 +1,4 @@
--- What is copied and seen of an argument, and what is kept of it.
+-- What is copied and seen of an argument, and the invariant of what is kept of it.
 use Rattle.std.specs.Prelude.{◌≡◌, ◌<◌, ℕ, Bool, false, List, [], ◌∷◌, ◌++◌, length, take, slice_index_or, Option, Some, None, nat_lt}
 use Rattle.st_calls.specs.Call.{follows}
 use Rattle.st_calls.specs.declared.argument.ArgSpec.{ArgSpec}
@@ -18,7 +18,7 @@ pub record Filled : Type 0 where
   pub words : List ℕ
   pub lookups : List SeenText
 
--- nothing yet
+-- nothing was copied or seen
 abbrev pub nothing_filled : Filled
 nothing_filled = record { words = []; lookups = [] }
 
@@ -34,13 +34,13 @@ with_word filled word = record { words = filled.words ++ word ∷ []; lookups = 
 abbrev pub with_lookup : Filled → SeenText → Filled
 with_lookup filled seen = record { words = filled.words; lookups = filled.lookups ++ seen ∷ [] }
 
--- ---- how far an argument has come
+-- ---- the progress of an argument
 
 -- the register of an argument
 abbrev pub register_of : ArgRequest → ArgSpec → ℕ
 register_of asked spec = slice_index_or asked.regs spec.register 0
 
--- whether its name is followed where it ends in a link
+-- whether its name is followed if it ends in a link
 abbrev pub is_followed : ArgRequest → ArgSpec → Bool
 is_followed asked spec = follows asked.call asked.regs spec.register
 
@@ -48,7 +48,7 @@ is_followed asked spec = follows asked.call asked.regs spec.register
 abbrev pub spelled_of : ArgRequest → ArgSpec → List ℕ → Spelled
 spelled_of asked spec words = spell spec.kind (register_of asked spec) words
 
--- how far it has come by its words and lookups, whatever the others need
+-- its progress by its words and lookups, whatever the others need
 abbrev pub progress_of_arg : ArgRequest → ArgSpec → List ℕ → List SeenText → Progress
 progress_of_arg asked spec words lookups = progress_alone spec asked.cwd (is_followed asked spec) lookups (spelled_of asked spec words)
 
@@ -62,28 +62,28 @@ words_in (Some copied) = copied.words
 abbrev pub filled_of : Part → Filled
 filled_of part = record { words = words_in part.copying; lookups = part.lookups.items }
 
--- an argument is copied exactly where it lies in memory
+-- an argument is copied iff it is in memory
 abbrev pub IsCopyOf : ArgRequest → ArgSpec → Option Copied → Type 0
 IsCopyOf asked spec None = lies_in_memory spec.kind ≡ false
 IsCopyOf asked spec (Some copied) = (copied.kind ≡ spec.kind) × (copied.at ≡ register_of asked spec)
 
--- each look was asked for by what was seen before it
+-- each look was needed after the looks before it
 abbrev pub AreAskedLooks : ArgRequest → ArgSpec → List ℕ → List SeenText → Type 0
 AreAskedLooks asked spec words lookups = (count : ℕ) → count < length lookups → need_of (progress_of_arg asked spec words (take count lookups)) ≡ need.Look
 
--- the walk of a name that was copied, behind what was seen
+-- the walk of a name that was copied, after what was seen
 pub record IsWalk (asked : ArgRequest) (spec : ArgSpec) (words : List ℕ) (lookups : List SeenText) (walk : Walk) : Type 0 where
   pub text : List ℕ
   pub is_name : spec.kind ≡ kind.Name
   pub text_is : spelled_of asked spec words ≡ Text text
   pub goes_on : (more : List SeenText) → walk_from walk more ≡ start_walk text asked.cwd (is_followed asked spec) (lookups ++ more)
 
--- a walk that is readied is that one
+-- a walk that is readied is that walk
 abbrev pub IsWalkOf : ArgRequest → ArgSpec → List ℕ → List SeenText → Option Walk → Type 0
 IsWalkOf asked spec words lookups None = Unit {0}
 IsWalkOf asked spec words lookups (Some walk) = IsWalk asked spec words lookups walk
 
--- an argument of what is asked, as it is kept
+-- the invariant of an argument
 pub record IsPart (asked : ArgRequest) (part : Part) : Type 0 where
   pub copied : IsCopyOf asked part.spec part.copying
   pub need : part.need ≡ need_of (progress_of_arg asked part.spec (words_in part.copying) part.lookups.items)

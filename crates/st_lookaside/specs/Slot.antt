@@ -26,11 +26,11 @@ pub record Slot : Type 0 where
 abbrev pub new_slot : Head → Slot
 new_slot head = record { head = head; parts = map (λ spec. nothing_filled) (args_of head.rule) }
 
--- what was copied and seen for the argument of this place
+-- what was copied and seen for the argument with an index
 abbrev pub part_at : List Filled → ℕ → Filled
 part_at parts j = slice_index_or parts j nothing_filled
 
--- how far the message has come
+-- the progress of the message
 abbrev pub progress_of_parts : Head → List Filled → Progress
 progress_of_parts head parts = progress (request_of head) (λ j. (part_at parts j).words) (λ j. (part_at parts j).lookups)
 
@@ -39,14 +39,14 @@ progress_of slot = progress_of_parts slot.head slot.parts
 
 -- ---- what is needed next
 
--- what a message needs next that has come so far
+-- what a message with this progress needs next
 abbrev pub next_of : Progress → Next
 next_of (Word part place) = next.Word part place
 next_of (Look part name) = next.Look part
 next_of (Stuck errno) = next.Fault errno
 next_of (Ready args) = next.Ready
 
--- the place of the argument that isn't finished, 0 where all are or one has a fault
+-- the index of the argument that isn't finished; 0 if all are finished or one has a fault
 abbrev pub part_next : Progress → ℕ
 part_next (Word part place) = part
 part_next (Look part name) = part
@@ -74,23 +74,23 @@ IsDue (Look part name) = Unit {0}
 IsDue (Stuck errno) = ⊥
 IsDue (Ready args) = ⊥
 
--- all arguments are there
+-- all arguments are complete
 abbrev pub IsReady : Progress → Type 0
 IsReady (Word part place) = ⊥
 IsReady (Look part name) = ⊥
 IsReady (Stuck errno) = ⊥
 IsReady (Ready args) = Unit {0}
 
--- a word that is needed lies in memory
+-- the index of a word that is needed is inside memory
 abbrev pub IsInside : Next → Type 0
 IsInside (next.Word part place) = place < SPACE_WORDS
 IsInside (next.Look part) = Unit {0}
 IsInside (next.Fault errno) = Unit {0}
 IsInside next.Ready = Unit {0}
 
--- ---- what calls leave
+-- ---- how calls change it
 
--- the argument of this place stands so now
+-- the argument with this index has this copied and seen now
 abbrev pub with_part : Slot → ℕ → Filled → Slot
 with_part slot j filled = record { head = slot.head; parts = slice_set slot.parts j filled }
 
@@ -98,7 +98,7 @@ with_part slot j filled = record { head = slot.head; parts = slice_set slot.part
 abbrev pub after_word : Slot → ℕ → Slot
 after_word slot word = let j = part_next (progress_of slot) in with_part slot j (with_word (part_at slot.parts j) word)
 
--- its walk has one more answer
+-- the walk of the argument that isn't finished has one more answer
 abbrev pub after_look : Slot → SeenText → Slot
 after_look slot seen = let j = part_next (progress_of slot) in with_part slot j (with_lookup (part_at slot.parts j) seen)
 
@@ -119,18 +119,19 @@ snapshot_with head args = record {
   parts = args;
 }
 
--- what is copied and seen came in the order of the arguments: nothing is seen of one that needs a word, and nothing is there behind it
+-- words and answers came in the order of the arguments: nothing is seen of an argument that needs a word, and nothing is copied or seen of
+-- later ones
 pub record IsInOrder (slot : Slot) : Type 0 where
   pub unseen : IsWordNext (progress_of slot) → (part_at slot.parts (part_next (progress_of slot))).lookups ≡ []
   pub behind : IsDue (progress_of slot) → (k : ℕ) → part_next (progress_of slot) < k → part_at slot.parts k ≡ nothing_filled
 
--- ---- what is kept
+-- ---- what is kept of it
 
--- behind an argument that isn't finished nothing is copied or seen
+-- nothing is copied or seen of the arguments after one that isn't finished
 abbrev pub AreInOrder : List Part → Type 0
 AreInOrder parts = (i j : ℕ) (d : Part) → i < j → j < length parts → ((get_or parts i d).need ≡ need.Nothing → ⊥) → filled_of (get_or parts j d) ≡ nothing_filled
 
--- a message and its arguments, as they are kept
+-- the invariant of a message and its arguments
 pub record IsSlot (head : Head) (kept : List Part) : Type 0 where
   pub short : IsShort head.cwd
   pub specs : map (λ part. part.spec) kept ≡ args_of head.rule
@@ -142,16 +143,16 @@ pub record IsSealOf (slot : Slot) (copies : Snapshot) : Type 0 where
   pub args : progress_of slot ≡ Ready copies.parts
   pub head : copies ≡ snapshot_with slot.head copies.parts
 
--- the same, with the copies that are kept once it was sealed
+-- the same, with the copies that are kept if it was sealed
 pub record IsSlotWith (head : Head) (kept : List Part) (copies : Option Snapshot) : Type 0 where
   pub slot : IsSlot head kept
   pub sealed : IfSome copies (IsSealOf (record { head = head; parts = map filled_of kept }))
 
--- of no argument from this place on a word is copied
+-- no word is copied of the arguments from this index on
 abbrev pub AreNotBegun : List Part → ℕ → Type 0
 AreNotBegun parts from = (k : ℕ) (d : Part) → from ≤ k → k < length parts → is_begun (filled_of (get_or parts k d)) ≡ false
 
--- the last argument of which a word is copied
+-- this is the last argument of which a word is copied
 pub record IsLastBegun (parts : List Part) (j : ℕ) : Type 0 where
   pub within : j < length parts
   pub begun : (d : Part) → is_begun (filled_of (get_or parts j d)) ≡ true

@@ -1,4 +1,4 @@
--- The slots of messages by their numbers, and what each call on one of them leaves.
+-- The slots of messages by their numbers, and how each call on one of them changes them.
 use Rattle.std.specs.Prelude.{◌≡◌, ◌<◌, ◌≤◌, ◌==◌, ℕ, Bool, if◌then◌else◌, List, find, get_or, length, Option, Some, None}
 use Rattle.std.specs.List.{AllPairs}
 use Rattle.st_lookaside.specs.Slot.{Slot}
@@ -11,27 +11,27 @@ has_number seq slot = slot.head.seq == seq
 abbrev pub slot_at : List Slot → ℕ → Option Slot
 slot_at slots seq = find (has_number seq) slots
 
--- a number has this slot now, or none, and each other is as it was
+-- a number has this slot now, or none, and each other number is unchanged
 abbrev pub ChangesSlot : List Slot → ℕ → Option Slot → List Slot → Type 0
 ChangesSlot old seq slot new = (other : ℕ) → slot_at new other ≡ (if other == seq then slot else slot_at old other)
 
--- a number has no slot now, this new one has it, and each other is as it was
+-- a number has no slot now, this new number has this slot, and each other is unchanged
 abbrev pub RenewsSlot : List Slot → ℕ → ℕ → Slot → List Slot → Type 0
 RenewsSlot old seq fresh slot new =
     (other : ℕ) → slot_at new other ≡ (if other == fresh then Some slot else if other == seq then None else slot_at old other)
 
--- ---- where slots stand
+-- ---- the indices of slots
 
--- the numbers go up
+-- the numbers are ascending
 abbrev pub AreAscending : List Slot → Type 0
 AreAscending slots = AllPairs (λ slot later. slot.head.seq < later.head.seq) slots
 
--- the slot of this number stands here
+-- the slot of this number is at this index
 pub record IsAt (slots : List Slot) (seq i : ℕ) : Type 0 where
   pub within : i < length slots
   pub here : (d : Slot) → (get_or slots i d).head.seq ≡ seq
 
--- no slot has this number, and it would stand here
+-- no slot has this number, and it would be inserted at this index
 pub record IsGap (slots : List Slot) (seq i : ℕ) : Type 0 where
   pub within : i ≤ length slots
   pub before : (k : ℕ) (d : Slot) → k < i → (get_or slots k d).head.seq < seq

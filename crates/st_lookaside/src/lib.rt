@@ -1,5 +1,5 @@
-//! What is kept of each message under way: the words that were copied for its arguments, what was seen of their names, and what it needs
-//! next.
+//! Keeps what was copied and seen for each message under way: the words of its arguments, the answers to the looks at their names, and what
+//! it needs next.
 #![tactic(auto)]
 
 pub mod head;

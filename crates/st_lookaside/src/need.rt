@@ -14,18 +14,18 @@ use st_translate::Copying;
 /// What an argument needs next, whatever the others need.
 #[derive(Clone, Copy, Debug, PartialEq, Eq)]
 pub enum Need {
-    /// The word at this place of memory.
+    /// The word with this index in memory.
     Word(u32),
     /// A look at the next name of its walk.
     Look,
-    /// Nothing: it came to a fault.
+    /// Nothing: it has this fault.
     Fault(Errno),
-    /// Nothing: it is all there.
+    /// Nothing: it is complete.
     Nothing,
 }
 
 impl Need {
-    /// What a name needs whose walk has come so far.
+    /// What a name needs next, by the last step of its walk.
     pub fn of_step(step: WalkStep) -> Self
         ensures { result ≡ need_of_walk step }
     {
@@ -36,7 +36,7 @@ impl Need {
         }
     }
 
-    /// What an argument that lies in memory needs by its words, before any look.
+    /// What an argument in memory needs by its words, before any look.
     #[inline]
     pub fn before_looks(spec: ArgSpec, copying: &Copying, cwd: &AbsName) -> Self
         requires kind { copying.now.kind ≡ spec.kind }
@@ -50,7 +50,7 @@ impl Need {
         }
     }
 
-    // The same of one that needs no more words. It stands apart as it is rare: words are asked for again and again.
+    // The same for an argument that needs no more words. It is a function of its own since it is rare: words are needed again and again.
     #[inline(never)]
     fn behind_words(spec: ArgSpec, copying: &Copying, cwd: &AbsName) -> Self
         requires kind { copying.now.kind ≡ spec.kind }

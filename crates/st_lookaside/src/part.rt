@@ -1,4 +1,4 @@
-// An argument of a message on its way: what is copied and seen of it.
+// An argument of a message under way: what is copied and seen of it.
 ghost use Rattle.std.specs.Prelude.{◌≡◌, ◌<◌, ℕ, Bool, true, false, List, [], ◌∷◌, ◌++◌, length, slice_index_or, Option, Some, None, is_some, IsSome, IfOk, OnOk, OnErr};
 ghost use Rattle.st_calls.specs.Call.{follows};
 ghost use Rattle.st_calls.specs.declared.argument.ArgText.{ArgText};
@@ -23,11 +23,11 @@ use std::alloc::{AllocError, Global};
 #[derive(Debug, Drop)]
 pub struct Part {
     pub spec: ArgSpec,
-    // What is copied of an argument that lies in memory; none of another.
+    // What is copied of an argument in memory; none for any other argument.
     pub copying: Option<Copying>,
-    // What was seen on the walk of its name.
+    // The answers to the looks of its name's walk.
     pub lookups: Vec<SeenText>,
-    // That walk, once it is readied. It says nothing that isn't copied or seen, and saves walking again.
+    // That walk, once it is readied. It has nothing that isn't copied or seen, and saves walking again.
     pub walk: Option<Walk>,
     // What the argument needs next, whether the walk is readied or not.
     pub need: Need,
@@ -49,7 +49,7 @@ fn register_of(head: &Head, spec: ArgSpec) -> u64
     head.regs.get(spec.register as usize).copied().unwrap_or(0)
 }
 
-// What was seen, with the target where it lies.
+// The answer to a look, with its target borrowed.
 fn seen_of(seen: &SeenText) -> Seen<'_>
     ensures { seen_text result ≡ seen.now }
 {
@@ -88,7 +88,7 @@ impl Part {
         Ok(part)
     }
 
-    // Notes what the argument needs by its words, where nothing is seen of it.
+    // Notes what the argument needs by its words, if nothing is seen of it.
     #[inline]
     fn note_need(&mut self, head: &Head)
         requires copied { IsCopyOf (request_of head.now) self.old.spec self.old.copying }
@@ -104,7 +104,7 @@ impl Part {
         };
     }
 
-    /// Takes the word that is needed next.
+    /// Appends the word that is needed next.
     pub fn fill(&mut self, head: &Head, word: u64)
         requires part { IsPart (request_of head.now) self.old }
         requires need { IsWord self.old.need }
@@ -120,7 +120,7 @@ impl Part {
         self.note_need(head);
     }
 
-    // The walk of the name that was copied, behind what was seen.
+    // The walk of the name that was copied, after what was seen.
     fn walk_again(&self, alloc: Global, head: &Head) -> Result<Walk, AllocError>
         requires part { IsPart (request_of head.now) self.now }
         requires name { self.now.spec.kind ≡ kind.Name }
@@ -131,7 +131,7 @@ impl Part {
             unreachable!()
         };
         let follow = follows(head.call, &head.regs, self.spec.register);
-        // The text has come to no fault, so this is want of memory.
+        // The text has no fault, so this is out of memory.
         let Ok(mut walk) = Walk::begin(alloc, copying.text(), head.cwd.get(), follow) else {
             return Err(AllocError);
         };
@@ -141,7 +141,7 @@ impl Part {
         Ok(walk)
     }
 
-    // Readies the walk of the name that is looked up. Without memory nothing changes.
+    // Readies the walk of the name that is looked up. If memory runs out, nothing changes.
     fn begin_walk(&mut self, alloc: Global, head: &Head) -> Result<(), AllocError>
         requires part { IsPart (request_of head.now) self.old }
         requires need { self.old.need ≡ need.Look }
@@ -158,7 +158,7 @@ impl Part {
         Ok(())
     }
 
-    /// The name that is looked at next. Its walk is readied, and nothing that is copied or seen changes.
+    /// The name that is looked at next. Its walk is readied, and what is copied and seen is unchanged.
     pub fn next_name(&mut self, alloc: Global, head: &Head) -> Result<AbsName, AllocError>
         requires part { IsPart (request_of head.now) self.old }
         requires need { self.old.need ≡ need.Look }
@@ -177,7 +177,7 @@ impl Part {
         Ok(name)
     }
 
-    /// Takes what was seen of the name that is looked at next, whose walk is readied then. Without memory nothing is taken.
+    /// Appends the answer to the look at the next name, and readies its walk if necessary. If memory runs out, no answer is appended.
     pub fn take_look(
         &mut self,
         alloc: Global,
@@ -203,7 +203,7 @@ impl Part {
         Ok(())
     }
 
-    // The name that was found, as it is printed.
+    // The text of the name that was found.
     fn name_text(&self, alloc: Global, head: &Head) -> Result<Text, AllocError>
         requires part { IsPart (request_of head.now) self.now }
         requires need { self.now.need ≡ need.Nothing }
@@ -216,7 +216,7 @@ impl Part {
         }
     }
 
-    // The text of an argument that is all there.
+    // The text of a complete argument.
     fn text(&self, alloc: Global, head: &Head) -> Result<Text, AllocError>
         requires part { IsPart (request_of head.now) self.now }
         requires need { self.now.need ≡ need.Nothing }
@@ -231,7 +231,7 @@ impl Part {
         }
     }
 
-    /// The argument, where it is all there.
+    /// The argument, which is complete.
     pub fn arg(&self, alloc: Global, head: &Head) -> Result<ArgText, AllocError>
         requires part { IsPart (request_of head.now) self.now }
         requires need { self.now.need ≡ need.Nothing }
@@ -244,7 +244,7 @@ impl Part {
         })
     }
 
-    /// Whether it is all there.
+    /// Whether it is complete.
     pub fn is_finished(&self) -> bool
         ensures { result ≡ is_finished self.now.need }
     {
@@ -261,7 +261,7 @@ impl Part {
         }
     }
 
-    /// Undoes the last `fill` or `take_look`, at the cost of what was copied before; the walk is readied no more.
+    /// Undoes the last `fill` or `take_look`, at the cost of what was copied before. The walk is no longer readied.
     pub fn take_back(&mut self, head: &Head)
         requires part { IsPart (request_of head.now) self.old }
         requires some { is_begun (filled_of self.old) ≡ true }
@@ -283,7 +283,7 @@ impl Part {
         self.note_need(head);
     }
 
-    /// Begins anew, in the room that is there: nothing is copied, seen or readied.
+    /// Begins anew in the existing room: nothing is copied, seen or readied.
     pub fn restart(&mut self, head: &Head)
         requires copied { IsCopyOf (request_of head.now) self.old.spec self.old.copying }
         requires short { IsShort head.now.cwd }

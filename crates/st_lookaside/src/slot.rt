@@ -23,22 +23,22 @@ use std::marker::Model;
 /// What a message needs next. Its arguments are numbered from 0 in their order.
 #[derive(Clone, Copy, Debug, PartialEq, Eq)]
 pub enum Next {
-    /// For this argument, the word at this place of memory.
+    /// For this argument, the word with this index in memory.
     Word(u32, u32),
     /// For this argument, a look at the next name of its walk.
     Look(u32),
-    /// Nothing: an argument came to this error.
+    /// Nothing: an argument has this fault.
     Fault(Errno),
-    /// Nothing: all arguments are there.
+    /// Nothing: all arguments are complete.
     Ready,
 }
 
-/// A message under way, and what is copied and seen for its arguments. Each word and look costs only itself.
+/// A message under way, and what is copied and seen for its arguments. The cost of a word or a look doesn't depend on the others.
 #[derive(Debug, Drop)]
 pub struct Slot {
     head: Head,
     parts: Vec<Part>,
-    // The message with the texts of its arguments, once it was sealed.
+    // The message with the texts of its arguments, if it was sealed.
     sealed: Option<Shared<Snapshot>>,
 }
 
@@ -110,7 +110,7 @@ impl Slot {
         })
     }
 
-    /// The message.
+    /// The head of the message.
     pub fn head(&self) -> &Head
         ensures { result.now ≡ self.now.head }
     {
@@ -133,7 +133,7 @@ impl Slot {
         }
     }
 
-    /// Takes the word that is needed next, without memory, and gives what is needed behind it.
+    /// Appends the word that is needed next, and returns what is needed after it. It takes no memory.
     pub fn fill(&mut self, word: u64) -> Next
         requires { IsWordNext (progress_of self.old) }
         ensures slot { self.new ≡ after_word self.old word }
@@ -145,14 +145,14 @@ impl Slot {
         };
         let part = &mut self.parts[j];
         part.fill(&self.head, word);
-        // Mostly it needs one more word, and then the others need not be looked at.
+        // Usually it needs one more word. Then the other arguments need not be looked at.
         if let Need::Word(place) = part.need {
             return Next::Word(j as u32, place);
         }
         self.next()
     }
 
-    /// The name that is looked at next. Its walk is readied, and nothing that is copied or seen changes.
+    /// The name that is looked at next. Its walk is readied, and what is copied and seen is unchanged.
     pub fn next_name(&mut self, alloc: Global) -> Result<AbsName, AllocError>
         requires { IsLookNext (progress_of self.old) }
         ensures same { self.new ≡ self.old }
@@ -165,7 +165,7 @@ impl Slot {
         part.next_name(alloc, &self.head)
     }
 
-    /// Takes what was seen of the name that is looked at next, and gives what is needed behind it. Without memory nothing is taken.
+    /// Appends the answer to the look at the next name, and returns what is needed after it. If memory runs out, no answer is appended.
     pub fn take_look(&mut self, alloc: Global, seen: Seen<'_>) -> Result<Next, AllocError>
         requires { IsLookNext (progress_of self.old) }
         ensures slot { OnOk result (self.new ≡ after_look self.old (seen_text seen.entry)) }
@@ -179,14 +179,14 @@ impl Slot {
         };
         let part = &mut self.parts[j];
         part.take_look(alloc, &self.head, seen)?;
-        // Mostly it needs one more look, and then the others need not be looked at.
+        // Usually it needs one more look. Then the other arguments need not be looked at.
         if let Need::Look = part.need {
             return Ok(Next::Look(j as u32));
         }
         Ok(self.next())
     }
 
-    /// Undoes the last `fill` or `take_look`, at the cost of what was copied or seen before it; nothing is readied then.
+    /// Undoes the last `fill` or `take_look`, at the cost of what was copied or seen before it. The walk is no longer readied.
     pub fn take_back(&mut self)
         ensures head { self.new.head ≡ self.old.head }
         ensures word { (before : slot.Slot) (word : ℕ) → IsInOrder before → IsWordNext (progress_of before) → self.old ≡ after_word before word → self.new ≡ before }
@@ -222,7 +222,7 @@ impl Slot {
         })
     }
 
-    /// The message with the texts of its arguments, as they were copied and looked up. They are made only where it wasn't sealed.
+    /// The message with the texts of its arguments, as they were copied and looked up. They are made only if it wasn't sealed.
     pub fn copies(&self, alloc: Global) -> Result<Shared<Snapshot>, AllocError>
         requires { IsReady (progress_of self.now) }
         ensures args { IfOk result (λ snapshot. progress_of self.now ≡ Ready snapshot.parts) }
@@ -234,7 +234,7 @@ impl Slot {
         }
     }
 
-    /// The same, which is kept here until something is undone or the message begins anew, so that it is made once.
+    /// The same, which is kept here until something is undone or the message begins anew, so that it is made only once.
     pub fn seal(&mut self, alloc: Global) -> Result<Shared<Snapshot>, AllocError>
         requires { IsReady (progress_of self.old) }
         ensures same { self.new ≡ self.old }
@@ -246,7 +246,7 @@ impl Slot {
         Ok(copies)
     }
 
-    /// Begins anew under this number, with these ids and this directory, in the room that is there.
+    /// Begins anew under this number, with these ids and this directory, in the existing room.
     pub fn renew(&mut self, seq: Seq, ids: Ids, cwd: Shared<AbsName>)
         requires { IsShort cwd }
         ensures { self.new ≡ renewed self.old seq ids cwd }

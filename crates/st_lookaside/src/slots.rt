@@ -17,11 +17,11 @@ use std::alloc::{AllocError, Global};
 use std::collections::VecDeque;
 use std::marker::Model;
 
-/// The messages under way by their numbers, and what is copied and seen for each. A message is found in the logarithm of how many
-/// there are; a thread has one at most, so they are few.
+/// The messages under way by their numbers, and what is copied and seen for each. A message is found in logarithmic time. A thread has at
+/// most one, so there are few.
 #[derive(Debug, Drop)]
 pub struct Slots {
-    // In the order of their numbers. The first to begin mostly ends first, and makes no other move.
+    // In the order of their numbers. The first to begin usually ends first, and then no other slot is moved.
     slots: VecDeque<Slot>,
 }
 
@@ -37,8 +37,8 @@ impl Model for Slots {
     ghost invariant = { λ s. AreAscending s.slots.items };
 }
 
-// Where the slot of this number stands, if it stands as far behind the first as it is greater. Calls mostly end in the order in which they
-// were entered, and then it does. Where few are under way, it mostly is the first.
+// The index of the slot of this number, if it is the number less that of the first slot. Calls usually end in the order in which they were
+// entered, and then it is. If few are under way, it usually is the first.
 #[inline]
 fn guess_of(slots: &VecDeque<Slot>, seq: Seq) -> Option<usize>
     ensures { IfSome result (IsAt slots.now.items seq) }
@@ -56,7 +56,7 @@ fn guess_of(slots: &VecDeque<Slot>, seq: Seq) -> Option<usize>
     }
 }
 
-// The same for any slot, in the logarithm of how many there are.
+// The same for any slot, in logarithmic time.
 #[inline(never)]
 fn search_of(slots: &VecDeque<Slot>, seq: Seq) -> Result<usize, usize>
     requires { AreAscending slots.now.items }
@@ -66,7 +66,7 @@ fn search_of(slots: &VecDeque<Slot>, seq: Seq) -> Result<usize, usize>
     slots.binary_search_by_key(&seq, |slot| slot.head().seq)
 }
 
-// Where the slot of this number stands, or would.
+// The index of the slot of this number, or the index at which it would be inserted.
 #[inline]
 fn place_of(slots: &VecDeque<Slot>, seq: Seq) -> Result<usize, usize>
     requires { AreAscending slots.now.items }
@@ -79,7 +79,7 @@ fn place_of(slots: &VecDeque<Slot>, seq: Seq) -> Result<usize, usize>
     }
 }
 
-// Takes the slot out that stands here, which leaves room for another.
+// Removes the slot at an index, which leaves room for another.
 fn take_out(slots: &mut VecDeque<Slot>, place: usize) -> Slot
     requires { place < length slots.old.items }
     ensures items { slots.new.items ≡ remove slots.old.items place }
@@ -93,7 +93,7 @@ fn take_out(slots: &mut VecDeque<Slot>, place: usize) -> Slot
 }
 
 impl Slots {
-    /// No slots, which takes no memory.
+    /// No slots. It takes no memory.
     pub fn new(alloc: Global) -> Self
         ensures { result ≡ [] }
     {
@@ -102,7 +102,7 @@ impl Slots {
         }
     }
 
-    /// Begins a message of which nothing is copied or seen, with room for every word. Without memory nothing changes.
+    /// Begins a message of which nothing is copied or seen, with room for every word. If memory runs out, nothing changes.
     pub fn reserve(&mut self, alloc: Global, head: Head) -> Result<(), AllocError>
         requires free { slot_at self.old head.seq ≡ None }
         requires short { IsShort head.cwd }
@@ -137,7 +137,7 @@ impl Slots {
         self.slot(seq).next()
     }
 
-    /// Takes the word that a message needs next, without memory, and gives what it needs behind it.
+    /// Appends the word that a message needs next, and returns what it needs after it. It takes no memory.
     pub fn fill(&mut self, seq: Seq, word: u64) -> Next
         requires slot { IsSome (slot_at self.old seq) }
         requires next { IfSome (slot_at self.old seq) (λ slot. IsWordNext (progress_of slot)) }
@@ -152,7 +152,7 @@ impl Slots {
         slot.fill(word)
     }
 
-    /// The name that a message looks at next. Its walk is readied, and nothing that is copied or seen changes.
+    /// The name that a message looks at next. Its walk is readied, and what is copied and seen is unchanged.
     pub fn next_name(&mut self, alloc: Global, seq: Seq) -> Result<AbsName, AllocError>
         requires slot { IsSome (slot_at self.old seq) }
         requires next { IfSome (slot_at self.old seq) (λ slot. IsLookNext (progress_of slot)) }
@@ -166,7 +166,8 @@ impl Slots {
         slot.next_name(alloc)
     }
 
-    /// Takes what was seen of the name that a message looks at next, and gives what it needs behind it. Without memory nothing is taken.
+    /// Appends the answer to the look at a message's next name, and returns what it needs after it. If memory runs out, no answer is
+    /// appended.
     pub fn take_look(&mut self, alloc: Global, seq: Seq, seen: Seen<'_>) -> Result<Next, AllocError>
         requires slot { IsSome (slot_at self.old seq) }
         requires next { IfSome (slot_at self.old seq) (λ slot. IsLookNext (progress_of slot)) }
@@ -182,7 +183,7 @@ impl Slots {
         slot.take_look(alloc, seen)
     }
 
-    /// A message with the texts of its arguments, as they were copied and looked up. They are made only where it wasn't sealed.
+    /// A message with the texts of its arguments, as they were copied and looked up. They are made only if it wasn't sealed.
     pub fn copies(&self, alloc: Global, seq: Seq) -> Result<Shared<Snapshot>, AllocError>
         requires slot { IsSome (slot_at self.now seq) }
         requires ready { IfSome (slot_at self.now seq) (λ slot. IsReady (progress_of slot)) }
@@ -192,7 +193,7 @@ impl Slots {
         self.slot(seq).copies(alloc)
     }
 
-    /// The same, which is kept until something is undone or the message begins anew, so that it is made once.
+    /// The same, which is kept until something is undone or the message begins anew, so that it is made only once.
     pub fn seal(&mut self, alloc: Global, seq: Seq) -> Result<Shared<Snapshot>, AllocError>
         requires slot { IsSome (slot_at self.old seq) }
         requires ready { IfSome (slot_at self.old seq) (λ slot. IsReady (progress_of slot)) }
@@ -207,7 +208,7 @@ impl Slots {
         slot.seal(alloc)
     }
 
-    /// Undoes the last `fill` or `take_look` of a message; nothing is readied then. It takes no memory.
+    /// Undoes the last `fill` or `take_look` of a message. Its walk is no longer readied. It takes no memory.
     pub fn take_back(&mut self, seq: Seq)
         requires { IsSome (slot_at self.old seq) }
         ensures word { (before : slot.Slot) (word : ℕ) → IsInOrder before → IsWordNext (progress_of before) → slot_at self.old seq ≡ Some (after_word before word) → ChangesSlot self.old seq (Some before) self.new }
@@ -220,8 +221,8 @@ impl Slots {
         slot.take_back();
     }
 
-    /// Begins a message anew under a number that has no slot, with these ids and this directory, in the room that is there. Its old
-    /// number has no slot then.
+    /// Begins a message anew under a number that has no slot, with these ids and this directory, in the existing room. Its old number then
+    /// has no slot.
     pub fn renew(&mut self, old: Seq, new: Seq, ids: Ids, cwd: Shared<AbsName>)
         requires slot { IsSome (slot_at self.old old) }
         requires free { slot_at self.old new ≡ None }
@@ -236,13 +237,13 @@ impl Slots {
         let Err(place) = place_of(&self.slots, new) else {
             unreachable!()
         };
-        // There is room, as one was just taken out.
+        // There is room, since one slot was just removed.
         let Ok(()) = self.slots.insert(place, slot) else {
             unreachable!()
         };
     }
 
-    /// Ends the slot of a number, which takes no memory.
+    /// Ends the slot of a number. It takes no memory.
     pub fn drop_of(&mut self, seq: Seq)
         requires { IsSome (slot_at self.old seq) }
         ensures { ChangesSlot self.old seq None self.new }

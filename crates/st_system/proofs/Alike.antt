@@ -1,11 +1,11 @@
--- A call has one outcome over systems that differ in their held calls, and in memories that are not its process's.
+-- A call has the same outcome over systems that differ only in their held calls, and in memories that aren't its process's.
 use Rattle.std.proofs.Common.{◌≡◌, ℕ, List, refl}
 use Rattle.st_calls.specs.declared.call.SysCall.{SysCall}
 use Rattle.st_calls.specs.declared.call.SysCall.TheVariants.{SetUid, SetEuid, SetGid, SetEgid, Write}
 use Rattle.st_effects.specs.Effect.{effect}
 use Rattle.st_effects.specs.System.{System, Request, HeldCall, space_of_caller}
 
--- of a call that sets ids the held calls are the same
+-- the held calls are the same for a call that sets ids
 abbrev pub HasSameHeld : SysCall → List HeldCall → List HeldCall → Type 0
 HasSameHeld SetUid held other = held ≡ other
 HasSameHeld SetEuid held other = held ≡ other
@@ -13,7 +13,7 @@ HasSameHeld SetGid held other = held ≡ other
 HasSameHeld SetEgid held other = held ≡ other
 HasSameHeld _ held other = Unit {0}
 
--- only a write looks at memory, its process's own, and only a call that sets ids at held calls
+-- only a write looks at memory, that of its process, and only a call that sets ids looks at held calls
 pub alike : (system : System) (memory : ℕ → ℕ → ℕ) (held : List HeldCall) (request : Request) → ((b : ℕ) → system.memory (space_of_caller system request) b ≡ memory (space_of_caller system request) b)
     → (call : SysCall) → HasSameHeld call system.held held → effect system call request ≡ effect (record system { memory = memory; held = held }) call request
 alike system memory held request row Write same = λ k. effect (record system { memory = λ s b. row b k }) Write request

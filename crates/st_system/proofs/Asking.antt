@@ -1,4 +1,4 @@
--- What a call needs that is made in one step, by the machine's record.
+-- The arguments of a call that is made in one step, and the links in the way of a call, as in the law's machine.
 use Rattle.std.proofs.Common.{◌≡◌, ◌∙◌, ℕ, Bool, true, false, List, [], Option, Some, None, ap, sym}
 use Rattle.std.specs.Prelude.{Result, Ok, Err, IfOk}
 use Rattle.st_arguments.specs.Arguments.{progress_of}
@@ -37,21 +37,21 @@ module _ (parts : Parts) (tid pid : ℕ) (is : Some pid ≡ pid_of parts.process
     now_is = λ k. arguments_in (record { rule = (ap (rule_of call regs) same ∙ sym rule_is) k; call = call; regs = regs; cwd = (ap (λ (p : Process). p.cwd) process ∙ sym cwd_is) k })
         (record { bytes = bytes k; tree = x.tree k })
 
-  -- the arguments, where there is memory for them
+  -- the arguments, unless memory runs out
   pub asked_if : {E : Type 0} (result : Result Arguments E)
       → IfOk result (λ given. arguments_in (record { rule = rule; call = call; regs = regs; cwd = cwd }) (surroundings parts.tree parts.memories space) ≡ progress_of given)
       → IfOk result (λ given. (i : Input) (st : State) → IsSystem i st parts → i.options.aliasing ≡ aliasing → arguments_now i st tid call regs ≡ progress_of given)
   asked_if (Ok given) here = λ i st x same. now_is i st x same ∙ here
   asked_if (Err error) here = tt
 
--- the first link that names meet, where there is memory for it
+-- the first link in the way of names, unless memory runs out
 pub met_if : {E : Type 0} (result : Result (Option Components) E) (parts : Parts) (call : SysCall) (regs : List ℕ) (args : List ArgText) (aliasing : Bool) (rule : Rule) → rule ≡ rule_of call regs aliasing
     → IfOk result (λ link. link ≡ link_met parts.tree rule call regs args)
     → IfOk result (λ link. (i : Input) (st : State) → IsSystem i st parts → i.options.aliasing ≡ aliasing → link ≡ link_now i st call regs args)
 met_if (Ok link) parts call regs args aliasing rule is here = λ i st x same. here ∙ (λ k. link_met (sym x.tree k) ((is ∙ ap (rule_of call regs) (sym same)) k) call regs args)
 met_if (Err error) parts call regs args aliasing rule is here = tt
 
--- where they meet none, the first one
+-- the first name if no link is in the way, unless memory runs out
 pub unmet_if : {E : Type 0} (result : Result (Option Components) E) (tree : Tree) (call : SysCall) (regs : List ℕ) (args : List ArgText) (aliasing : Bool) (rule : Rule) → rule ≡ rule_of call regs aliasing
     → is_link_at tree [] ≡ false → IfOk result (λ link. link ≡ link_met tree rule call regs args)
     → IfOk result (λ link. link ≡ None → follows call regs 0 ≡ true → IsNoLink tree (first_name args))

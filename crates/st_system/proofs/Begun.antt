@@ -15,25 +15,25 @@ use Rattle.st_law.specs.declared.input.Input.{Input}
 use Rattle.st_law.specs.Threads.{first_owner, owner_of_row}
 use Rattle.st_system.specs.Start.{first_thread_of, HaveStarted}
 
--- a thread that hasn't started is found nowhere
+-- a thread that hasn't started isn't found
 pub not_found : (o : Option StartedThread) → option_map (λ (thread : StartedThread). thread.pid) o ≡ None → o ≡ None
 not_found None e = refl
 not_found (Some thread) e = absurd cc
 
--- one that starts stands in its place
+-- threads are still in order after one more has started
 pub ordered_begin : (processes : Processes) (tid pid : ℕ) → AreOrdered processes → AreOrdered (processes_after_begin processes tid pid)
 ordered_begin processes tid pid ordered = sorted-insert_entry nat_cmp nat_cmp_total processes.threads tid (record { pid = pid; ended = false }) ordered
 
--- a result that leaves them in order
+-- threads are still in order after a result that is no error
 pub ordered_ok : {A E : Type 0} (result : Result A E) (old new : Processes) (tid pid : ℕ) → OnOk result (new ≡ processes_after_begin old tid pid) → OnOk result (AreOrdered old → AreOrdered new)
 ordered_ok (Ok a) old new tid pid is = λ ordered. subst AreOrdered (sym is) (ordered_begin old tid pid ordered)
 ordered_ok (Err e) old new tid pid is = tt
 
--- the owner by a thread's row
+-- the process of a thread by its row
 pub owner_of_place : (i : Input) (k : ℕ) (row : ThreadRow) → slice_get i.start.threads k ≡ Some row → unwrap_or row.process 0 ≡ first_owner i (suc k)
 owner_of_place i k row here = ap owner_of_row (sym here)
 
--- numbers of processes are below the next as they were
+-- numbers of processes that were below the next number still are
 pub below_next : (before after : Processes) (p : ℕ) → after.rows ≡ before.rows → p < next_pid before → p < next_pid after
 below_next before after p rows low = subst (λ rows. p < next_pid (record { rows = rows; threads = after.threads })) (sym rows) low
 
@@ -44,7 +44,7 @@ empty_ordered : IsStrictlySortedBy nat_cmp []
 unfolding IsStrictlySortedBy
 empty_ordered = tt
 
--- before the first
+-- before the first thread has started
 pub none_started : (i : Input) (processes : Processes) → processes.threads ≡ [] → HaveStarted i 0 processes processes
 none_started i processes none = record {
   rows = refl;
@@ -55,7 +55,7 @@ none_started i processes none = record {
   nothing zero = refl
   nothing (suc t) = grind (arith)
 
--- no thread behind this number has started
+-- no thread with a greater number has started
 pub unstarted : (i : Input) (k : ℕ) (before after : Processes) → HaveStarted i k before after → pid_of after (suc k) ≡ None
 unstarted i k before after x = ap (option_map (λ (thread : StartedThread). thread.pid)) (x.threads (suc k) ∙ beyond) where
   beyond : cond (nat_le (suc k) k) (first_thread_of (first_owner i (suc k))) None ≡ None

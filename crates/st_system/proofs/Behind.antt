@@ -1,4 +1,4 @@
--- What a call leaves of the parts, and so of the machine's record.
+-- The parts after a call, and the state of the law's machine after its entry.
 use Rattle.std.proofs.Common.{◌≡◌, ◌∙◌, ℕ, true, false, List, [], Option, refl, ap, sym}
 use Rattle.std.specs.List.{fold}
 use Rattle.st_calls.specs.declared.call.SysCall.{SysCall}
@@ -31,7 +31,7 @@ use Rattle.st_system.proofs.Memory.{agree, live_kept}
 use Rattle.st_system.proofs.Renewing.{fold_with, renews_behind}
 use Rattle.st_system.proofs.Same.{system_is}
 
--- a system of these parts, where no call is held
+-- a system of these parts in which no call is held
 abbrev pub bare_system : Parts → System
 bare_system parts = record {
   tree = parts.tree;
@@ -45,7 +45,7 @@ bare_system parts = record {
   held = [];
 }
 
--- a call had its outcome over these parts where no call is held, and left those after its changes
+-- a call had its outcome over these parts if no call is held, and its changes led to the new parts
 pub record IsLeft (call : SysCall) (request : Request) (given : Outcome) (parts new : Parts) : Type 0 where
   pub outcome : (system : System) → system.held ≡ [] → outcome_of given new.descriptors ≡ effect (system_of system parts.tree parts.descriptors parts.processes parts.memories) call request
   pub tree : new.tree ≡ tree_after parts.tree given.changes
@@ -66,7 +66,7 @@ none_held call = tt
 
 module _ (call : SysCall) (request : Request) (given : Outcome) (parts new : Parts) (ordered : AreOrdered parts.processes) (live : is_live parts.memories (process_at parts.processes request.pid).space ≡ true)
     (left : IsLeft call request given parts new) (i : Input) (st : State) (x : IsSystem i st parts) (is : IsRequest i st request) (child : HasChild i call request) where
-  -- the number of the caller's memory, by the parts and by the record
+  -- the number of the caller's memory, by the parts and by the state
   abbrev own : ℕ
   own = (process_at parts.processes request.pid).space
 
@@ -86,7 +86,7 @@ module _ (call : SysCall) (request : Request) (given : Outcome) (parts new : Par
   owner : (st.threads request.tid).owner ≡ request.pid
   owner = sym (ap (λ (r : Request). r.pid) is)
 
-  -- the changes that the entry has
+  -- the changes in the entry
   abbrev full : List Change
   full = with_renewals i st call request given.result given.changes
 
@@ -96,7 +96,7 @@ module _ (call : SysCall) (request : Request) (given : Outcome) (parts new : Par
   as_changed : {A : Type 0} (f : A → Change → A) → ((a : A) (old new : ℕ) → f a (Renewed old new) ≡ a) → (a : A) → fold f a full ≡ fold f a given.changes
   as_changed f same a = fold_with i st request f same call a given.result given.changes
 
-  -- the descriptors behind the entry, by the result
+  -- the descriptors after the entry, by the result
   table : (result : CallResult) → given.result ≡ result → (seq : Option ℕ) → table_after i st (Used request.tid seq call request.regs request.args request.ids result full) ≡ new.descriptors
   table (Value n) e seq = ap (λ (r : Request). (effect (law.system_of i st) call r).descriptors) (sym is) ∙ (renews_behind i st request call).descriptors ∙ sym (ap (λ o. o.descriptors) whole)
   table (Failed errno) e seq = sym (failure_keeps (unheld_system i st) request call errno (sym (ap (λ o. o.result) whole) ∙ e)) ∙ sym (ap (λ o. o.descriptors) whole)

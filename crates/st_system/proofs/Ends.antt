@@ -1,4 +1,4 @@
--- The end of a thread, and of its process where it was the last.
+-- The end of a thread, and of its process if this was the last thread.
 use native.Mathlib.Omega.{arith}
 use Rattle.std.proofs.Common.{◌≡◌, ◌≢◌, ◌≤◌, ◌∙◌, ℕ, ◌+◌, Bool, true, false, cond, not, ◌&&◌, ◌||◌, ◌==◌, Option, Some, None, refl, ap, subst, sym, inl, inr}
 use Rattle.std.proofs.lemmas.Bool.{true≢false, and_parts, cases_eq, eq-eqb, eqb-true, eqb-false, ne_eqb, false_from_ne_true, not-true}
@@ -48,7 +48,7 @@ module _ (i : Input) (st : State) (parts : Parts) (x : IsSystem i st parts) (t p
   abbrev others : ℕ → Bool
   others u = is_running_in st (st.threads t).owner u && not (u == t)
 
-  -- another that runs, where it is found
+  -- if another thread runs, this wasn't the last
   not_last : (u : ℕ) → others u ≡ true → IsLast parts.processes t → ⊥
   not_last u found last =
       let outer = and_parts (is_running_in st (st.threads t).owner u) (not (u == t)) found in
@@ -65,17 +65,17 @@ module _ (i : Input) (st : State) (parts : Parts) (x : IsSystem i st parts) (t p
       (eq-eqb (st.threads u).owner (st.threads t).owner (row.0 ∙ sym owner)) (ap not (row.1 ∙ ap not runs)) (ap not (ne_eqb u t ne)))
       ∙ none u low (omega (arith, high))))
 
-  -- whether it was the last
+  -- whether the thread was the last
   last_is : (r : Bool) → (IsTrue r ↔ IsLast parts.processes t) → r ≡ is_last_thread i st t
   last_is r iff = least (λ o. r ≡ not (is_some o)) others 1 (thread_count i)
       (λ u f. false_from_ne_true r (λ holds. not_last u f.holds (iff.0 holds)))
       (λ none. iff.1 (last_if_none none))
 
-  -- the descriptors behind it
+  -- the descriptors after the end
   table : (r : Bool) → (IsTrue r ↔ IsLast parts.processes t) → (new : Table) → new ≡ cond r (table_after_close_all parts.descriptors p) parts.descriptors → table_after i st (Ended t) ≡ new
   table r iff new is_new = (λ k. cond (sym (last_is r iff) k) (table_after_close_all (x.descriptors k) (owner k)) (x.descriptors k)) ∙ sym is_new
 
-  -- each thread's row behind it
+  -- each thread's row after the end
   module _ (new : Processes) (ends : ThreadEnds parts.processes t new) where
     own : (o : Option StartedThread) → thread_at parts.processes t ≡ o → IsThread o (st.threads t) → IsThread (option_map (λ (thread : StartedThread). record thread { ended = true }) o) ((state_after i st (Ended t)).threads t)
     own None e y = absurd (let none : option_map (λ (thread : StartedThread). thread.pid) (thread_at parts.processes t) ≡ None = ap (option_map (λ (thread : StartedThread). thread.pid)) e in cc)

@@ -1,4 +1,4 @@
--- A binary is executed: what it leaves.
+-- The system after a binary was executed.
 use native.Mathlib.Omega.{arith}
 use Rattle.std.proofs.Common.{◌≡◌, ◌≢◌, ◌≤◌, ◌<◌, ◌∙◌, ◌⊎◌, ℕ, zero, suc, Bool, true, false, cond, not, ◌&&◌, ◌==◌, List, [], ◌∷◌, ◌++◌, length, Option, Some, None, inl, inr, refl, ap, subst, sym}
 use Rattle.std.proofs.Math.ListN.{get_or-append}
@@ -54,7 +54,7 @@ module _ (system : System) (request : Request) where
   exec_changes : Fits (effect system Execve request)
   exec_changes = search (unless, on, gone)
 
--- what they leave
+-- what these changes leave unchanged
 record LeavesRest (changes : List Change) : Type 0 where
   tree : (tree : Tree) → tree_after tree changes ≡ tree
   process : (n : ℕ) → next_process_after n changes ≡ n
@@ -81,12 +81,12 @@ space_of_two : (b : Bool) (next : ℕ) (before : Process) → (cond b (record be
 space_of_two true next before = refl
 space_of_two false next before = refl
 
--- the memory of a process behind them
+-- the memory of a process after these changes
 gone_space : (processes : ℕ → Process) (m p next : ℕ) (inherit : Bool) (binary : List ℕ) → (process_after processes m p (Execed binary next ∷ policy_changes inherit binary)).space ≡ cond (m == p) next (processes p).space
 gone_space processes m p next true binary = space_of_two (m == p) next (processes p)
 gone_space processes m p next false binary = space_by (m == p) binary next (processes p)
 
--- ---- memories, once one is made and one given up
+-- ---- memories, after one is made and one is given up
 
 module _ (memories : Memories) (own : ℕ) (live : is_live memories own ≡ true) where
   abbrev left : Memories
@@ -96,15 +96,15 @@ module _ (memories : Memories) (own : ℕ) (live : is_live memories own ≡ true
   next_left zero = ap suc (length-append memories (Some zeros ∷ []) ∙ omega arith)
   next_left (suc k) = ap suc (length-set (memories ++ Some zeros ∷ []) k None ∙ length-append memories (Some zeros ∷ []) ∙ omega arith)
 
-  -- the one that is given up
+  -- the memory that is given up no longer exists
   own_gone : (k : ℕ) → own ≡ suc k → k < length memories → is_live (spaces_after_give_up (spaces_after_make memories) (suc k)) (suc k) ≡ false
   own_gone k e low = ap is_some (get_or-set_same (memories ++ Some zeros ∷ []) k None None (let n = length-append memories (Some zeros ∷ []) in omega (arith, low, n)))
 
-  -- any other that was made before
+  -- any other memory that was made before is unchanged
   other_stays : (k j : ℕ) → j ≢ k → j < length memories → is_live (spaces_after_give_up (spaces_after_make memories) (suc k)) (suc j) ≡ is_live memories (suc j)
   other_stays k j ne low = ap is_some (get_or-set_other (memories ++ Some zeros ∷ []) k j None None ne ∙ get_or-append memories (Some zeros ∷ []) None j low)
 
-  -- one that isn't given up wasn't before, and is another
+  -- a memory that isn't given up wasn't given up before, and is another one
   pub kept_left : (o s : ℕ) → own ≡ o → is_given_up (spaces_after_give_up (spaces_after_make memories) o) s ≡ false → (s ≢ own) × (is_given_up memories s ≡ false)
   kept_left zero s e kept = absurd (true≢false (sym live ∙ ap (is_live memories) e))
   kept_left (suc k) zero e kept = absurd (true≢false (given ∙ kept)) where
@@ -138,7 +138,7 @@ gone_next : (n next : ℕ) (inherit : Bool) (binary : List ℕ) → next_space_a
 gone_next n next true binary = refl
 gone_next n next false binary = refl
 
--- ---- the parts behind it
+-- ---- the parts after the call
 
 module _ (parts : Parts) (x : IsWhole parts) (request : Request) (pid_there : IsPid parts.processes request.pid) (given : outcomes.Outcome) (processes : Processes) (memories : Memories)
     (outcome : (system : System) → outcome_of given system.descriptors ≡ execve_outcome (with_tree (with_memories system parts.memories) parts.tree) request)
@@ -185,7 +185,7 @@ module _ (parts : Parts) (x : IsWhole parts) (request : Request) (pid_there : Is
   other_space : (p : ℕ) → p ≢ request.pid → (process_at processes p).space ≡ (process_at parts.processes p).space
   other_space p ne = other_by p ne shape
 
-  -- and is none that another has
+  -- the memory of the process is no other process's
   own_by : (q : ℕ) → IsPid parts.processes q → IsExec (next_space parts.memories) request.inherit given.changes → (process_at processes request.pid).space ≡ (process_at parts.processes q).space → request.pid ≡ q
   own_by q is (inl none) same = x.apart request.pid q pid_there is
       (sym (ap (λ (process : Process). process.space) (after.processes request.pid ∙ ap (process_after (process_at parts.processes) request.pid request.pid) none)) ∙ same)

@@ -21,7 +21,7 @@ use Rattle.st_trace.specs.declared.entry.CallResult.TheVariants.{Value, Failed}
 use Rattle.st_trace.specs.declared.entry.Change.{Change}
 
 module _ (system : System) (request : Request) where
-  -- where a call fails, the descriptors are those that it found
+  -- if a call fails, the descriptors are those that it found
   abbrev Keeps : Outcome → Type 0
   Keeps outcome = (errno : Errno) → outcome.result ≡ Failed errno → outcome.descriptors ≡ system.descriptors
 
@@ -32,7 +32,7 @@ module _ (system : System) (request : Request) where
   unless : (reasons : List (Option Errno)) (outcome : Outcome) → Keeps outcome → Keeps (unless_refused system reasons outcome)
   unless reasons outcome x = unless_error_keeps (first_error reasons) outcome x
 
-  -- one that goes well doesn't fail
+  -- a call that succeeds doesn't fail
   well : (number : ℕ) (changes : List Change) (table : Table) → Keeps (record { result = Value number; changes = changes; descriptors = table })
   well number changes table errno is = absurd cc
 

@@ -1,4 +1,4 @@
--- Calls of each kind as they are made over the parts, or not for want of memory.
+-- Calls of each kind as they are made over the parts, unless memory runs out.
 use native.Mathlib.Omega.{arith}
 use Rattle.std.proofs.Common.{◌≡◌, ◌≢◌, ℕ, true, None, subst, sym}
 use Rattle.std.proofs.lemmas.Bool.{false_from_ne_true}
@@ -26,7 +26,7 @@ use Rattle.st_system.proofs.Executing.{left_binary, whole_binary}
 use Rattle.st_system.proofs.OnProcesses.{left_processes, whole_processes}
 use Rattle.st_system.proofs.Short.{IsShort}
 
--- the name of a directory
+-- the name of a directory isn't too long
 pub move_of : (call : SysCall) (parts : Parts) (request : Request) → CanMake call parts request → call ≡ Chdir → IsShort (arg_name_at request 0)
 move_of call parts request can is = subst (λ (c : SysCall). CanMake c parts request) is can
 
@@ -58,7 +58,7 @@ made_binary_if (Err error) parts x request there processes memories outcome afte
 
 -- ---- calls on processes
 
--- what making one needs
+-- the precondition of a call on processes
 pub can_call : (parts : Parts) → IsWhole parts → (pid : ℕ) → IsPid parts.processes pid → CanCall parts.descriptors parts.processes parts.memories pid
 can_call parts x pid there = let r = x.ready pid there in record { table = r.table; process = there; space = r.space }
 
@@ -83,7 +83,7 @@ allows parts x request Bind on can = can
 allows parts x request Connect on can = can
 allows parts x request call on can = absurd on
 
--- the child's thread
+-- the child's thread hasn't started
 unstarted_of : (call : SysCall) (parts : Parts) (request : Request) → CanMake call parts request → call ≡ Fork → pid_of parts.processes request.child ≡ None
 unstarted_of call parts request can is = (subst (λ (c : SysCall). CanMake c parts request) is can).thread
 

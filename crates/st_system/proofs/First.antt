@@ -20,12 +20,12 @@ use Rattle.st_law.specs.declared.input.Input.{Input}
 use Rattle.st_law.specs.Processes.{first_process, no_descriptors, process_of_row}
 use Rattle.st_system.specs.Start.{process_of, AreFirst}
 
--- one more number behind those from a on
+-- one more number after those from a on
 range_more : (a n : ℕ) → range_with_len a (suc n) ≡ range_with_len a n ++ (a + n) ∷ []
 range_more a zero = ap (λ x. x ∷ []) (omega arith)
 range_more a (suc n) = ap (λ xs. a ∷ xs) (range_more (a + 1) n) ∙ ap (λ x. a ∷ (range_with_len (a + 1) n ++ x ∷ [])) (omega arith)
 
--- so are those from 1 on
+-- the same for the numbers from 1 on
 range_one_more : (k : ℕ) → range_with_len 1 (suc k) ≡ range_with_len 1 k ++ suc k ∷ []
 range_one_more k = range_more 1 k ∙ ap (λ x. range_with_len 1 k ++ x ∷ []) (omega arith)
 

@@ -1,4 +1,4 @@
--- The arguments of a call are fit for it once they are all there: a directory's name isn't too long, and an address has a port of 16 bits.
+-- Complete arguments of a call are fit for it: a directory's name isn't too long, and an address has a port of 16 bits.
 use native.Mathlib.Omega.{arith}
 use Rattle.std.proofs.Common.{◌≡◌, ◌≤◌, ◌<◌, ◌^◌, ℕ, zero, suc, Bool, true, false, cond, List, [], ◌∷◌, ◌++◌, length, slice_index_or, refl, ap, subst, sym}
 use Rattle.std.proofs.lemmas.List.{length-append}
@@ -58,7 +58,7 @@ reprinted (part ∷ rest) short = let low = slashed (part ++ flat_map with_slash
 
 -- ---- walks
 
--- a walk that has come to a name has one that isn't too long
+-- the name of a walk that has found one isn't too long
 abbrev IsShortWalk : WalkState → Type 0
 IsShortWalk (walk.Name name) = IsShort name
 IsShortWalk (walk.Next name) = Unit {0}
@@ -89,7 +89,7 @@ resolved_short (suc looks) tree cwd text follow lookups =
 
 -- ---- addresses
 
--- what is spelled has a port of 16 bits
+-- a text that is spelled has a port of 16 bits
 abbrev HasPortText : Spelled → Type 0
 HasPortText (Text text) = port_in text < 2 ^ 16
 HasPortText (Fault errno) = Unit {0}
@@ -125,7 +125,7 @@ within_port (suc count) at bytes words =
 
 -- ---- arguments
 
--- where all are there, they are fit for the call
+-- if the arguments are complete, they are fit for the call
 abbrev IsFitProgress : SysCall → Progress → Type 0
 IsFitProgress call (Word part place) = Unit {0}
 IsFitProgress call (Look part name) = Unit {0}
@@ -161,7 +161,7 @@ held_port call fits cwd follow lookups (Text text) x = fits _ x
 held_port call fits cwd follow lookups (Fault errno) x = tt
 held_port call fits cwd follow lookups (More place) x = tt
 
--- aliases leave the rules of these calls
+-- aliasing doesn't change the rules of these calls
 rule_chdir : (regs : List ℕ) (aliasing : Bool) → rule_of Chdir regs aliasing ≡ Call Chdir
 rule_chdir regs true = refl
 rule_chdir regs false = refl
@@ -181,7 +181,7 @@ any_fits call (Stuck errno) fits = tt
 any_fits call (Ready args) fits = fits args
 
 module _ (regs : List ℕ) (cwd : Components) (aliasing : Bool) where
-  -- a call whose arguments are asked for
+  -- the request for the arguments of a call
   abbrev asked : SysCall → ArgRequest
   asked call = record { rule = rule_of call regs aliasing; call = call; regs = regs; cwd = cwd }
 

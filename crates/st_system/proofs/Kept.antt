@@ -1,4 +1,4 @@
--- A store leaves the system as the machine's record has it.
+-- After a store, the system represents the state of the law's machine.
 use native.Mathlib.Omega.{arith}
 use Rattle.std.proofs.Common.{◌==◌, ◌≡◌, ◌≢◌, ◌∙◌, ℕ, true, false, not, Option, Some, None, refl, ap, sym}
 use Rattle.std.proofs.lemmas.Bool.{eq-eqb, ne_eqb}
@@ -29,7 +29,7 @@ pub pid_owner : (o : Option StartedThread) (p : ℕ) → Some p ≡ option_map (
 pid_owner None p is = absurd cc
 pid_owner (Some thread) p is = cc
 
--- a thread's row with another way to say who owns it
+-- a thread by another row with the same owner
 pub with_owner : (o : Option StartedThread) (row other : ThreadState) → IsThread o row → other.owner ≡ row.owner → other.ended ≡ row.ended → IsThread o other
 with_owner None row other x owner ended = (owner ∙ x.0, ended ∙ x.1)
 with_owner (Some thread) row other x owner ended = (owner ∙ x.0, ended ∙ x.1)
@@ -53,7 +53,7 @@ stored i st parts x t place word space new space_is live bytes keeps = record {
   own : (st.processes (st.threads t).owner).space ≡ space
   own = ap (λ p. (st.processes p).space) (owner_is (thread_at parts.processes t) (st.threads t) (x.threads t)) ∙ ap (λ process. process.space) (x.processes (owner_in (thread_at parts.processes t))) ∙ sym space_is
 
--- what a result says that is no error
+-- what holds of a success holds if the result is no error
 pub of_ok : {A E P : Type 0} (result : Result A E) → OnOk result P → (IsErr result → ⊥) → P
 of_ok (Ok a) on fine = on
 of_ok (Err e) on fine = absurd (fine refl)

@@ -1,4 +1,4 @@
--- A name that meets no link and is followed to its end is no link's.
+-- A name without a link in its way that is followed to its end isn't a link's.
 use Rattle.std.proofs.Common.{◌≡◌, ◌∙◌, ℕ, Bool, true, false, cond, not, ◌&&◌, ◌||◌, List, [], ◌∷◌, ◌++◌, Option, Some, None, IfSome, refl, ap, subst, sym}
 use Rattle.std.proofs.lemmas.Bool.{true≢false}
 use Rattle.std.proofs.lemmas.List.{append_assoc, append-nil}
@@ -31,14 +31,14 @@ directory_unlinked object_kind.Dir is = refl
 directory_unlinked object_kind.File is = absurd (true≢false (sym is))
 directory_unlinked object_kind.Link is = absurd (true≢false (sym is))
 
--- the root is no link
+-- the root isn't a link
 pub root_unlinked : (tree : Tree) (root : ℕ) → object_of tree [] ≡ Some root → IsMade tree root → is_directory (node_with_number tree root).kind ≡ true → is_link_at tree [] ≡ false
 root_unlinked tree root is made directory =
     ap is_link_node (ap (λ (o : Option ℕ). node_at tree o) is ∙ numbered tree root made) ∙ directory_unlinked (node_with_number tree root).kind directory
 
 -- ---- ways
 
--- where no link is met on the way to a name, it is none itself
+-- if no link is in the way of a name, the name isn't a link's
 unlinked_along : (tree : Tree) (done rest : Components) → is_link_at tree done ≡ false → link_along tree true done rest ≡ None → is_link_at tree (done ++ rest) ≡ false
 unlinked_along tree done [] here none = ap (is_link_at tree) (append-nil done) ∙ here
 unlinked_along tree done (part ∷ rest) here none =
@@ -49,20 +49,20 @@ unlinked_along tree done (part ∷ rest) here none =
       by true e = cc
       by false e = (refl, e)
 
--- where neither of two is there, the first is not
+-- if neither of two options exists, the first doesn't
 first_none : (o other : Option Components) → first_of_two o other ≡ None → o ≡ None
 first_none None other e = refl
 first_none (Some name) other e = cc
 
 module _ (tree : Tree) (root : is_link_at tree [] ≡ false) (call : SysCall) (regs : List ℕ) where
-  -- the first of the arguments, which is a name that register 0 has
+  -- the first argument, which is a name from register 0
   unlinked_first : (specs : List ArgSpec) (args : List ArgText) → follows call regs 0 ≡ true → link_among tree call regs (filename ∷ specs) args ≡ None → is_link_at tree (first_name args) ≡ false
   unlinked_first specs [] follow none = root
   unlinked_first specs (arg ∷ args) follow none =
       let way : link_on_way tree (follows call regs 0) (components_of arg.text) ≡ None = first_none (link_on_way tree (follows call regs 0) (components_of arg.text)) _ none in
       unlinked_along tree [] (components_of arg.text) root (subst (λ b. link_on_way tree b (components_of arg.text) ≡ None) follow way)
 
-  -- by the arguments that a call has
+  -- the same by the arguments of a call
   unlinked_with : (specs all : List ArgSpec) (args : List ArgText) → all ≡ filename ∷ specs → follows call regs 0 ≡ true → link_among tree call regs all args ≡ None → is_link_at tree (first_name args) ≡ false
   unlinked_with specs all args is follow none = unlinked_first specs args follow (subst (λ each. link_among tree call regs each args ≡ None) is none)
 
@@ -109,7 +109,7 @@ execve_args : (regs : List ℕ) (aliasing : Bool) → args_of (rule_of Execve re
 execve_args regs true = refl
 execve_args regs false = refl
 
--- where the names of a call meet no link, the first one, if it is followed to its end, is no link's
+-- if no link is in the way of a call's names, and its first name is followed to its end, that name isn't a link's
 unlinked : (tree : Tree) (call : SysCall) (regs : List ℕ) (aliasing : Bool) (args : List ArgText) → is_link_at tree [] ≡ false → link_met tree (rule_of call regs aliasing) call regs args ≡ None → follows call regs 0 ≡ true → is_link_at tree (first_name args) ≡ false
 unlinked tree Open regs aliasing args root none follow = unlinked_with tree root Open regs _ _ args (open_args regs aliasing) follow none
 unlinked tree Stat regs aliasing args root none follow = unlinked_with tree root Stat regs _ _ args (stat_args regs aliasing) follow none

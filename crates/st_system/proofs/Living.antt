@@ -1,4 +1,4 @@
--- Whether a process lives, asked of the numbers of threads and of the threads that are kept: one answer.
+-- Whether a process is live, by the numbers of threads and by the threads that are kept.
 use native.Mathlib.Omega.{arith}
 use Rattle.std.proofs.Common.{◌≡◌, ◌≤◌, ◌∙◌, ℕ, ◌+◌, Bool, true, false, ◌||◌, List, [], ◌∷◌, Option, Some, None, refl, sym}
 use Rattle.std.proofs.lemmas.Bool.{true≢false, false_from_ne_true}
@@ -17,7 +17,7 @@ use Rattle.st_model.specs.Processes.{StartedThread}
 use Rattle.st_law.specs.Sessions.{least_from}
 use Rattle.st_law.proofs.Least.{least, NoneOf}
 
--- whether a thread passes, if there is one
+-- whether an optional thread passes a test
 abbrev pub passes : (StartedThread → Bool) → Option StartedThread → Bool
 passes is None = false
 passes is (Some thread) = is thread
@@ -48,7 +48,7 @@ module _ (threads : List (ℕ × StartedThread)) (count : ℕ) (is : StartedThre
   none_found none t = agrees t ∙ of_if is (lookup (is_at (nat_cmp t)) threads)
       (IfSome-lookup_from_All (λ thread. is thread ≡ false) (is_at (nat_cmp t)) threads (All-from_recursion (λ thread. is thread ≡ false) (values_of threads) (all_false is (values_of threads) none)))
 
-  -- one is found where one is kept
+  -- if a number passes, a kept thread does
   found : (t : ℕ) → has t ≡ true → (b : Bool) → list_any is (values_of threads) ≡ b → true ≡ b
   found t holds true e = refl
   found t holds false e = absurd (true≢false (sym holds ∙ none_found e t))
@@ -57,7 +57,7 @@ module _ (threads : List (ℕ × StartedThread)) (count : ℕ) (is : StartedThre
   outside none t = false_from_ne_true (has t) (λ holds. let at = known t holds in
       let low = at.0 in let high = at.1 in true≢false (sym holds ∙ none t low (omega (arith, high))))
 
-  -- whether some number passes is whether some thread does that is kept
+  -- some number passes iff some kept thread does
   pub some_is : is_some (least_from has 1 count) ≡ list_any is (values_of threads)
   some_is = least (λ o. is_some o ≡ list_any is (values_of threads)) has 1 count
       (λ t x. found t x.holds (list_any is (values_of threads)) refl)

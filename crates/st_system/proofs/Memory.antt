@@ -1,4 +1,4 @@
--- Memory behind a call, of the spaces that weren't given up, and which those are.
+-- Memory after a call, in the spaces that weren't given up, and which spaces were given up.
 use native.Mathlib.Omega.{arith}
 use Rattle.std.proofs.Common.{◌≡◌, ◌≤◌, ◌<◌, ◌∙◌, ℕ, zero, suc, Bool, true, false, cond, not, ◌&&◌, ◌==◌, List, [], ◌∷◌, length, None, get_or, inl, inr, refl, ap, sym}
 use Rattle.std.proofs.lemmas.Bool.{true≢false, cases_lt}
@@ -13,7 +13,7 @@ use Rattle.st_system.specs.System.{is_given_up}
 -- ---- two memories that agree on some spaces, one of them the process's own
 
 module _ (own : ℕ) (P : ℕ → Type 0) (here : P own) where
-  -- they have the same bytes there
+  -- two memories have the same bytes in these spaces
   abbrev pub Agree : (ℕ → ℕ → ℕ) → (ℕ → ℕ → ℕ) → Type 0
   Agree a b = (s : ℕ) → P s → (n : ℕ) → a s n ≡ b s n
 
@@ -35,18 +35,18 @@ module _ (own : ℕ) (P : ℕ → Type 0) (here : P own) where
   step a b e (Renewed old new) = e
   step a b e (Policy binary) = e
 
-  -- and behind changes that the process makes
+  -- they still agree after changes that the process makes
   pub agree : (changes : List Change) (a b : ℕ → ℕ → ℕ) → Agree a b → Agree (memory_after own a changes) (memory_after own b changes)
   agree [] a b e = e
   agree (c ∷ changes) a b e = agree changes (memory_after_change own a c) (memory_after_change own b c) (step a b e c)
 
-  -- and behind a store
+  -- they still agree after a store
   pub agree_stored : (place word : ℕ) (a b : ℕ → ℕ → ℕ) → Agree a b → Agree (memory_after_store a own place word) (memory_after_store b own place word)
   agree_stored place word a b e s is n = λ k. cond (s == own) (bytes_after_store (λ n. e s is n k) place word n) (e s is n k)
 
 -- ---- spaces
 
--- a space that is there wasn't given up
+-- a space that exists wasn't given up
 pub live_kept : (memories : Memories) (s : ℕ) → is_live memories s ≡ true → is_given_up memories s ≡ false
 live_kept memories s live = ap (λ b. nat_lt s (next_space memories) && not b) live ∙ nothing (nat_lt s (next_space memories)) where
   nothing : (b : Bool) → (b && false) ≡ false
@@ -58,7 +58,7 @@ beyond [] k default past = refl
 beyond (x ∷ items) zero default past = absurd (omega (arith, past))
 beyond (x ∷ items) (suc k) default past = beyond items k default (omega (arith, past))
 
--- the number of a space that is there was given
+-- the number of a space that exists was given
 pub live_low : (memories : Memories) (s : ℕ) → is_live memories s ≡ true → s < next_space memories
 live_low memories zero live = omega arith
 live_low memories (suc k) live = elim (cases_lt k (length memories)) [
@@ -66,6 +66,6 @@ live_low memories (suc k) live = elim (cases_lt k (length memories)) [
   | inr past ↦ absurd (true≢false (sym live ∙ ap is_some (beyond memories k None past)))
 ]
 
--- where the same spaces are there, the same were given up
+-- if the same spaces exist, the same spaces were given up
 pub same_given_up : (old new : Memories) → KeepsSpaces old new → (s : ℕ) → is_given_up old s ≡ is_given_up new s
 same_given_up old new keeps s = λ k. nat_lt s (sym keeps.0 k) && not (sym (keeps.1 s) k)

@@ -1,4 +1,4 @@
--- A call on names and files: what it leaves.
+-- The system after a call on names and files.
 use Rattle.std.proofs.Common.{◌≡◌, ◌∙◌, ℕ, ap, subst, sym, Option, Some, None}
 use Rattle.std.specs.Prelude.{◌<◌, Result, Ok, Err, IfOk, OnErr}
 use Rattle.st_calls.specs.declared.call.SysCall.{SysCall}
@@ -74,7 +74,7 @@ module _ (parts new : Parts) (x : IsWhole parts) (call : SysCall) (request : Req
     among = λ i child t y. subst (IsAmong (thread_count i) t) (sym (same_thread t)) y;
   }
 
--- a call that is made, or for which memory was wanting
+-- the invariants hold after a call was made, or memory ran out
 pub whole_on_files : {E : Type 0} (result : Result Outcome E) (parts new : Parts) (call : SysCall) (request : Request) → IsWhole parts → IsOnFiles call → (call ≡ Chdir → IsShort (arg_name_at request 0))
     → IfOk result (λ outcome. IsExecuted call request outcome parts.tree parts.descriptors parts.processes parts.memories new.tree new.descriptors new.processes new.memories)
     → KeepsSpaces parts.memories new.memories → KeepsTables parts.descriptors new.descriptors → IsReady new.tree new.descriptors new.processes new.memories request.pid

@@ -1,4 +1,4 @@
--- A call on processes, ids and sockets: what it leaves.
+-- The system after a call on processes, ids and sockets.
 use native.Mathlib.Omega.{arith}
 use Rattle.std.proofs.Common.{◌≡◌, ◌≢◌, ◌≤◌, ◌<◌, ◌∙◌, ◌⊎◌, ℕ, suc, Bool, true, false, cond, not, ◌&&◌, ◌==◌, List, [], ◌∷◌, Option, Some, None, inl, inr, refl, ap, subst, sym}
 use Rattle.std.proofs.lemmas.Bool.{cases_eq, cases_lt, eq-eqb, le-leb, lt-leb, ne_eqb}
@@ -37,12 +37,12 @@ use Rattle.st_system.proofs.Kept.{with_owner}
 use Rattle.st_system.proofs.Memory.{live_low}
 use Rattle.st_system.proofs.Short.{IsShort, IsShortMove, short_after}
 
--- ---- changes that start nothing: threads that have nothing left but to end, or ids that are set
+-- ---- changes that start nothing: dying threads, or ids that are set
 
 abbrev AreQuiet : List Change → Type 0
 AreQuiet changes = AreEndings changes ⊎ AreOfProcesses changes
 
--- the same of the changes of an outcome
+-- the changes of an outcome start nothing
 record IsQuiet (outcome : Outcome) : Type 0 where
   changes : AreQuiet outcome.changes
 
@@ -65,7 +65,7 @@ ends : (result : CallResult) (b : Bool) (pid : ℕ) (table : Table) → IsQuiet 
 ends result true pid table = record { changes = inl tt }
 ends result false pid table = record { changes = inl tt }
 
--- what they leave
+-- what these changes leave unchanged
 record Leaves (changes : List Change) : Type 0 where
   rest : LeaveRest changes
   space : (processes : Processes) (m p : ℕ) → (process_after (process_at processes) m p changes).space ≡ (process_at processes p).space
@@ -124,7 +124,7 @@ module _ (parts : Parts) (request : Request) where
   quiet_changes Connect on = inr (search (unless, none))
   quiet_changes call on = absurd on
 
--- ---- the parts behind it
+-- ---- the parts after the call
 
 module _ (parts : Parts) (x : IsWhole parts) (request : Request) (there : IsPid parts.processes request.pid) (given : outcomes.Outcome) (table : Table) (processes : Processes) (memories : Memories) where
   abbrev new : Parts
@@ -211,7 +211,7 @@ module _ (parts : Parts) (x : IsWhole parts) (request : Request) (there : IsPid 
     child_there : IsPid processes pid
     child_there = let n = next_now in (omega arith, omega (arith, n))
 
-    -- the child, or one that was there
+    -- a process is the child, or existed before
     either_pid : (p : ℕ) → IsPid processes p → (p ≡ pid) ⊎ IsPid parts.processes p
     either_pid p is = elim (cases_eq p pid) [
       | inl e ↦ inl e
@@ -272,7 +272,7 @@ module _ (parts : Parts) (x : IsWhole parts) (request : Request) (there : IsPid 
     child_space : (p : ℕ) → p ≡ pid → (process_at processes p).space ≡ space
     child_space p e = space_is p ∙ ap (λ b. cond b space (process_at parts.processes p).space) (eq-eqb pid p (sym e))
 
-    -- a memory that was there isn't the child's
+    -- a memory that existed before isn't the child's
     new_space : (p : ℕ) → IsPid parts.processes p → (process_at parts.processes p).space ≢ space
     new_space p is same = let low = live_low parts.memories (process_at parts.processes p).space (x.ready p is).space in omega (arith, same, low)
 
@@ -298,7 +298,7 @@ module _ (parts : Parts) (x : IsWhole parts) (request : Request) (there : IsPid 
       | inr past ↦ ap (λ b. b && not (spaces.is_live parts.memories s)) (lt-leb (suc s) space (omega (arith, past)))
     ]
 
-    -- ---- all of it
+    -- ---- all parts after a fork
 
     has_now : (p : ℕ) → has_table table p ≡ true → IsPid processes p
     has_now p has = elim (cases_eq p pid) [

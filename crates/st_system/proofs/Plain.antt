@@ -16,7 +16,7 @@ use Rattle.st_exec_fs.specs.Execution.{IsOnFiles}
 use Rattle.st_system.proofs.Short.{IsShort, IsShortMove, short_after}
 use Rattle.st_exec_fs.proofs.Changed.{Each, IsOfTree, IsOfMemory, IsNone, Makes, names_change, open_changes, write_changes, read_changes, looks_change, descriptors_change}
 
--- a change of the tree, of memory, or of a directory, to one whose name isn't too long
+-- a change of the tree, of memory, or of a directory to one whose name isn't too long
 abbrev pub IsPlain : Change → Type 0
 IsPlain (Forked pid space tid) = ⊥
 IsPlain (Execed binary space) = ⊥
@@ -65,7 +65,7 @@ of_memory (Dying pid) x = x
 of_memory (Renewed old new) x = x
 of_memory (Policy binary) x = x
 
--- the directory that they give a process has a name that isn't too long
+-- the directory that such a change gives a process has a name that isn't too long
 plain_move : (c : Change) → IsPlain c → IsShortMove c
 plain_move (Made name obj kind uid gid mode) x = tt
 plain_move (Linked name obj) x = tt
@@ -101,7 +101,7 @@ module _ (system : System) (request : Request) where
   none : (call : SysCall) → Makes IsNone (effect system call request) → ArePlain call
   none call made = each IsNone IsPlain (λ c x. absurd x) (effect system call request).changes made.changes
 
-  -- a call that is refused changes nothing, nor does one whose name has nothing
+  -- a call that is refused, or whose name has no object, changes nothing
   unless : (o : Option Errno) (outcome : Outcome) → Each IsPlain outcome.changes → Each IsPlain (unless_error system o outcome).changes
   unless None outcome x = x
   unless (Some errno) outcome x = tt
@@ -149,13 +149,13 @@ module _ (system : System) (request : Request) where
   plain_changes Bind on short = absurd on
   plain_changes Connect on short = absurd on
 
--- ---- what they leave
+-- ---- what these changes leave unchanged
 
 moved_space : (name : Components) (before : Process) (b : Bool) → (cond b (record before { cwd = name }) before).space ≡ before.space
 moved_space name before true = refl
 moved_space name before false = refl
 
--- what a plain change leaves
+-- what a plain change leaves unchanged
 record Leaves (c : Change) : Type 0 where
   owner : (t o : ℕ) → owner_after_change t o c ≡ o
   process : (n : ℕ) → next_process_after_change n c ≡ n

@@ -1,4 +1,4 @@
--- The renewals behind the changes of a call that sets ids: they change nothing of what the system keeps.
+-- The renewals after the changes of a call that sets ids: they change nothing in the system.
 use Rattle.std.proofs.Common.{◌≡◌, ◌∙◌, ℕ, suc, ◌+◌, Bool, true, false, cond, not, ◌&&◌, ◌==◌, List, [], ◌∷◌, ◌++◌, Option, Some, None, refl, ap, sym}
 use Rattle.std.proofs.lemmas.List.Sums.{fold-append}
 use Rattle.std.specs.List.{fold}
@@ -41,7 +41,7 @@ of_result : (i : Input) (st : State) (request : Request) (result : CallResult) �
 of_result i st request (Value n) = are_renewals request.pid request.tid (suc st.posted) (held_from st 1 (thread_count i))
 of_result i st request (Failed errno) = tt
 
--- what a renewal leaves, renewals leave
+-- what one renewal leaves unchanged, a list of renewals leaves unchanged
 fold_same : {A : Type 0} (f : A → Change → A) → ((a : A) (old new : ℕ) → f a (Renewed old new) ≡ a) → (a : A) (changes : List Change) → AreRenewals changes → fold f a changes ≡ a
 fold_same f same a [] x = refl
 fold_same f same a (Renewed old new ∷ changes) x = ap (λ b. fold f b changes) (same a old new) ∙ fold_same f same a changes x
@@ -53,14 +53,14 @@ module _ (i : Input) (st : State) (request : Request) where
   behind f same a true result changes = fold-append f a changes (renewals_of i st request result) ∙ fold_same f same (fold f a changes) (renewals_of i st request result) (of_result i st request result)
   behind f same a false result changes = refl
 
-  -- the changes with renewals behind them leave what they leave without
+  -- changes followed by renewals have the same result as the changes alone
   pub fold_with : {A : Type 0} (f : A → Change → A) → ((a : A) (old new : ℕ) → f a (Renewed old new) ≡ a) → (call : SysCall) (a : A) (result : CallResult) (changes : List Change)
       → fold f a (with_renewals i st call request result changes) ≡ fold f a changes
   fold_with f same call a result changes = behind f same a (sets_ids call) result changes
 
   -- ---- the effect of a call over the system with its held calls
 
-  -- of a call that sets ids
+  -- the effect of a call that sets ids
   set_by : (call : SysCall) → sets_ids call ≡ true → (o : Option Errno) (ids : Ids)
       → effect (system_of i st) call request ≡ unless_error (system_of i st) o (success (system_of i st) 0 (SetIds ids ∷ renewals request.pid request.tid (suc st.posted) (held_from st 1 (thread_count i))))
       → effect (unheld_system i st) call request ≡ unless_error (unheld_system i st) o (success (unheld_system i st) 0 (SetIds ids ∷ [])) → RenewsBehind i st call request
@@ -81,7 +81,7 @@ module _ (i : Input) (st : State) (request : Request) where
       → RenewsBehind i st call request
   set call sets is bare = set_by call sets (first_error (set_refused call request.ids (register request 0) ∷ [])) (ids_after_set call request.ids (register request 0)) is bare
 
-  -- of any other
+  -- the effect of any other call
   other : (call : SysCall) → sets_ids call ≡ false → effect (system_of i st) call request ≡ effect (unheld_system i st) call request → RenewsBehind i st call request
   other call sets same = record {
     result = ap (λ o. o.result) same;

@@ -1,4 +1,4 @@
--- The system that a call finds by the machine's record is the one of the parts.
+-- The system that a call finds in the state of the law's machine is that of the parts.
 use Rattle.std.proofs.Common.{◌≡◌, ◌≢◌, ◌≤◌, ◌∙◌, ℕ, suc, zero, Bool, true, not, ◌&&◌, ◌||◌, ◌==◌, [], Option, Some, None, refl, ap, sym}
 use Rattle.std.proofs.lemmas.Bool.{true≢false, ne_eqb}
 use Rattle.std.specs.List.{list_any}
@@ -39,13 +39,13 @@ module _ (i : Input) (st : State) (parts : Parts) (x : IsSystem i st parts) (ord
       (λ t. running_agrees p ne (thread_at parts.processes t) (st.threads t) (x.threads t))
       (λ t holds. among (model.is_running_in p) (thread_count i) t (thread_at parts.processes t) (x.among t) (sym (running_agrees p ne (thread_at parts.processes t) (st.threads t) (x.threads t)) ∙ holds))
 
-  -- whether a process lives
+  -- whether a process is live
   pub live_is : (p : ℕ) → is_live_process i st p ≡ model.is_live parts.processes p
   live_is zero = refl
   live_is (suc q) = let differ : 0 ≢ suc q = λ e. cc in
       λ k. (nat_lt 0 (suc q) && nat_lt (suc q) (x.next_process k)) && (not (some_thread (suc q) differ k) || some_running (suc q) differ k)
 
-  -- the system that a call finds without its held calls, but for memories that were given up
+  -- the system that a call finds, without the held calls, except for memories that were given up
   pub system_is : system_of (unheld_system i st) parts.tree parts.descriptors parts.processes parts.memories ≡ record (unheld_system i st) { memory = byte_in parts.memories }
   system_is = λ k. record {
     tree = sym x.tree k;

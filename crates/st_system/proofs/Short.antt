@@ -1,4 +1,4 @@
--- The directories of processes have names that aren't too long, behind the changes of a call too.
+-- The directories of processes have names that aren't too long, also after the changes of a call.
 use Rattle.std.proofs.Common.{◌≤◌, ℕ, Bool, true, false, cond, ◌==◌, List, [], ◌∷◌, length}
 use Rattle.std.specs.List.{fold}
 use Rattle.st_names.specs.Name.{Components, printed_name}
@@ -13,13 +13,13 @@ use Rattle.st_exec_fs.proofs.Changed.{Each}
 abbrev pub IsShort : Components → Type 0
 IsShort name = length (printed_name name) ≤ LONGEST_NAME
 
--- a directory that a process gets has such a name
+-- a directory that a change gives a process has such a name
 abbrev pub IsShortMove : Change → Type 0
 IsShortMove (Cwd name) = IsShort name
 IsShortMove _ = Unit {0}
 
 module _ (processes : ℕ → Process) (short : (p : ℕ) → IsShort (processes p).cwd) (m p : ℕ) where
-  -- a process as it was, or with another row
+  -- a process is unchanged, or has another row
   one_of_two : (b : Bool) (row before : Process) → IsShort row.cwd → IsShort before.cwd → IsShort (cond b row before).cwd
   one_of_two true row before x y = x
   one_of_two false row before x y = y

@@ -1,4 +1,4 @@
--- The parts that a run starts with are those of the machine's first record.
+-- The parts that a run starts with represent the first state of the law's machine.
 use native.Mathlib.Omega.{arith}
 use Rattle.std.proofs.Common.{◌≡◌, ◌≤◌, ◌<◌, ◌∙◌, ℕ, zero, suc, Bool, false, cond, List, [], ◌∷◌, length, Option, Some, None, inl, inr, refl, ap, subst, sym}
 use Rattle.std.proofs.Math.ListN.{get_or-eq_default}
@@ -21,13 +21,13 @@ use Rattle.st_system.specs.Start.{first_thread_of, AreFirst, CanStart, HaveStart
 use Rattle.st_system.specs.System.{HasOwner, IsAmong, IsSystem, IsThread, IsWhole, Parts}
 use Rattle.st_system.proofs.Short.{IsShort}
 
--- nothing stands behind the last item of a list
+-- no item has an index after the last
 beyond : {X : Type 0} (items : List X) (k : ℕ) → length items ≤ k → slice_get items k ≡ None
 beyond [] k past = refl
 beyond (x ∷ items) zero past = absurd (omega (arith, past))
 beyond (x ∷ items) (suc k) past = beyond items k (omega (arith, past))
 
--- within it something stands
+-- an index below the length has an item
 inside : {X : Type 0} (items : List X) (k : ℕ) → k < length items → (x : X) × (slice_get items k ≡ Some x)
 inside [] k low = absurd (omega (arith, low))
 inside (x ∷ items) zero low = (x, refl)
@@ -44,7 +44,7 @@ module _ (i : Input) (tree : Tree) (table : Table) (first processes : Processes)
   same_row : (p : ℕ) → process_at processes p ≡ process_at first p
   same_row p = ap (λ rows. process_at (record { rows = rows; threads = processes.threads }) p) y.rows
 
-  -- each process, whether it is there or not
+  -- each process, whether it exists or not
   process_is : (p : ℕ) → first_process i p ≡ process_at processes p
   process_is zero = refl
   process_is (suc k) = elim (cases_lt k (process_count i)) [
@@ -75,7 +75,7 @@ module _ (i : Input) (tree : Tree) (table : Table) (first processes : Processes)
 
   -- ---- threads
 
-  -- of a thread of the script, by its number's place
+  -- a thread of the script, by its number's index
   none_behind : (t : ℕ) → thread_count i < t → first_owner i t ≡ 0
   none_behind zero past = absurd (omega (arith, past))
   none_behind (suc k) past = ap owner_of_row (beyond i.start.threads k (omega (arith, past)))

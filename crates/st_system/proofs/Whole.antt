@@ -1,4 +1,4 @@
--- What holds of the parts at all times holds behind each step.
+-- The invariants of the parts hold after each step.
 use Rattle.std.proofs.Common.{◌≡◌, ◌∙◌, ◌==◌, ℕ, Bool, true, false, cond, refl, ap, subst, sym, Option, Some, None}
 use Rattle.std.proofs.lemmas.Cmp.{nat_cmp_total}
 use Rattle.std.specs.List.{All}
@@ -15,7 +15,7 @@ use Rattle.st_request.specs.Ready.{IsRealFile}
 use Rattle.st_system.specs.System.{HasOwner, IsWhole, Parts}
 use Rattle.st_system.proofs.Short.{IsShort}
 
--- memory is written, and no space comes or goes
+-- memory is written, and no space is made or given up
 pub whole_memory : (parts : Parts) (new : Memories) → IsWhole parts → KeepsSpaces parts.memories new
     → IsWhole (record { tree = parts.tree; descriptors = parts.descriptors; processes = parts.processes; memories = new })
 whole_memory parts new x keeps = record {
@@ -27,7 +27,7 @@ whole_memory parts new x keeps = record {
   short = x.short;
 }
 
--- ---- a thread's end
+-- ---- the end of a thread
 
 ordered_end : (processes : Processes) (t : ℕ) (o : Option StartedThread) → AreOrdered processes → AreOrdered (processes_after_end_at processes t o)
 ordered_end processes t None ordered = ordered
@@ -37,7 +37,7 @@ rows_end : (processes : Processes) (t : ℕ) (o : Option StartedThread) → (pro
 rows_end processes t None = refl
 rows_end processes t (Some thread) = refl
 
--- the rows of processes stay
+-- the rows of processes are unchanged
 pub rows_stay : (processes : Processes) (t : ℕ) → (processes_after_end processes t).rows ≡ processes.rows
 rows_stay processes t = rows_end processes t (thread_at processes t)
 

@@ -1,4 +1,4 @@
--- What the arguments of a call are once they are all there.
+-- When complete arguments are fit for their call.
 use Rattle.std.specs.Prelude.{◌≤◌, ◌<◌, ◌^◌, ℕ, List, length, [], slice_get, unwrap_or}
 use Rattle.std.specs.Option.{option_map}
 use Rattle.st_calls.specs.declared.argument.ArgText.{ArgText}
@@ -16,7 +16,7 @@ first_text args = unwrap_or (option_map (λ arg. arg.text) (slice_get args 0)) [
 abbrev pub first_name : List ArgText → Components
 first_name args = components_of (first_text args)
 
--- the name of a directory isn't too long, and an address has a port of 16 bits
+-- the arguments are fit for the call: the name of a directory isn't too long, and an address has a port of 16 bits
 abbrev pub AreFit : SysCall → List ArgText → Type 0
 AreFit Chdir args = length (printed_name (first_name args)) ≤ LONGEST_NAME
 AreFit Bind args = port_in (first_text args) < 2 ^ 16

@@ -1,4 +1,4 @@
--- Where a run starts: the parts, as the rows of a script leave them one after the other.
+-- The system that a run starts with: its parts, as the rows of a script build them one after the other.
 use Rattle.std.specs.Prelude.{◌≡◌, ◌≤◌, ◌<◌, ◌^◌, ℕ, suc, true, false, if◌then◌else◌, ◌==◌, ◌&&◌, nat_le, take, slice_get, List, [], length, Option, Some, None}
 use Rattle.std.specs.List.{All, fold, range_with_len}
 use Rattle.st_memory.specs.Memory.{Memories, byte_in, is_live, next_space}
@@ -19,7 +19,7 @@ use Rattle.st_law.specs.Processes.{first_ids, first_process, no_descriptors, pro
 use Rattle.st_law.specs.State.{thread_count}
 use Rattle.st_law.specs.Threads.{first_owner}
 
--- each of some rows can be put into the tree of those before it: nothing refuses it
+-- each row can be put into the tree of the rows before it, and isn't refused
 abbrev pub CanStand : List TreeRow → Type 0
 CanStand rows = (k : ℕ) (row : TreeRow) → slice_get rows k ≡ Some row → add_refused (fold tree_with_row root_only (take k rows)) row.name ≡ None
 
@@ -35,7 +35,7 @@ pub record CanStart (i : Input) : Type 0 where
 abbrev pub process_of : Option (ℕ × ℕ) → ℕ → ProcessRow → Process
 process_of given space row = record { traced = row.traced; policy = row.binary; ids = first_ids given row.traced row.uid row.gid; cwd = row.cwd; space = space }
 
--- so many processes have started, with descriptors and memories, and no thread
+-- the first so many processes have started, with descriptors and memories, and no thread has started
 pub record AreFirst (i : Input) (count : ℕ) (table : Table) (processes : Processes) (memories : Memories) : Type 0 where
   pub table_is : table ≡ fold table_after_start no_descriptors (range_with_len 1 count)
   pub has : (p : ℕ) → has_table table p ≡ (nat_le 1 p && nat_le p count)
@@ -47,11 +47,11 @@ pub record AreFirst (i : Input) (count : ℕ) (table : Table) (processes : Proce
   pub live : (s : ℕ) → 1 ≤ s → s ≤ count → is_live memories s ≡ true
   pub zeros : (s b : ℕ) → byte_in memories s b ≡ 0
 
--- a thread that has started by its row, if it has
+-- a thread that has started by its row, if its row names a process
 abbrev pub first_thread_of : ℕ → Option StartedThread
 first_thread_of owner = if owner == 0 then None else Some (record { pid = owner; ended = false })
 
--- the threads up to this number have started whose rows name a process, and no other
+-- of the threads up to this number, exactly those have started whose rows name a process; no later thread has
 pub record HaveStarted (i : Input) (count : ℕ) (before after : Processes) : Type 0 where
   pub rows : after.rows ≡ before.rows
   pub ordered : AreOrdered after

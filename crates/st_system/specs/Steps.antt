@@ -1,4 +1,4 @@
--- What steps leave of the system, against what their entries make of the machine's record.
+-- How steps change the system, compared with how their entries change the state of the law's machine.
 use Rattle.std.specs.Prelude.{◌≡◌, ◌<◌, ◌^◌, ◌-◌, ℕ, suc, Bool, true, false, if◌then◌else◌, List, [], ◌++◌, Option, None}
 use Rattle.st_calls.specs.declared.call.SysCall.{SysCall}
 use Rattle.st_calls.specs.declared.call.SysCall.TheVariants.{Fork, Execve, Exit, Kill, GetPid, GetUid, GetEuid, SetUid, SetEuid, SetGid, SetEgid, Socket, Bind, Connect}
@@ -21,9 +21,9 @@ use Rattle.st_law.specs.State.{State, held_from, request_of, system_of, thread_c
 use Rattle.st_system.specs.Fit.{AreFit}
 use Rattle.st_system.specs.System.{IsSystem, Parts}
 
--- ---- what a call needs
+-- ---- preconditions of a call
 
--- a request is that of its thread, by the machine's record
+-- a request is that of its thread, by the state
 abbrev pub IsRequest : Input → State → Request → Type 0
 IsRequest i st request = request ≡ request_of i st request.tid request.regs request.args request.ids
 
@@ -32,13 +32,13 @@ abbrev pub HasChild : Input → SysCall → Request → Type 0
 HasChild i Fork request = IsThread i request.child
 HasChild i _ request = Unit {0}
 
--- the thread of the child hasn't started, and there are numbers left for its process and its memory
+-- the thread of the child hasn't started, and numbers are left for its process and its memory
 pub record CanFork (parts : Parts) (request : Request) : Type 0 where
   pub thread : pid_of parts.processes request.child ≡ None
   pub pids : next_pid parts.processes < 2 ^ 32 - 1
   pub spaces : next_space parts.memories < 2 ^ 32
 
--- what a call needs besides: numbers that are left, its process's own ids, fit arguments
+-- the precondition of each call: numbers are left, the ids are the process's own, or the arguments are fit
 abbrev pub CanMake : SysCall → Parts → Request → Type 0
 CanMake Fork parts request = CanFork parts request
 CanMake Execve parts request = next_space parts.memories < 2 ^ 32
@@ -65,9 +65,9 @@ IsOnProcesses Bind = Unit {0}
 IsOnProcesses Connect = Unit {0}
 IsOnProcesses _ = ⊥
 
--- ---- what it leaves
+-- ---- after a call
 
--- the system that a call finds, without its held calls
+-- the system that a call finds, without the held calls
 abbrev pub unheld_system : Input → State → effects.System
 unheld_system i st = record (system_of i st) { held = [] }
 
@@ -79,29 +79,30 @@ sets_ids SetGid = true
 sets_ids SetEgid = true
 sets_ids _ = false
 
--- the renewals of the process's held calls, where it has set its ids
+-- the renewals of the process's held calls, if it has set its ids
 abbrev pub renewals_of : Input → State → Request → CallResult → List Change
 renewals_of i st request (Value n) = renewals request.pid request.tid (suc st.posted) (held_from st 1 (thread_count i))
 renewals_of i st request (Failed errno) = []
 
--- the changes of a call as its entry has them: behind those of one that sets ids stand the renewals
+-- the changes of a call in its entry: the renewals are appended to those of a call that sets ids
 abbrev pub with_renewals : Input → State → SysCall → Request → CallResult → List Change → List Change
 with_renewals i st call request result changes = if sets_ids call then changes ++ renewals_of i st request result else changes
 
--- the effect of a call over a system, by its effect without the held calls: they are renewed behind the changes
+-- the effect of a call over the system is its effect without the held calls, with their renewals appended to the changes
 pub record RenewsBehind (i : Input) (st : State) (call : SysCall) (request : Request) : Type 0 where
   pub result : (effect (system_of i st) call request).result ≡ (effect (unheld_system i st) call request).result
   pub changes : (effect (system_of i st) call request).changes
       ≡ with_renewals i st call request (effect (unheld_system i st) call request).result (effect (unheld_system i st) call request).changes
   pub descriptors : (effect (system_of i st) call request).descriptors ≡ (effect (unheld_system i st) call request).descriptors
 
--- a call has the result and, but for renewals, the changes of its effect, and the system is the one behind the entry by which it is made
+-- a call has the result and, except for renewals, the changes of its effect, and the parts represent the state after the entry by which it
+-- is made
 pub record IsMade (i : Input) (st : State) (seq : Option ℕ) (call : SysCall) (request : Request) (outcome : Outcome) (parts : Parts) : Type 0 where
   pub result : outcome.result ≡ (effect (system_of i st) call request).result
   pub changes : with_renewals i st call request outcome.result outcome.changes ≡ (effect (system_of i st) call request).changes
   pub system : IsSystem i (state_after i st (Used request.tid seq call request.regs request.args request.ids outcome.result (with_renewals i st call request outcome.result outcome.changes))) parts
 
--- a call was made over these parts and left those, whatever the record is that they are the parts of
+-- a call was made over the old parts and led to the new parts, whatever the state is that the old parts represent
 abbrev pub IsDone : SysCall → Request → Outcome → Parts → Parts → Type 0
 IsDone call request outcome old new =
     (i : Input) (st : State) → IsSystem i st old → IsRequest i st request → HasChild i call request → (seq : Option ℕ) → IsMade i st seq call request outcome new

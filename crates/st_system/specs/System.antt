@@ -1,4 +1,4 @@
--- The parts of the modelled system as they are kept, against what the law's machine keeps of them.
+-- The parts of the modelled system, and how they represent the state of the law's machine.
 use Rattle.std.specs.Prelude.{◌≡◌, ◌≤◌, ℕ, Bool, true, false, ◌&&◌, not, nat_lt, length, Option, Some, None}
 use Rattle.st_names.specs.Name.{printed_name}
 use Rattle.st_names.specs.declared.limits.TheConstants.{LONGEST_NAME}
@@ -11,21 +11,22 @@ use Rattle.st_procs.specs.Laws.{AreOrdered}
 use Rattle.st_law.specs.declared.input.Input.{Input}
 use Rattle.st_law.specs.State.{State, ThreadState, thread_count}
 
--- what calls are made over
+-- the parts of the system that calls are made over
 pub record Parts : Type 0 where
   pub tree : Tree
   pub descriptors : Table
   pub processes : Processes
   pub memories : Memories
 
--- ---- what holds of the parts at all times
+-- ---- invariants of the parts
 
--- the process of a thread that has started is there
+-- the process of a thread that has started exists
 abbrev pub HasOwner : Processes → Option StartedThread → Type 0
 HasOwner processes None = Unit {0}
 HasOwner processes (Some thread) = IsPid processes thread.pid
 
--- every process can make calls, with a memory of its own, its directory's name isn't too long, and nothing else has descriptors or threads
+-- the invariants of the parts: every process can make calls and has a memory of its own, the name of its directory isn't too long, and
+-- nothing else has descriptors or threads
 pub record IsWhole (parts : Parts) : Type 0 where
   pub ordered : AreOrdered parts.processes
   pub owners : (t : ℕ) → HasOwner parts.processes (thread_at parts.processes t)
@@ -34,23 +35,23 @@ pub record IsWhole (parts : Parts) : Type 0 where
   pub apart : (p q : ℕ) → IsPid parts.processes p → IsPid parts.processes q → (process_at parts.processes p).space ≡ (process_at parts.processes q).space → p ≡ q
   pub short : (p : ℕ) → length (printed_name (process_at parts.processes p).cwd) ≤ LONGEST_NAME
 
--- ---- the parts against the machine's record
+-- ---- the parts and the state
 
--- a thread that has started, and whether it has ended; or one that hasn't started
+-- a thread that has started, and whether it has ended; or a thread that hasn't started
 abbrev pub IsThread : Option StartedThread → ThreadState → Type 0
 IsThread None row = (row.owner ≡ 0) × (row.ended ≡ false)
 IsThread (Some thread) row = (row.owner ≡ thread.pid) × (row.ended ≡ thread.ended)
 
--- a thread that has started is one of so many
+-- a thread that has started has a number up to this count
 abbrev pub IsAmong : ℕ → ℕ → Option StartedThread → Type 0
 IsAmong count t None = Unit {0}
 IsAmong count t (Some thread) = (1 ≤ t) × (t ≤ count)
 
--- whether a memory was given up: its number was given, and it isn't there
+-- whether a memory was given up: its number was given, and it no longer exists
 abbrev pub is_given_up : Memories → ℕ → Bool
 is_given_up memories s = nat_lt s (next_space memories) && not (is_live memories s)
 
--- the parts are those of the record; what a memory had that was given up isn't kept
+-- the parts represent the state, except for the content of memories that were given up
 pub record IsSystem (i : Input) (st : State) (parts : Parts) : Type 0 where
   pub tree : st.tree ≡ parts.tree
   pub descriptors : st.descriptors ≡ parts.descriptors

@@ -1,4 +1,4 @@
-// What a call needs that is made in one step.
+// The arguments of a call that is made in one step, and the links in the way of a call.
 ghost use Rattle.std.specs.Prelude.{◌≡◌, true, None, IsSome, IfOk};
 ghost use Rattle.st_arguments.specs.Arguments.{progress_of};
 ghost use Rattle.st_calls.specs.Call.{follows};
@@ -17,8 +17,8 @@ use st_names::AbsName;
 use std::alloc::{AllocError, Global};
 
 impl System {
-    /// The arguments of a call that a thread makes in one step, or the first fault that one of them comes to. Aliasing says under which
-    /// rule the call is judged.
+    /// The arguments of a call that a thread makes in one step, or the first fault of one of them. `aliasing` decides under which rule the
+    /// call is judged.
     pub fn arguments(
         &self,
         alloc: Global,
@@ -48,8 +48,8 @@ impl System {
         )
     }
 
-    /// The first link that the names of a call with these arguments meet. Where they meet none, the first name, if the call follows a
-    /// link in its place, is no link's.
+    /// The first link in the way of a call with these arguments. If there is none, and the call follows a link at the end of its first
+    /// name, that name isn't a link's.
     pub fn link_met(
         &self,
         alloc: Global,
@@ -61,7 +61,7 @@ impl System {
         ensures link { IfOk result (λ link. (i : Input) (st : State) → IsSystem i st self.now → i.options.aliasing ≡ aliasing → link ≡ link_now i st call regs.now args.now) }
         ensures unlinked { IfOk result (λ link. link ≡ None → follows call regs.now 0 ≡ true → IsNoLink self.now.tree (first_name args.now)) }
     {
-        // The root is a directory, so a walk begins at no link.
+        // The root is a directory, so no walk begins at a link.
         let _root = self.tree.root();
         let rule = Rule::of(call, regs, aliasing);
         link_met(alloc, &self.tree, rule, call, regs, args)

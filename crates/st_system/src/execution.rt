@@ -1,4 +1,4 @@
-// System calls, each made by the crate of its kind.
+// Makes system calls, each by the crate of its kind.
 ghost use Rattle.std.specs.Prelude.{◌≡◌, ◌<◌, ◌^◌, true, IfOk, OnErr};
 ghost use Rattle.st_calls.specs.Call.{follows};
 ghost use Rattle.st_calls.specs.declared.call.SysCall.TheVariants.{Execve};
@@ -86,8 +86,8 @@ impl System {
         )
     }
 
-    /// Makes a system call. Where it follows a link at the end of its first name, the name was resolved before, and is no link's. That
-    /// calls which are held draw new numbers behind one that sets ids is not done here. Without memory nothing changes.
+    /// Makes a system call. If it follows a link at the end of its first name, the name was resolved before, and isn't a link's. It doesn't
+    /// give held calls new numbers after a call that sets ids. If memory runs out, nothing changes.
     pub fn execute(
         &mut self,
         alloc: Global,

@@ -13,19 +13,19 @@ ghost use Rattle.st_system.specs.Fit.{AreFit};
 ghost use Rattle.st_system.specs.Steps.{RenewsBehind};
 ghost use Rattle.st_system.specs.System.{IsSystem, Parts};
 
-/// A call has one result, whether calls are held or not. Behind the changes of one that has set ids, the held calls of its process are
-/// renewed.
+/// A call has the same result whether calls are held or not. After the changes of a call that has set ids, the held calls of its process
+/// are renewed.
 pub fn calls_that_set_ids_renew()
     ensures { (i : Input) (st : State) (call : SysCall) (request : Request) → RenewsBehind i st call request }
 {}
 
-/// Arguments that are all there are fit for their call: those of a call that is made in one step, and the copies of one that is held.
+/// Complete arguments are fit for their call: those of a call that is made in one step, and the copies of a held call.
 pub fn arguments_are_fit()
     ensures unheld { (i : Input) (st : State) (tid : ℕ) (call : SysCall) (regs : List ℕ) (args : List ArgText) → arguments_now i st tid call regs ≡ Ready args → AreFit call args }
     ensures held { (cwd : Components) (call : SysCall) (regs : List ℕ) (aliasing : Bool) (words : ℕ → List ℕ) (lookups : ℕ → List SeenText) (args : List ArgText) → progress (record { rule = rule_of call regs aliasing; call = call; regs = regs; cwd = cwd }) words lookups ≡ Ready args → AreFit call args }
 {}
 
-/// A thread that has started by the machine's record and hasn't ended is running.
+/// A thread that has started and hasn't ended in the state of the law's machine is running.
 pub fn started_threads_run()
     ensures { (i : Input) (st : State) (parts : Parts) (tid : ℕ) → IsSystem i st parts → (st.threads tid).owner ≢ 0 → (st.threads tid).ended ≡ false → is_running parts.processes tid ≡ true }
 {}

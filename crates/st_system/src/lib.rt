@@ -1,4 +1,5 @@
-//! The modelled system that runs: file tree, descriptors, processes and memories together, as the law's machine keeps them.
+//! Keeps the modelled system and makes calls on it: file tree, descriptors, processes and memories together represent those of the law's
+//! machine.
 #![tactic(auto)]
 
 mod arguments;

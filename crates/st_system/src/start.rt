@@ -1,4 +1,4 @@
-// How a run starts: the tree, the processes and the threads of a script's rows.
+// Builds the system that a run starts with: the tree, the processes and the threads of a script's rows.
 ghost use Rattle.std.specs.Prelude.{◌≡◌, ◌<◌, ◌^◌, ◌-◌, ◌==◌, ℕ, true, false, suc, [], None, if◌then◌else◌, unwrap_or, IfOk, OnOk};
 ghost use Rattle.std.specs.List.{fold};
 ghost use Rattle.st_memory.specs.Memory.{byte_in, next_space, ChangesLive};
@@ -25,7 +25,7 @@ use st_trace::{ProcessRow, ThreadRow, TreeRow};
 use st_tree::Tree;
 use std::alloc::{AllocError, Global};
 
-// An equal object to be made.
+// A copy of an object that is to be made.
 fn copy_of(alloc: Global, new: &NewNode) -> Result<NewNode, AllocError>
     ensures { IfOk result (λ copy. copy ≡ new.now) }
 {
@@ -64,7 +64,7 @@ pub(crate) fn tree_of(alloc: Global, rows: &[TreeRow]) -> Result<Tree, AllocErro
     Ok(tree)
 }
 
-// Starts the process of a row, with the next number and a memory of that number.
+// Starts the process of a row, with the next number and the memory of that number.
 fn add_process(
     fds: &mut Fds,
     procs: &mut Procs,
@@ -95,7 +95,7 @@ fn add_process(
     fds.start(pid)
 }
 
-// The ids of a process, by its row: the options may give each traced one others.
+// The ids of a process, by its row. The options may give each traced process other ids.
 fn first_ids(given: Option<(u32, u32)>, row: &ProcessRow) -> Ids
     ensures { result ≡ first_ids given row.now.traced row.now.uid row.now.gid }
 {
@@ -105,7 +105,7 @@ fn first_ids(given: Option<(u32, u32)>, row: &ProcessRow) -> Ids
     }
 }
 
-// The descriptors, processes and memories of a script's rows; no thread has started.
+// The descriptors, processes and memories of a script's rows. No thread has started.
 pub(crate) fn processes_of(alloc: Global, input: &Input) -> Result<(Fds, Procs, Spaces), AllocError>
     requires { process_count input.now < 2 ^ 31 }
     ensures { IfOk result (λ made. AreFirst input.now (process_count input.now) made.0 made.1 made.2) }
@@ -122,14 +122,14 @@ pub(crate) fn processes_of(alloc: Global, input: &Input) -> Result<(Fds, Procs, 
     Ok((fds, procs, spaces))
 }
 
-// The number of the process that a row's thread starts in, 0 where a fork starts it.
+// The number of the process that a row's thread starts in; 0 if a fork starts the thread.
 fn owner_of(row: &ThreadRow) -> Pid
     ensures { result ≡ unwrap_or row.now.process 0 }
 {
     row.process.unwrap_or(0)
 }
 
-// Starts a thread in a process, unless its number is 0: then a fork starts it.
+// Starts a thread in a process, unless the process's number is 0: then a fork starts the thread.
 fn begin(procs: &mut Procs, tid: Tid, owner: Pid) -> Result<(), AllocError>
     requires thread { pid_of procs.old tid ≡ None }
     requires process { owner < next_pid procs.old }

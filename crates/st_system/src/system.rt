@@ -59,8 +59,8 @@ fn close_if(fds: &mut Fds, pid: Pid, has_ended: bool)
 }
 
 impl System {
-    /// The system that a run starts with: the tree, processes and threads of its script. An object, a process or a thread that a row
-    /// names can be there, as the reader of scripts sees to it.
+    /// The system that a run starts with: the tree, processes and threads of its script. Each object, process and thread that a row names
+    /// can exist, which the reader of scripts ensures.
     pub fn start(alloc: Global, input: &Input) -> Result<Self, AllocError>
         requires { CanStart input.now }
         ensures { IfOk result (λ system. IsSystem input.now (first_state input.now) system) }
@@ -76,7 +76,7 @@ impl System {
         })
     }
 
-    /// The process of a thread; none where it hasn't started.
+    /// The process of a thread; none if the thread hasn't started.
     pub fn pid_of(&self, tid: Tid) -> Option<Pid>
         ensures pid { result ≡ pid_of self.now.processes tid }
         ensures there { IfSome result (IsPid self.now.processes) }
@@ -92,7 +92,7 @@ impl System {
         self.procs.pid_of(tid).is_some()
     }
 
-    /// Whether a process is there and hasn't ended: it never had a thread, or has one that hasn't ended.
+    /// Whether a process hasn't ended: it never had a thread, or has a thread that hasn't ended.
     pub fn is_live(&self, pid: Pid) -> bool
         requires { IsPid self.now.processes pid }
         ensures live { result ≡ is_live self.now.processes pid }
@@ -101,7 +101,7 @@ impl System {
         self.procs.alive(pid)
     }
 
-    /// Who a process is.
+    /// The ids of a process.
     pub fn ids(&self, pid: Pid) -> Ids
         requires { IsPid self.now.processes pid }
         ensures { result ≡ (process_at self.now.processes pid).ids }
@@ -109,7 +109,7 @@ impl System {
         self.procs.ids(pid)
     }
 
-    /// Where a process's names begin that aren't absolute: a name of at most 1,024 bytes.
+    /// The directory of a process, where its names begin that aren't absolute. Its name has at most 1,024 bytes.
     pub fn cwd(&self, pid: Pid) -> &Shared<AbsName>
         requires { IsPid self.now.processes pid }
         ensures cwd { result.now ≡ (process_at self.now.processes pid).cwd }
@@ -134,7 +134,7 @@ impl System {
         self.procs.traced(pid)
     }
 
-    /// The word at a place of a process's memory.
+    /// The word with an index in a process's memory.
     pub fn word(&self, pid: Pid, place: u32) -> u64
         requires process { IsPid self.now.processes pid }
         requires place { place < SPACE_WORDS }
@@ -147,7 +147,7 @@ impl System {
         }
     }
 
-    /// What is seen of a name.
+    /// What the tree has under a name.
     pub fn look<'a>(&'a self, name: &AbsName) -> Seen<'a>
         ensures { seen_text result ≡ look self.now.tree name.now }
     {
@@ -165,11 +165,11 @@ impl System {
             unreachable!()
         };
         let space = self.procs.space(pid);
-        // The place lies in memory, so nothing refuses it.
+        // The index is inside memory, so the store isn't refused.
         let _ = self.spaces.put_word(space, place, word);
     }
 
-    /// Ends a thread. With the last of its process the process ends, and its descriptors are closed.
+    /// Ends a thread. With the last thread of its process, the process ends, and its descriptors are closed.
     pub fn end_thread(&mut self, tid: Tid)
         requires { is_running self.old.processes tid ≡ true }
         ensures { (i : Input) (st : State) → IsSystem i st self.old → IsSystem i (state_after i st (Ended tid)) self.new }

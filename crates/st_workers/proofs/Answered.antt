@@ -1,4 +1,4 @@
--- What is kept agrees once a worker has answered, in time or too late.
+-- The messages and workers agree with the law's machine after a worker has answered, in time or too late.
 use Rattle.std.proofs.Common.{◌≡◌, ◌≢◌, ◌↔◌, ◌≤◌, ◌-◌, ℕ, ◌==◌, ◌&&◌, ◌||◌, Bool, true, false, cond, List, set, Option, Some, None, inl, inr, refl, ap, sym, ◌∙◌}
 use Rattle.std.proofs.lemmas.Bool.{cases_lt, eq-eqb, ne_eqb, true≢false}
 use Rattle.std.proofs.lemmas.Option.{none-some, same_Some}
@@ -24,7 +24,7 @@ use Rattle.st_workers.proofs.Steps.{all_turned, all_worked, count_kept, message_
 use Rattle.st_workers.proofs.Tasks.{sealed_ready}
 use Rattle.st_workers.proofs.Turns.{number_within}
 
--- what became of the answer, and of the calls
+-- whether the answer was applied, and the held calls after it
 pub record IsDelivered (old new : HeldCalls) (q : ℕ) (v : Verdict) (delivered : Delivered) : Type 0 where
   pub applied : (delivered ≡ Applied) ↔ (is_claimed old q ≡ true)
   pub ok : delivered ≡ Applied → new ≡ with_state old q (Answered v)
@@ -194,7 +194,7 @@ module _ (old new : UnderWay) (w : ℕ) (s : Snapshot) (v : Verdict) (delivered 
     verdict_by i is_verdict false e x t answered copies =
         absurd (none-some (Answered x) (sym (ap (λ (c : HeldCalls). state_at c s.seq) (stale_calls e) ∙ (none_there e).state) ∙ answered))
 
-  -- it stays whole
+  -- the messages and workers stay whole
   pub answered_whole : IsWhole old → IsWhole new
   answered_whole whole =
       let e = entry.Answered w s v (whole.alive s.seq) in
@@ -211,7 +211,7 @@ module _ (old new : UnderWay) (w : ℕ) (s : Snapshot) (v : Verdict) (delivered 
   pub answered_workers : IsWhole old → new.calls.workers ≡ old.calls.workers
   answered_workers whole = workers_by whole.messages whole.turns whole.alive whole.posted whole.agrees (whole.alive s.seq) refl
 
-  -- it follows the machine
+  -- the messages and workers represent the state after the entry
   pub answered_kept : (i : Input) (st : State) (alive : ℕ → Bool) → IsKept i st alive old → v ≡ judging.verdict (read_for i s.policy s.rule) s → IsKeptAfter i st (entry.Answered w s v (alive s.seq)) alive new
   answered_kept i st alive kept is_verdict = record {
     workers = workers_by st.messages st.turns alive st.posted kept.agrees (alive s.seq) refl ∙ kept.workers;
@@ -228,6 +228,6 @@ module _ (old new : UnderWay) (w : ℕ) (s : Snapshot) (v : Verdict) (delivered 
   claimed_live held q None e claimed_is = absurd (true≢false (sym claimed_is))
   claimed_live held q (Some x) e claimed_is = state_live held q x e
 
-  -- an answer is applied exactly where its number is live
+  -- an answer is applied iff its number is live
   pub applied_where : IsWhole old → (delivered ≡ Applied) ↔ (is_live old.calls s.seq ≡ true)
   applied_where whole = (λ e. claimed_live old.calls s.seq (state_at old.calls s.seq) refl (is.applied.0 e), λ live. applied_by whole (whole.alive s.seq) refl live)

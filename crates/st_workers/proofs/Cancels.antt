@@ -1,4 +1,4 @@
--- What is kept agrees once a number has ended.
+-- The messages and workers agree with the law's machine after a number has ended.
 use Rattle.std.proofs.Common.{◌≡◌, ◌≢◌, ℕ, ◌==◌, ◌||◌, Bool, true, false, cond, length, Option, Some, None, ◌⊎◌, inl, inr, refl, ap, sym, ◌∙◌, subst, arith}
 use Rattle.std.specs.Prelude.{if◌then◌else◌, is_some}
 use Rattle.std.specs.Option.{option_map}
@@ -21,7 +21,7 @@ use Rattle.st_workers.proofs.Changed.{changed, Moves, Stays}
 use Rattle.st_workers.proofs.Claims.{idle_at_none, live_by_state}
 use Rattle.st_workers.proofs.Steps.{turned_state, verdicts_kept}
 
--- a number that was live ends, its worker leaves it, and each other is as it was
+-- a number that was live has ended, its worker has left it, and each other is unchanged
 pub record IsEnded (old new : Found) (p : ℕ) : Type 0 where
   pub next : new.next ≡ old.next
   pub dead : IsDead p new
@@ -30,7 +30,7 @@ pub record IsEnded (old new : Found) (p : ℕ) : Type 0 where
   pub slots : (q : ℕ) → q ≢ p → new.slot q ≡ old.slot q
   pub turn : (w : ℕ) → new.turn w ≡ cond (is_claimed_by (old.state p) w) (left (old.turn w)) (old.turn w)
 
--- a number is live no more, and each other is as it was
+-- a number is no longer live, and each other is unchanged
 abbrev pub without_live : ℕ → (ℕ → Bool) → ℕ → Bool
 without_live p alive q = if q == p then false else alive q
 
@@ -79,7 +79,7 @@ module _ (old new : Found) (p : ℕ) (ended : IsEnded old new p) (messages : ℕ
       })
     ]
 
-  -- ---- no worker's turn
+  -- ---- it is no worker's turn
 
   each_other : (state : MsgState) → old.state p ≡ Some state → IsState turns p (messages p) state → ((w : ℕ) → state ≡ Claimed w → ⊥) → ((v : ℕ) → is_claimed_by (Some state) v ≡ false) → (v : ℕ) → Stays turns turns p old new v ⊎ Moves turns turns messages alive later p 0 new v
   each_other state state_is is unclaimed none v = inl (record {
@@ -94,7 +94,7 @@ module _ (old new : Found) (p : ℕ) (ended : IsEnded old new p) (messages : ℕ
   each_by (Answered x) state_is is = (0, each_other (Answered x) state_is is (λ w e. cc) (λ v. refl))
   each_by (Faulted errno) state_is is = (0, each_other (Faulted errno) state_is is (λ w e. cc) (λ v. refl))
 
-  -- what is found agrees once the number has ended
+  -- what is found agrees after the number has ended
   pub ended_agrees : Agrees messages turns later posted new
   ended_agrees =
       let each = each_by was.state was.state_is was.is_state in
@@ -121,7 +121,7 @@ live_message calls q is = by (message_at calls q) is where
   by None is = absurd (true≢false (sym is))
   by (Some m) is = (m, refl)
 
--- a number that is live here is live there
+-- a number that is live here is live in the law's machine
 pub live_there : (messages : ℕ → Message) (turns : ℕ → Option ℕ) (alive : ℕ → Bool) (posted : ℕ) (kept : UnderWay) → Agrees messages turns alive posted (found_in kept) → (q : ℕ) → is_live kept.calls q ≡ true → alive q ≡ true
 live_there messages turns alive posted kept agrees q is =
     let m = live_message kept.calls q is in

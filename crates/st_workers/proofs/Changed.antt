@@ -1,4 +1,4 @@
--- What agrees agrees on where one number, and the turn of one worker, change.
+-- Agreement is preserved by a change of one number and of one worker's turn.
 use Rattle.std.proofs.Common.{◌≡◌, ◌≢◌, ◌<◌, ◌≤◌, ℕ, suc, ◌||◌, Bool, true, false, cond, Option, Some, None, ◌⊎◌, inl, inr, ap, sym, ◌∙◌, subst, arith}
 use Rattle.std.proofs.lemmas.Bool.{cases_eq}
 use Rattle.st_messages.specs.declared.message.MsgState.{MsgState}
@@ -9,13 +9,13 @@ use Rattle.st_workers.specs.UnderWay.{Found}
 use Rattle.st_workers.specs.declared.turn.Turn.{Turn}
 use Rattle.st_workers.specs.declared.turn.Turn.TheVariants.{Idle, Working, Ready}
 
--- a worker whose turn isn't the number, and stays
+-- a worker whose turn isn't the number, and is unchanged
 pub record Stays (turns turned : ℕ → Option ℕ) (p : ℕ) (old new : Found) (w : ℕ) : Type 0 where
   pub same : turned w ≡ turns w
   pub other : turns w ≢ Some p
   pub turn : (t : Turn) → new.turn w ≡ Some t → old.turn w ≡ Some t
 
--- the worker whose turn is the number, before or behind the change
+-- the worker whose turn is the number, before or after the change
 pub record Moves (turns turned : ℕ → Option ℕ) (after : ℕ → Message) (alive later : ℕ → Bool) (p worker : ℕ) (new : Found) (w : ℕ) : Type 0 where
   pub is : w ≡ worker
   pub from : (q : ℕ) → turns w ≡ Some q → alive q ≡ true → q ≡ p
@@ -116,7 +116,7 @@ module _ (messages after : ℕ → Message) (turns turned : ℕ → Option ℕ) 
     | inr moves ↦ moves.turn t is
   ]
 
-  -- what is found agrees behind the change
+  -- what is found agrees after the change
   pub changed : Agrees after turned later given new
   changed = record {
     next = changes.next;
@@ -143,7 +143,7 @@ module _ (messages after : ℕ → Message) (turns turned : ℕ → Option ℕ) 
 
 -- ---- nothing changes
 
--- all is found as it was
+-- what is found is unchanged
 pub record IsSame (old new : Found) : Type 0 where
   pub next : new.next ≡ old.next
   pub state : (q : ℕ) → new.state q ≡ old.state q

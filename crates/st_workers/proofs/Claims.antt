@@ -1,4 +1,4 @@
--- What is kept agrees once a worker has claimed a number.
+-- The messages and workers agree with the law's machine after a worker has claimed a number.
 use Rattle.std.proofs.Common.{◌≡◌, ◌≢◌, ◌-◌, ℕ, ◌==◌, ◌||◌, Bool, true, false, cond, List, set, Option, Some, None, refl, ap, sym, ◌∙◌, subst}
 use Rattle.std.proofs.lemmas.Bool.{eq-eqb, ne_eqb, true≢false}
 use Rattle.std.proofs.lemmas.Option.{none-some, same_Some}
@@ -108,7 +108,7 @@ module _ (old new : UnderWay) (w p : ℕ) (slot : Slot) (t : Turn) (idle : turn_
   workers_now : new.calls.workers ≡ old.calls.workers
   workers_now = ap (λ (c : HeldCalls). c.workers) calls
 
-  -- it stays whole
+  -- the messages and workers stay whole
   pub claimed_whole : IsWhole old → IsWhole new
   claimed_whole whole = record {
     count = count_kept whole.messages (all_worked (entry.Claimed w p) whole.messages) whole.turns (all_turned (entry.Claimed w p) whole.turns) whole.alive whole.posted old new w p t
@@ -120,7 +120,7 @@ module _ (old new : UnderWay) (w p : ℕ) (slot : Slot) (t : Turn) (idle : turn_
     agrees = claimed_agrees whole.messages whole.turns whole.alive whole.posted whole.agrees;
   }
 
-  -- it follows the machine
+  -- the messages and workers represent the state after the entry
   pub claimed_follows : Follows old (entry.Claimed w p) new
   claimed_follows i st alive kept = record {
     workers = workers_now ∙ kept.workers;

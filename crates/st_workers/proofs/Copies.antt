@@ -1,4 +1,4 @@
--- The slot of a message against its record: how far both have come, and what one more word or look makes of them.
+-- The slot of a message and its record in the law's machine: their progress, and how one more word or look changes them.
 use Rattle.std.proofs.Common.{◌≡◌, ◌<◌, ℕ, ◌+◌, ◌==◌, Bool, true, false, cond, List, [], ◌∷◌, ◌++◌, length, set, Option, Some, inl, inr, refl, ap, sym, ◌∙◌, subst, arith}
 use Rattle.std.specs.Prelude.{if◌then◌else◌, slice_index_or}
 use Rattle.std.proofs.lemmas.Bool.{cases_eq, eq-eqb, eqb-true, ne_eqb}
@@ -33,24 +33,24 @@ pub slot_number : (slots : List Slot) (seq : ℕ) (found : Slot) → slot_at slo
 slot_number [] seq found is = absurd (none-some found is)
 slot_number (slot ∷ slots) seq found is = slot_number-by slot slots seq found (has_number seq slot) refl is (slot_number slots seq found)
 
--- ---- how far a message has come
+-- ---- the progress of a message
 
 module _ (message : Message) (tid : ℕ) (slot : Slot) (is : IsSlotOf message tid slot) where
-  -- a slot has come as far as its message
+  -- a slot has the same progress as its message
   pub same_progress : progress_of_message message ≡ progress_of slot
   same_progress =
       ap (λ (o : Option Head). progress_of_head o message.words message.lookups) is.head
       ∙ (λ k. progress (request_of slot.head) (λ j. is.words j k) (λ j. is.lookups j k))
 
-  -- what is sealed of a slot is the snapshot of its message
+  -- the sealed copies of a slot are the snapshot of its message
   pub same_snapshot : (q : ℕ) (args : List ArgText) → slot.head.seq ≡ q → progress_of slot ≡ Ready args → snapshot_of_message q message ≡ Some (snapshot_with slot.head args)
   same_snapshot q args number ready =
       (λ k. snapshot_of_progress q (is.head k) ((same_progress ∙ ready) k))
       ∙ ap (λ (n : ℕ). Some (law.snapshot_with n (head_of tid slot.head) args)) (sym number)
 
--- ---- which argument is asked for
+-- ---- which argument is needed next
 
--- an argument that is asked for is below this place
+-- the argument that is needed next has an index below this number
 abbrev pub IsBelow : ℕ → Progress → Type 0
 IsBelow n (Word part place) = part < n
 IsBelow n (Look part name) = part < n
@@ -79,7 +79,7 @@ below_from n j (spec ∷ specs) asked words lookups e =
     subst (IsBelow n) (sym (front_is j spec asked.cwd follow (lookups j) spelled rest))
     (below_front n j (progress_alone spec asked.cwd follow (lookups j) spelled) rest (omega (arith, e)) (below_from n (j + 1) specs asked words lookups (omega (arith, e))))
 
--- the argument that a slot asks for is one of its own
+-- the argument that a slot needs next is one of its own
 pub asked_inside : (slot : Slot) → length slot.parts ≡ length (args_of slot.head.rule) → IsBelow (length slot.parts) (progress_of slot)
 asked_inside slot count = below_from (length slot.parts) 0 (args_of slot.head.rule) (request_of slot.head) (λ j. (part_at slot.parts j).words) (λ j. (part_at slot.parts j).lookups) (omega (arith, count))
 
@@ -95,7 +95,7 @@ module _ (message : Message) (tid : ℕ) (slot : Slot) (is : IsSlotOf message ti
   other : (filled : Filled) (j : ℕ) → (part ≡ j → ⊥) → part_at (set slot.parts part filled) j ≡ part_at slot.parts j
   other filled j ne = get_or-set_other slot.parts part j filled nothing_filled (λ e. ne (sym e))
 
-  -- a word more of an argument
+  -- one more word of an argument
   pub word_kept : (word : ℕ) → IsSlotOf (record message { words = λ j. if part == j then message.words j ++ word ∷ [] else message.words j }) tid (with_part slot part (with_word (part_at slot.parts part) word))
   word_kept word = let filled : Filled = with_word (part_at slot.parts part) word in record {
     head = is.head;
@@ -110,7 +110,7 @@ module _ (message : Message) (tid : ℕ) (slot : Slot) (is : IsSlotOf message ti
     ];
   }
 
-  -- a look more at its name
+  -- one more look at the name of an argument
   pub look_kept : (seen : SeenText) → IsSlotOf (record message { lookups = λ j. if part == j then message.lookups j ++ seen ∷ [] else message.lookups j }) tid (with_part slot part (with_lookup (part_at slot.parts part) seen))
   look_kept seen = let filled : Filled = with_lookup (part_at slot.parts part) seen in record {
     head = is.head;

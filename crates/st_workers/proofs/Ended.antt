@@ -1,4 +1,4 @@
--- What is kept agrees once a worker has told an error, or answered.
+-- The messages and workers agree with the law's machine after a worker has marked a message as faulted, or has answered.
 use Rattle.std.proofs.Common.{◌≡◌, ◌≢◌, ◌-◌, ℕ, ◌==◌, Bool, true, false, cond, List, set, Option, Some, None, refl, ap, sym, ◌∙◌}
 use Rattle.std.specs.Prelude.{is_some}
 use Rattle.std.specs.Option.{option_map}
@@ -32,7 +32,7 @@ state_live calls q state is = by (message_at calls q) is where
   by None is = absurd (none-some state is)
   by (Some m) is = refl
 
--- and one without a state isn't
+-- a number without a state isn't live
 pub dead_not_live : (calls : HeldCalls) (q : ℕ) → state_at calls q ≡ None → is_live calls q ≡ true → ⊥
 dead_not_live calls q is live = by (message_at calls q) is live where
   by : (o : Option message.Message) → option_map (λ (m : message.Message). m.state) o ≡ None → is_some o ≡ true → ⊥
@@ -46,14 +46,14 @@ none_live calls q is = by (message_at calls q) is where
   by None is = refl
   by (Some m) is = absurd (none-some m.state (sym is))
 
--- a number is live exactly where it is live by what is kept
+-- a number is live iff it is live by what is kept
 pub lives_as : (i : Input) (st : State) (alive : ℕ → Bool) (kept : UnderWay) (q : ℕ) → IsKept i st alive kept → is_live kept.calls q ≡ alive q
 lives_as i st alive kept q x = by (alive q) refl where
   by : (b : Bool) → alive q ≡ b → is_live kept.calls q ≡ alive q
   by true is = state_live kept.calls q (x.agrees.live q is).state (x.agrees.live q is).state_is ∙ sym is
   by false is = none_live kept.calls q (x.agrees.dead q is).state ∙ sym is
 
--- a number that is a worker's turn, and lives, is claimed
+-- a live number that is a worker's turn is claimed
 pub turned_claimed : (messages : ℕ → Message) (turns : ℕ → Option ℕ) (alive : ℕ → Bool) (posted : ℕ) (found : Found) → Agrees messages turns alive posted found → (w q : ℕ) → turns w ≡ Some q → alive q ≡ true → (v : ℕ) × (found.state q ≡ Some (Claimed v))
 turned_claimed messages turns alive posted found agrees w q turned live =
     let was : IsLive turns q (messages q) found = agrees.live q live in

@@ -25,7 +25,7 @@ module _ (kept : UnderWay) (w seq : ℕ) (working : turn_at kept w ≡ Some (Wor
   slot : (slot : Slot) × (slot_at kept.slots seq ≡ Some slot)
   slot = working_slot kept whole w seq working
 
-  -- it is the machine's
+  -- the name is that of the law's machine
   pub name_entry : (name : Components) → IfSome (slot_at kept.slots seq) (λ slot. progress_of slot ≡ Look (part_next (progress_of slot)) name) → (i : Input) (st : State) (q part : ℕ) → IsKept i st (is_live st) kept
       → task_of kept w ≡ task.Look q part → worker_entry i st w ≡ Some (entry.Looked q part name (look st.tree name))
   name_entry name found i st q part is e =

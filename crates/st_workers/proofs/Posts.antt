@@ -1,4 +1,4 @@
--- What is kept agrees once a call is posted.
+-- The messages and workers agree with the law's machine after a call is posted.
 use Rattle.std.proofs.Common.{◌≡◌, ◌≢◌, ℕ, zero, suc, ◌==◌, Bool, true, false, cond, List, [], ◌∷◌, length, map, Option, Some, inl, refl, ap, sym, ◌∙◌, subst, arith}
 use Rattle.std.specs.Prelude.{if◌then◌else◌}
 use Rattle.std.specs.Option.{option_map}
@@ -29,11 +29,11 @@ use Rattle.st_workers.specs.declared.turn.Turn.{Turn}
 use Rattle.st_workers.proofs.Changed.{changed}
 use Rattle.st_workers.proofs.Steps.{verdicts_kept, waiting_unturned}
 
--- the message of a number that has this head now, and each other as it was
+-- the message of a number that has this head now; each other is unchanged
 abbrev pub with_head : Head → ℕ → (ℕ → Message) → ℕ → Message
 with_head head p messages q = record (messages q) { head = if p == q then Some head else (messages q).head }
 
--- a number is live now, and each other as it was
+-- a number is live now, and each other is unchanged
 abbrev pub with_live : ℕ → (ℕ → Bool) → ℕ → Bool
 with_live p alive q = if q == p then true else alive q
 
@@ -42,7 +42,7 @@ nothing_at [] j = refl
 nothing_at (spec ∷ specs) zero = refl
 nothing_at (spec ∷ specs) (suc j) = nothing_at specs j
 
--- a message of which nothing was done has a new slot
+-- a message for which nothing was done has a new slot
 pub new_slot_of : (m : Message) (tid : ℕ) (head : kept.Head) → m.head ≡ Some (head_of tid head) → IsUntouched m → IsSlotOf m tid (new_slot head)
 new_slot_of m tid head is untouched = record {
   head = is;
@@ -60,7 +60,7 @@ head_other head p messages q ne =
 pub thread_other : (calls : HeldCalls) (tid other : ℕ) → other ≢ calls.next → thread_at (calls_after_post calls tid) other ≡ thread_at calls other
 thread_other calls tid other ne = ap (option_map (λ (m : message.Message). m.tid)) (found_other calls.live calls.next tid other ne)
 
--- a number that is posted is found, and each other as it was
+-- a number that is posted is found, and each other is unchanged
 pub record IsPosted (old new : Found) (p tid : ℕ) (head : kept.Head) : Type 0 where
   pub next : new.next ≡ suc old.next
   pub state : new.state p ≡ Some Waiting
@@ -85,7 +85,7 @@ module _ (old new : Found) (p tid : ℕ) (head : kept.Head) (is_posted : IsPoste
   untouched_now : IsUntouched (with_head (head_of tid head) p messages p)
   untouched_now = record { come = record { claimed = untouched.come.claimed; fault = untouched.come.fault; answered = untouched.come.answered }; words = untouched.words; lookups = untouched.lookups }
 
-  -- what is found agrees once a call is posted
+  -- what is found agrees after a call is posted
   pub posted_agrees : Agrees (with_head (head_of tid head) p messages) turns later (suc posted) new
   posted_agrees = changed messages (with_head (head_of tid head) p messages) turns turns alive later posted (suc posted) p 0 old new agrees (record {
     others = head_other (head_of tid head) p messages;
@@ -145,7 +145,7 @@ module _ (old new : UnderWay) (tid : ℕ) (head : kept.Head) (calls : new.calls 
   workers_now : new.calls.workers ≡ old.calls.workers
   workers_now = ap (λ (c : HeldCalls). c.workers) calls
 
-  -- it stays whole
+  -- the messages and workers stay whole
   pub posted_whole : IsWhole old → IsWhole new
   posted_whole whole = record {
     count = ap (λ (ts : List Turn). length ts) turns_same ∙ whole.count ∙ sym workers_now;
@@ -156,7 +156,7 @@ module _ (old new : UnderWay) (tid : ℕ) (head : kept.Head) (calls : new.calls 
     agrees = posted_agrees (found_in old) (found_in new) old.calls.next tid head (found_posted old.calls.next refl) whole.messages whole.turns whole.alive (with_live old.calls.next whole.alive) whole.posted whole.agrees refl (λ other. refl);
   }
 
-  -- it follows the machine
+  -- the messages and workers represent the state after the entry
   pub posted_kept : (i : Input) (st : State) (alive later : ℕ → Bool) (call : SysCall) (regs : List ℕ) → IsKept i st alive old → head_of tid head ≡ new_head i tid (st.threads tid).owner (st.processes (st.threads tid).owner) call regs
       → ChangesLife alive (suc st.posted) true later → IsKeptAfter i st (entry.Entered tid call regs (Held (suc st.posted))) later new
   posted_kept i st alive later call regs kept head_is lives =

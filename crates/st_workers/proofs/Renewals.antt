@@ -1,4 +1,4 @@
--- What is kept agrees once a number is renewed: it has ended, and its call is posted anew.
+-- The messages and workers agree with the law's machine after a number is renewed: it has ended, and its call is posted again.
 use Rattle.std.proofs.Common.{◌≡◌, ◌≢◌, ℕ, suc, ◌==◌, Bool, true, false, cond, length, IfSome, Option, Some, None, inl, inr, refl, ap, sym, ◌∙◌, subst}
 use Rattle.std.specs.Prelude.{if◌then◌else◌}
 use Rattle.std.specs.Option.{option_map}
@@ -25,7 +25,7 @@ use Rattle.st_workers.proofs.Cancels.{ended_agrees, live_message, live_there, wi
 use Rattle.st_workers.proofs.Filled.{told}
 use Rattle.st_workers.proofs.Posts.{head_other, not_answer, posted_agrees, thread_other, with_head, with_live, IsPosted}
 
--- what is found once a number has ended, where turns are found so
+-- what is found after a number has ended, with these turns
 abbrev pub found_without : Found → ℕ → Found → Found
 found_without old p new = record {
   next = old.next;
@@ -117,7 +117,7 @@ module _ (old new : UnderWay) (p : ℕ) (ids : Ids) (cwd : Components) (here : i
   workers_now : new.calls.workers ≡ old.calls.workers
   workers_now = ap (λ (c : HeldCalls). c.workers) calls_are
 
-  -- it stays whole
+  -- the messages and workers stay whole
   pub renewed_whole : IsWhole old → IsWhole new
   renewed_whole whole =
       let its : IsLive whole.turns p (whole.messages p) (found_in old) = was whole.messages whole.turns whole.alive whole.posted whole.agrees in
@@ -136,7 +136,7 @@ module _ (old new : UnderWay) (p : ℕ) (ids : Ids) (cwd : Components) (here : i
     by true e = absurd (none-some (Answered v) e)
     by false e = e
 
-  -- it is what the machine keeps then
+  -- the messages and workers represent the state after the renewal
   pub renewed_kept : (i : Input) (messages : ℕ → Message) (turns : ℕ → Option ℕ) (alive later : ℕ → Bool) (posted : ℕ) (process : Process) → AreKept i messages turns alive posted old → process.ids ≡ ids → process.cwd ≡ cwd
       → RenewsLife alive p (suc posted) later → AreKept i (messages_renewed process p (suc posted) messages) turns later (suc posted) new
   renewed_kept i messages turns alive later posted process kept ids_is cwd_is lives =

@@ -1,4 +1,4 @@
--- What is kept is as good as before where nothing changes.
+-- The messages and workers represent the same state as before if nothing changes.
 use Rattle.std.proofs.Common.{◌≡◌, ℕ, ◌==◌, Bool, true, false, cond, List, length, Some, None, refl, ap, sym, ◌∙◌, arith}
 use Rattle.std.proofs.lemmas.Bool.{eqb-true}
 use Rattle.st_base.specs.Numbered.{item_at_number}
@@ -39,7 +39,7 @@ module _ (old new : UnderWay) (calls : new.calls ≡ old.calls) (slots : AreSame
     agrees = unchanged whole.messages whole.turns whole.alive whole.posted (found_in old) (found_in new) is_same whole.agrees;
   }
 
--- ---- a slot that was begun is ended again
+-- ---- a slot that was begun has ended again
 
 next_free-by : (kept : UnderWay) (whole : IsWhole kept) (b : Bool) → whole.alive kept.calls.next ≡ b → slot_at kept.slots kept.calls.next ≡ None
 next_free-by kept whole true is = absurd (let given = whole.agrees.given kept.calls.next is in let next = whole.agrees.next in omega (arith, given.1, next))

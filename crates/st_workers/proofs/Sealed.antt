@@ -1,4 +1,4 @@
--- What is sealed of an answered message is the machine's.
+-- The sealed copies of an answered message are those of the law's machine.
 use Rattle.std.proofs.Common.{◌≡◌, ◌∙◌, ℕ, true, IfOk, IfSome, Option, Result, Ok, Err, Some, None, refl, ap, sym, subst}
 use Rattle.std.proofs.lemmas.Option.{same_Some}
 use Rattle.st_calls.specs.declared.judged.Snapshot.{Snapshot}

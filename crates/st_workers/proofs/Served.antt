@@ -1,4 +1,4 @@
--- What is kept agrees once a worker has copied a word or looked at a name.
+-- The messages and workers agree with the law's machine after a worker has copied a word or looked at a name.
 use Rattle.std.proofs.Common.{◌≡◌, ◌≢◌, ◌-◌, ℕ, ◌==◌, ◌&&◌, Bool, true, false, cond, [], ◌∷◌, ◌++◌, length, set, Option, Some, None, refl, ap, sym, ◌∙◌, subst}
 use Rattle.std.specs.Prelude.{if◌then◌else◌}
 use Rattle.std.proofs.lemmas.Bool.{eq-eqb, ne_eqb, true≢false}
@@ -27,7 +27,7 @@ use Rattle.st_workers.proofs.Filled.{changed_to}
 use Rattle.st_workers.proofs.Steps.{all_turned, all_worked, count_kept, message_worked, stepped, turn_is, turned_state, verdicts_kept, IsStep}
 use Rattle.st_workers.proofs.Turns.{number_within}
 
--- an entry that fills the slot of a number, and leaves all else
+-- an entry that fills the slot of a number, and leaves everything else unchanged
 pub record Fills (e : Entry) (p : ℕ) (slot filled : Slot) : Type 0 where
   pub number : filled.head.seq ≡ slot.head.seq
   pub other : (q : ℕ) (m : Message) → q ≢ p → message_worked e q m ≡ m
@@ -95,7 +95,7 @@ module _ (e : Entry) (old new : UnderWay) (w p : ℕ) (slot filled : Slot) (t : 
   pub served_workers : new.calls.workers ≡ old.calls.workers
   served_workers = ap (λ (c : HeldCalls). c.workers) calls
 
-  -- it stays whole
+  -- the messages and workers stay whole
   pub served_whole : IsWhole old → IsWhole new
   served_whole whole = record {
     count = count_kept whole.messages (all_worked e whole.messages) whole.turns (all_turned e whole.turns) whole.alive whole.posted old new w p t
@@ -110,7 +110,7 @@ module _ (e : Entry) (old new : UnderWay) (w p : ℕ) (slot filled : Slot) (t : 
   not_answer : (v : ℕ) (x : Verdict) → Claimed v ≡ Answered x → ⊥
   not_answer v x is = cc
 
-  -- it is what the machine keeps then
+  -- the messages and workers represent the state after the entry
   pub served_kept : (i : Input) (messages : ℕ → Message) (turns : ℕ → Option ℕ) (alive : ℕ → Bool) (posted : ℕ) → AreKept i messages turns alive posted old → AreKept i (all_worked e messages) (all_turned e turns) alive posted new
   served_kept i messages turns alive posted is = record {
     workers = served_workers ∙ is.workers;

@@ -1,4 +1,4 @@
--- How far a number has come, by what is kept and by the machine.
+-- How far a number has come, by what is kept and in the law's machine.
 use Rattle.std.proofs.Common.{◌≡◌, ◌∙◌, ℕ, Bool, true, false, Option, Some, None, refl, ap, sym, subst}
 use Rattle.std.proofs.lemmas.Bool.{true≢false}
 use Rattle.std.proofs.lemmas.Option.{none-some}
@@ -37,11 +37,11 @@ module _ (i : Input) (st : State) (kept : UnderWay) (is : IsKept i st (is_live s
       subst (HasComeTo i st q) (sym was.state_is) (come_live live was.state was.state_is was.is_state was)
   come_by false live = subst (HasComeTo i st q) (sym (is.agrees.dead q live).state) live
 
-  -- what is kept of a number is what the machine has of it
+  -- the state that is kept of a number is how far it has come in the law's machine
   pub has_come_to : HasComeTo i st q (state_at kept.calls q)
   has_come_to = come_by (is_live st q) refl
 
-  -- so is its thread
+  -- the thread that is kept of a number is that of the law's machine
   held_by : (b : Bool) → is_live st q ≡ b → (t : ℕ) → thread_at kept.calls q ≡ Some t → IsHeldBy st q t
   held_by true live t found =
       let was : IsLive st.turns q (st.messages q) (found_in kept) = is.agrees.live q live in

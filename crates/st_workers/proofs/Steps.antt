@@ -1,4 +1,4 @@
--- A step of one worker on one number, and what stays as it was.
+-- A step of one worker on one number, and what is unchanged.
 use Rattle.std.proofs.Common.{◌≡◌, ◌≢◌, ◌≤◌, ◌-◌, ℕ, ◌==◌, Bool, true, false, cond, List, length, set, Option, Some, None, ◌⊎◌, inl, inr, refl, ap, sym, ◌∙◌, subst, arith}
 use Rattle.std.proofs.lemmas.Bool.{cases_eq, eq-eqb, ne_eqb, true≢false}
 use Rattle.std.proofs.lemmas.List.{length-set}
@@ -27,7 +27,7 @@ use Rattle.st_workers.proofs.Changed.{changed, Stays, Moves}
 use Rattle.st_workers.proofs.Copies.{same_progress, same_snapshot}
 use Rattle.st_workers.proofs.Turns.{item_put}
 
--- what an entry of a worker makes of the message of a number
+-- how an entry of a worker changes the message of a number
 abbrev pub message_worked : Entry → ℕ → Message → Message
 message_worked e q message = record {
   head = message.head;
@@ -39,11 +39,11 @@ message_worked e q message = record {
   closed = message.closed;
 }
 
--- what it makes of all messages
+-- how an entry changes all messages
 abbrev pub all_worked : Entry → (ℕ → Message) → ℕ → Message
 all_worked e messages q = message_worked e q (messages q)
 
--- what it makes of all turns
+-- how an entry changes all turns
 abbrev pub all_turned : Entry → (ℕ → Option ℕ) → ℕ → Option ℕ
 all_turned e turns w = turn_after e w (turns w)
 
@@ -94,7 +94,7 @@ module _ (messages after : ℕ → Message) (turns turned : ℕ → Option ℕ) 
       })
     ]
 
-    -- what is kept agrees behind the step
+    -- what is found agrees after the step
     pub stepped : Agrees after turned alive posted (found_in new)
     stepped = changed messages after turns turned alive alive posted posted p w (found_in old) (found_in new) agrees (record {
       others = step.others;
@@ -110,7 +110,7 @@ module _ (messages after : ℕ → Message) (turns turned : ℕ → Option ℕ) 
       each = each;
     })
 
--- the verdicts of all other numbers are those that they were
+-- the verdicts of all other numbers are unchanged
 pub verdicts_kept : (i : Input) (messages after : ℕ → Message) (old new : HeldCalls) (p : ℕ) → ((q : ℕ) → q ≢ p → after q ≡ messages q) → ((q : ℕ) → q ≢ p → state_at new q ≡ state_at old q)
     → ((v : Verdict) (s : Snapshot) → state_at new p ≡ Some (Answered v) → snapshot_of_message p (after p) ≡ Some s → v ≡ verdict (read_for i s.policy s.rule) s)
     → ((q : ℕ) (v : Verdict) (s : Snapshot) → state_at old q ≡ Some (Answered v) → snapshot_of_message q (messages q) ≡ Some s → v ≡ verdict (read_for i s.policy s.rule) s)
@@ -131,18 +131,18 @@ not_answered m come other = true≢false (sym other.answered ∙ come.answered)
 not_faulted : (m : Message) (errno : Errno) → HasCome m true None false → HasCome m true (Some errno) false → ⊥
 not_faulted m errno come other = none-some errno (sym come.fault ∙ other.fault)
 
--- it is claimed, by the worker whose turn it is
+-- it is claimed by the worker whose turn it is
 pub turned_state : (turns : ℕ → Option ℕ) (q : ℕ) (m : Message) (state : MsgState) → HasCome m true None false → IsState turns q m state → (v : ℕ) × (state ≡ Claimed v) × (turns v ≡ Some q)
 turned_state turns q m Waiting come is = absurd (not_claimed m come is)
 turned_state turns q m (Claimed v) come is = (v, refl, is.1)
 turned_state turns q m (Answered x) come is = absurd (not_answered m come is.0)
 turned_state turns q m (Faulted errno) come is = absurd (not_faulted m errno come is)
 
--- one that waits is no worker's turn
+-- a waiting number is no worker's turn
 pub waiting_unturned : (m : Message) → HasCome m false None false → HasCome m true None false → ⊥
 waiting_unturned m waits come = not_claimed m come waits
 
--- ---- the turn that a slot makes
+-- ---- the turn by a slot
 
 turn_for-ready : (after : ℕ → Message) (alive : ℕ → Bool) (o : Option ℕ) (p tid : ℕ) (slot : Slot) (s : Snapshot) → IsSlotOf (after p) tid slot → slot.head.seq ≡ p → o ≡ Some p
     → progress_of slot ≡ Whole s.parts → s ≡ snapshot_with slot.head s.parts → IsTurn after alive o (Ready s)
@@ -150,7 +150,7 @@ turn_for-ready after alive o p tid slot s is number turned ready sealed =
     let e : s.seq ≡ p = ap (λ (x : Snapshot). x.seq) sealed ∙ number in
     (turned ∙ ap Some (sym e), ap (λ (n : ℕ). snapshot_of_message n (after n)) e ∙ same_snapshot (after p) tid slot is p s.parts number ready ∙ ap Some (sym sealed))
 
--- the turn of a worker at a live number, by its slot
+-- the turn of a worker at a live number, by the slot of the number
 pub turn_is : (after : ℕ → Message) (alive : ℕ → Bool) (o : Option ℕ) (p tid : ℕ) (slot : Slot) (t : Turn) → IsSlotOf (after p) tid slot → slot.head.seq ≡ p → o ≡ Some p → alive p ≡ true → IsTurnFor p slot t → IsTurn after alive o t
 turn_is after alive o p tid slot Idle is number turned live turn = absurd turn
 turn_is after alive o p tid slot (Working q) is number turned live turn =

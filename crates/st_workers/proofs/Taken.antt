@@ -1,4 +1,4 @@
--- A worker's copy and a worker's look, by the tasks that ask for them.
+-- A worker's copies and looks, by the tasks that ask for them.
 use Rattle.std.proofs.Common.{◌≡◌, ◌-◌, ◌∙◌, ℕ, get_or, set, Some, IfSome, OnErr, OnOk, Result, Ok, Err, ap, sym, subst}
 use Rattle.std.proofs.lemmas.List.{set-get_or}
 use Rattle.std.proofs.lemmas.Option.{same_Some}
@@ -19,7 +19,7 @@ use Rattle.st_workers.proofs.Served.{fills_look, fills_word, served_kept, served
 use Rattle.st_workers.proofs.Tasks.{copy_is, look_asked, look_is, word_asked, working_slot}
 use Rattle.st_workers.proofs.Turns.{item_here, number_within, read_is}
 
--- what holds of a call's result, whether it took what it was given or not
+-- what holds both of a success and of an error holds of any result
 pub either_way : {A E : Type 0} (r : Result A E) (P Q R : Type 0) → (P → R) → (Q → R) → OnOk r P → OnErr r Q → R
 either_way (Ok x) P Q R taken not_taken ok err = taken ok
 either_way (Err e) P Q R taken not_taken ok err = not_taken err
@@ -28,7 +28,7 @@ pub both_err : {A E : Type 0} (r : Result A E) (P Q : Type 0) → OnErr r P → 
 both_err (Ok x) P Q p q = p
 both_err (Err e) P Q p q = (p, q)
 
--- a worker whose turn is put as it was read stands as before
+-- a worker whose turn is stored as it was read is unchanged
 pub put_again : (old new : UnderWay) (w : ℕ) (was read t : Turn) → turn_at old w ≡ Some was → read ≡ get_or old.turns (w - 1) read → t ≡ read → new.turns ≡ set old.turns (w - 1) t → new.turns ≡ old.turns
 put_again old new w was read t at here same put =
     let within = number_within old.turns w was at in

@@ -1,4 +1,4 @@
--- What a worker does next is what the machine has it do.
+-- What a worker does next is what it does next in the law's machine.
 use Rattle.std.proofs.Common.{◌≡◌, ◌≢◌, ◌≤◌, ℕ, ◌&&◌, ◌||◌, not, nat_lt, nat_le, Bool, true, false, cond, Option, Some, None, IfSome, IsSome, inl, inr, refl, ap, sym, ◌∙◌, subst, arith}
 use Rattle.std.specs.Prelude.{option_map}
 use Rattle.std.proofs.lemmas.Bool.{cases_lt, le-leb, lt-ltb, true≢false}
@@ -43,7 +43,7 @@ slot_claims seq (Some slot) e = by (progress_of slot) e where
   by (Stuck errno) e = cc
   by (Whole args) e = cc
 
--- a worker that is to claim is idle, and a number waits
+-- a worker whose task is to claim is idle, and a number is waiting
 pub claims_idle : (kept : UnderWay) (o : Option Turn) → task_of_turn kept o ≡ task.Claim → (o ≡ Some Idle) × IsSome (first_waiting kept.calls)
 claims_idle kept None e = cc
 claims_idle kept (Some Idle) e = (refl, idle_claims (first_waiting kept.calls) e)
@@ -85,11 +85,11 @@ module _ (kept : UnderWay) (whole : IsWhole kept) (w : ℕ) where
   answers_by (Some (Working seq)) o_is e = absurd (not_working seq o_is e)
   answers_by (Some (Ready s)) o_is e = (s, o_is)
 
-  -- a worker that is to answer is ready
+  -- a worker whose task is to answer is ready
   pub answers_ready : task_of kept w ≡ task.Answer → (s : Snapshot) × (turn_at kept w ≡ Some (Ready s))
   answers_ready e = answers_by (turn_at kept w) refl e
 
--- ---- the entry of the machine
+-- ---- the entry of the law's machine
 
 and_true : (a b : Bool) → a ≡ true → b ≡ true → (a && b) ≡ true
 and_true a b a_is b_is = ap (λ (x : Bool). x && b) a_is ∙ b_is
@@ -105,7 +105,7 @@ work_same st (Some q) = refl
 entry_by : (i : Input) (st : State) (w : ℕ) (o : Option ℕ) → is_worker i w ≡ true → worker_at st w ≡ o → worker_entry i st w ≡ turn_entry i st w o
 entry_by i st w o there at = ap (λ (b : Bool). cond b (turn_entry i st w (worker_at st w)) None) there ∙ ap (turn_entry i st w) at
 
--- of what is sealed all is there
+-- a message with sealed copies is complete
 pub sealed_ready : (q : ℕ) (o : Option Head) (p : Progress) (s : Snapshot) → snapshot_of_progress q o p ≡ Some s → is_ready p ≡ true
 sealed_ready q (Some head) (Whole args) s e = refl
 sealed_ready q (Some head) (Word part place) s e = absurd (none-some s e)
@@ -127,14 +127,14 @@ and_not_parts true false e = (refl, refl)
 and_not_parts false b e = cc
 
 module _ (st : State) (kept : UnderWay) (agrees : Agrees st.messages st.turns (is_live st) st.posted (found_in kept)) where
-  -- a number that waits in the machine waits here
+  -- a number that is waiting in the law's machine is waiting here
   waits_here : (q : ℕ) → is_waiting st q ≡ true → state_at kept.calls q ≡ Some Waiting
   waits_here q is =
       let parts = and_not_parts (is_live st q) (st.messages q).claimed is in
       let live : IsLive st.turns q (st.messages q) (found_in kept) = agrees.live q parts.0 in
       live.state_is ∙ ap Some (waits_state st.turns q (st.messages q) live.state live.is_state parts.1)
 
-  -- and the other way round
+  -- a number that is waiting here is waiting in the law's machine
   waits_there : (q : ℕ) → state_at kept.calls q ≡ Some Waiting → (is_waiting st q ≡ true) × (1 ≤ q) × (q ≤ st.posted)
   waits_there q is =
       let alive : is_live st q ≡ true = live_by_state st.messages st.turns (is_live st) st.posted (found_in kept) agrees q Waiting is (is_live st q) refl in
@@ -143,7 +143,7 @@ module _ (st : State) (kept : UnderWay) (agrees : Agrees st.messages st.turns (i
       let given = agrees.given q alive in
       (and_true (is_live st q) (not (st.messages q).claimed) alive (ap not come.claimed), given.0, given.1)
 
-  -- the number that is claimed is the machine's
+  -- the number that is claimed is that of the law's machine
   pub least_is : (p : ℕ) → IsLeastWaiting kept.calls p → least_waiting st ≡ Some p
   least_is p is = least (λ o. o ≡ Some p) (is_waiting st) 1 st.posted
       (λ q x. ap Some (elim (cases_lt p q) [
@@ -186,7 +186,7 @@ module _ (i : Input) (st : State) (kept : UnderWay) (w : ℕ) (is : IsKept i st 
       let of_process : IsOfProcess st q slot.head.pid = ap (option_map (λ (head : Head). head.pid)) live.is_slot.head ∙ ap (λ (s : Slot). Some s.head.pid) its in
       working_task q slot.head.pid (progress_of slot) (at_live (st.turns w) q turn.0 turn.1) same (ap is_ready (sym same) ∙ turn.2) of_process
 
-  -- the machine's entry at a number that has come so far
+  -- the entry of the law's machine at a number, by the progress of its message
   pub working_entry_is : (q : ℕ) (slot : Slot) (p : Progress) → turn_at kept w ≡ Some (Working q) → slot_at kept.slots q ≡ Some slot → progress_of slot ≡ p → worker_entry i st w ≡ working_entry i st w q p
   working_entry_is q slot p working slot_is p_is =
       let turn : IsTurn st.messages (is_live st) (st.turns w) (Working q) = is.agrees.workers w (Working q) working in
@@ -213,22 +213,22 @@ module _ (i : Input) (st : State) (kept : UnderWay) (w : ℕ) (is : IsKept i st 
       let at : worker_at st w ≡ Some s.seq = ap (seq_at_work st) turn.0 ∙ ap (λ (b : Bool). cond b (Some s.seq) None) (or_right (is_live st s.seq) (is_ready (progress_in st s.seq)) whole) in
       entry_by i st w (Some s.seq) there at ∙ answer_by s.seq (progress_in st s.seq) s refl whole turn.1
 
--- ---- what the code asks
+-- ---- preconditions of the code
 
--- a number that has come so far has a slot
+-- a number with a state has a slot
 pub state_slot : (kept : UnderWay) → IsWhole kept → (q : ℕ) (state : MsgState) → state_at kept.calls q ≡ Some state → (slot : Slot) × (slot_at kept.slots q ≡ Some slot)
 state_slot kept whole q state is =
     let alive = live_by_state whole.messages whole.turns whole.alive whole.posted (found_in kept) whole.agrees q state is (whole.alive q) refl in
     let live : IsLive whole.turns q (whole.messages q) (found_in kept) = whole.agrees.live q alive in
     (live.slot, live.slot_is)
 
--- and so has the number that a worker is at
+-- the number that a worker is at has a slot
 pub working_slot : (kept : UnderWay) → IsWhole kept → (w q : ℕ) → turn_at kept w ≡ Some (Working q) → (slot : Slot) × (slot_at kept.slots q ≡ Some slot)
 working_slot kept whole w q working =
     let live : IsLive whole.turns q (whole.messages q) (found_in kept) = whole.agrees.live q (whole.agrees.workers w (Working q) working).1 in
     (live.slot, live.slot_is)
 
--- ---- what a task asks for
+-- ---- preconditions by the task
 
 word_by : (seq pid : ℕ) (p : Progress) → IsCopy (task_at seq pid p) → (part : ℕ) × (place : ℕ) × (p ≡ Word part place)
 word_by seq pid (Word part place) is = (part, place, refl)
@@ -267,7 +267,7 @@ fault_parts seq pid (Stuck x) q errno e = (cc, cc)
 fault_parts seq pid (Whole args) q errno e = cc
 
 module _ (kept : UnderWay) (w seq : ℕ) (slot : Slot) (working : turn_at kept w ≡ Some (Working seq)) (there : slot_at kept.slots seq ≡ Some slot) where
-  -- the task of a worker at a number is what its slot asks for
+  -- the task of a worker at a number is what the slot of the number needs next
   pub task_is : task_of kept w ≡ task_at seq slot.head.pid (progress_of slot)
   task_is = ap (task_of_turn kept) working ∙ ap (task_of_slot seq) there
 

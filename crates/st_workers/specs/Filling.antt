@@ -1,4 +1,4 @@
--- What one more word or look makes of a slot and of the turn of its worker.
+-- The turn of a worker, by the slot of its number.
 use Rattle.std.specs.Prelude.{◌≡◌, ℕ, false, List}
 use Rattle.st_effects.specs.Progress.{Ready as Whole}
 use Rattle.st_lookaside.specs.Slot.{Slot, progress_of, snapshot_with}
@@ -7,12 +7,12 @@ use Rattle.st_law.specs.State.{is_ready}
 use Rattle.st_workers.specs.declared.turn.Turn.{Turn}
 use Rattle.st_workers.specs.declared.turn.Turn.TheVariants.{Idle, Working, Ready}
 
--- a worker at this number is ready where all of its slot is there, with what is sealed of it, and else goes on
+-- a worker at this number is ready with the sealed copies if the slot is complete, and otherwise goes on
 abbrev pub IsTurnFor : ℕ → Slot → Turn → Type 0
 IsTurnFor seq slot Idle = ⊥
 IsTurnFor seq slot (Working q) = (q ≡ seq) × (is_ready (progress_of slot) ≡ false)
 IsTurnFor seq slot (Ready s) = (progress_of slot ≡ Whole s.parts) × (s ≡ snapshot_with slot.head s.parts)
 
--- each number's slot is as it was
+-- each number's slot is unchanged
 abbrev pub AreSame : List Slot → List Slot → Type 0
 AreSame old new = (seq : ℕ) → slot_at new seq ≡ slot_at old seq

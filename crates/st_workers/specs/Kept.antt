@@ -1,4 +1,4 @@
--- What is kept of messages and workers, against what the machine keeps of them.
+-- How the messages and workers of the machine that runs represent those of the law's machine.
 use Rattle.std.specs.Prelude.{◌≡◌, ◌<◌, ◌≤◌, ◌==◌, ◌||◌, ℕ, suc, Bool, true, false, if◌then◌else◌, [], length, Option, Some, None, option_map}
 use Rattle.st_base.specs.declared.errno.Errno.{Errno}
 use Rattle.st_calls.specs.Argument.{args_of}
@@ -36,19 +36,19 @@ head_of tid head = record {
   regs = head.regs;
 }
 
--- whether a message was claimed, which fault it met, and whether it was answered
+-- whether a message was claimed, its fault, and whether it was answered
 pub record HasCome (message : Message) (is_claimed : Bool) (met : Option Errno) (is_answered : Bool) : Type 0 where
   pub claimed : message.claimed ≡ is_claimed
   pub fault : message.fault ≡ met
   pub answered : message.answered ≡ is_answered
 
--- nothing was done for a message
+-- a message wasn't claimed, faulted or answered, and nothing was copied or seen for it
 pub record IsUntouched (message : Message) : Type 0 where
   pub come : HasCome message false None false
   pub words : (j : ℕ) → message.words j ≡ []
   pub lookups : (j : ℕ) → message.lookups j ≡ []
 
--- a state says how far the message of a number has come; one that is claimed is its worker's turn, and of one that is answered all is there
+-- a state represents how far the message of a number has come; a claimed message is its worker's turn, and an answered message is complete
 abbrev pub IsState : (ℕ → Option ℕ) → ℕ → Message → MsgState → Type 0
 IsState turns q message Waiting = HasCome message false None false
 IsState turns q message (Claimed worker) = HasCome message true None false × (turns worker ≡ Some q)
@@ -62,7 +62,7 @@ pub record IsSlotOf (message : Message) (tid : ℕ) (slot : Slot) : Type 0 where
   pub words : (j : ℕ) → message.words j ≡ (part_at slot.parts j).words
   pub lookups : (j : ℕ) → message.lookups j ≡ (part_at slot.parts j).lookups
 
--- a live number has a state, a thread and a slot, and they are its message's
+-- a live number has a state, a thread and a slot, which represent its message
 pub record IsLive (turns : ℕ → Option ℕ) (q : ℕ) (message : Message) (found : Found) : Type 0 where
   pub state : MsgState
   pub tid : ℕ
@@ -73,7 +73,7 @@ pub record IsLive (turns : ℕ → Option ℕ) (q : ℕ) (message : Message) (fo
   pub is_state : IsState turns q message state
   pub is_slot : IsSlotOf message tid slot
 
--- any other number has none
+-- a number that isn't live has none of them
 pub record IsDead (q : ℕ) (found : Found) : Type 0 where
   pub state : found.state q ≡ None
   pub thread : found.thread q ≡ None
@@ -89,13 +89,13 @@ IsAnswered (Some (Faulted errno)) = ⊥
 
 -- ---- a worker
 
--- the number that a worker is at, by its turn, where these numbers are live; none where it is idle
+-- the number that a worker is at, by its turn and the live numbers; none if it is idle
 abbrev pub at_work : (ℕ → Message) → (ℕ → Bool) → Option ℕ → Option ℕ
 at_work messages alive None = None
 at_work messages alive (Some q) = if alive q || is_ready (progress_of_message (messages q)) then Some q else None
 
--- what a worker is at says where the machine has it: idle; at a live number of which not all is there; or at one of which all is there,
--- with its copies, whether it is live or not
+-- a turn represents what a worker is at in the law's machine: idle; at a live number whose message isn't complete; or at a number whose
+-- message is complete, with its copies, whether the number is live or not
 abbrev pub IsTurn : (ℕ → Message) → (ℕ → Bool) → Option ℕ → Turn → Type 0
 IsTurn messages alive turned Idle = at_work messages alive turned ≡ None
 IsTurn messages alive turned (Working q) = (turned ≡ Some q) × (alive q ≡ true) × (is_ready (progress_of_message (messages q)) ≡ false)
@@ -103,7 +103,7 @@ IsTurn messages alive turned (Ready s) = (turned ≡ Some s.seq) × (snapshot_of
 
 -- ---- all of them
 
--- what is found is what the machine has of messages and turns, where these numbers are live and so many were posted
+-- what is found represents the messages and turns of the law's machine, if these numbers are live and so many were posted
 pub record Agrees (messages : ℕ → Message) (turns : ℕ → Option ℕ) (alive : ℕ → Bool) (posted : ℕ) (found : Found) : Type 0 where
   pub next : found.next ≡ suc posted
   pub live : (q : ℕ) → alive q ≡ true → IsLive turns q (messages q) found
@@ -114,30 +114,30 @@ pub record Agrees (messages : ℕ → Message) (turns : ℕ → Option ℕ) (ali
   pub apart : (a b q : ℕ) → turns a ≡ Some q → turns b ≡ Some q → a ≡ b
   pub workers : (worker : ℕ) (turn : Turn) → found.turn worker ≡ Some turn → IsTurn messages alive (turns worker) turn
 
--- the same, for the workers of an input, and each answer is the verdict of the filters that were read
+-- the same for the workers of an input; each answer is the verdict of the filters that were read
 pub record AreKept (i : Input) (messages : ℕ → Message) (turns : ℕ → Option ℕ) (alive : ℕ → Bool) (posted : ℕ) (kept : UnderWay) : Type 0 where
   pub workers : kept.calls.workers ≡ i.options.workers
   pub agrees : Agrees messages turns alive posted (found_in kept)
   pub verdicts : (q : ℕ) (v : Verdict) (s : Snapshot) → state_at kept.calls q ≡ Some (Answered v) → snapshot_of_message q (messages q) ≡ Some s → v ≡ verdict (read_for i s.policy s.rule) s
 
--- the same by a state of the machine
+-- the same for a state of the law's machine
 abbrev pub IsKept : Input → State → (ℕ → Bool) → UnderWay → Type 0
 IsKept i st alive kept = AreKept i st.messages st.turns alive st.posted kept
 
--- the same behind one more entry
+-- the same after one more entry
 abbrev pub IsKeptAfter : Input → State → Entry → (ℕ → Bool) → UnderWay → Type 0
 IsKeptAfter i st e alive kept = AreKept i (message_after i st e) (λ w. turn_after e w (st.turns w)) alive (posted_after e st.posted) kept
 
--- what is kept follows an entry that makes no number live and none dead
+-- the messages and workers represent the state after an entry that changes for no number whether it is live
 abbrev pub Follows : UnderWay → Entry → UnderWay → Type 0
 Follows old e new = (i : Input) (st : State) (alive : ℕ → Bool) → IsKept i st alive old → IsKeptAfter i st e alive new
 
--- what is kept is as good as before
+-- the new messages and workers represent whatever the old ones represent
 abbrev pub Stands : UnderWay → UnderWay → Type 0
 Stands old new = (i : Input) (messages : ℕ → Message) (turns : ℕ → Option ℕ) (alive : ℕ → Bool) (posted : ℕ) → AreKept i messages turns alive posted old → AreKept i messages turns alive posted new
 
--- how far a number has come in a state of the machine: it isn't live; it has neither a fault nor an answer; it is answered, with what the
--- filters that were read say of its copies; or it met a fault
+-- how far a number has come in a state of the law's machine: it isn't live; it is neither faulted nor answered; it is answered with the
+-- verdict of the filters that were read on its copies; or it is faulted
 abbrev pub HasComeTo : Input → State → ℕ → Option MsgState → Type 0
 HasComeTo i st q None = is_live st q ≡ false
 HasComeTo i st q (Some Waiting) = (is_live st q ≡ true) × HasCome (st.messages q) false None false
@@ -145,23 +145,23 @@ HasComeTo i st q (Some (Claimed worker)) = (is_live st q ≡ true) × HasCome (s
 HasComeTo i st q (Some (Answered v)) = (is_live st q ≡ true) × HasCome (st.messages q) true None true × (s : Snapshot) × (snapshot_in st q ≡ Some s) × (v ≡ verdict (read_for i s.policy s.rule) s)
 HasComeTo i st q (Some (Faulted errno)) = (is_live st q ≡ true) × HasCome (st.messages q) true (Some errno) false
 
--- a number is that of a call that this thread holds, or held
+-- a number is that of a call that this thread holds, or has held
 abbrev pub IsHeldBy : State → ℕ → ℕ → Type 0
 IsHeldBy st q t = option_map (λ (head : Head). head.tid) (st.messages q).head ≡ Some t
 
--- a number is live now or not, and each other is as it was
+-- a number is live now or not, and each other number is unchanged
 abbrev pub ChangesLife : (ℕ → Bool) → ℕ → Bool → (ℕ → Bool) → Type 0
 ChangesLife alive q is_live later = (other : ℕ) → later other ≡ (if other == q then is_live else alive other)
 
--- a number is live no more, this new one is, and each other is as it was
+-- a number is no longer live, this new number is, and each other is unchanged
 abbrev pub RenewsLife : (ℕ → Bool) → ℕ → ℕ → (ℕ → Bool) → Type 0
 RenewsLife alive q fresh later = (other : ℕ) → later other ≡ (if other == fresh then true else if other == q then false else alive other)
 
--- the messages once one of them is renewed under a new number, its process being this
+-- the messages after one of them was renewed under a new number, if this is its process
 abbrev pub messages_renewed : Process → ℕ → ℕ → (ℕ → Message) → ℕ → Message
 messages_renewed process seq fresh messages q = record (messages q) { head = head_after_change (λ p. (messages p).head) process q (messages q).head (Renewed seq fresh) }
 
--- each worker has a turn, and what is found is what some machine has
+-- each worker has a turn, and what is found represents some messages and turns
 pub record IsWhole (kept : UnderWay) : Type 0 where
   pub count : length kept.turns ≡ kept.calls.workers
   pub messages : ℕ → Message

@@ -1,4 +1,4 @@
--- What holds of what is kept, whatever it is.
+-- Laws of all messages and workers.
 use Rattle.std.specs.Prelude.{◌≡◌, ◌≢◌, ℕ, Bool, true, Some, Option}
 use Rattle.st_base.specs.declared.errno.Errno.{Errno}
 use Rattle.st_calls.specs.declared.judged.Snapshot.{Snapshot}
@@ -15,21 +15,21 @@ use Rattle.st_law.specs.State.{Message, State, is_live}
 use Rattle.st_workers.specs.Kept.{AreKept}
 use Rattle.st_workers.specs.UnderWay.{UnderWay}
 
--- whether messages are closed is not kept but by which are live
+-- whether a message is closed is kept only as whether its number is live
 abbrev pub ClosingIsNotKept : Type 0
 ClosingIsNotKept = (i : Input) (messages after : ℕ → Message) (turns : ℕ → Option ℕ) (alive : ℕ → Bool) (posted : ℕ) (kept : UnderWay) → AreKept i messages turns alive posted kept
     → ((q : ℕ) → after q ≡ record (messages q) { closed = (after q).closed }) → AreKept i after turns alive posted kept
 
--- a thread of which no live message is has no number
+-- a thread that no live message is of has no number
 abbrev pub OthersHaveNoNumber : Type 0
 OthersHaveNoNumber = (i : Input) (messages : ℕ → Message) (turns : ℕ → Option ℕ) (alive : ℕ → Bool) (posted : ℕ) (kept : UnderWay) (tid : ℕ) → AreKept i messages turns alive posted kept
     → ((q : ℕ) (head : Head) → alive q ≡ true → (messages q).head ≡ Some head → head.tid ≢ tid) → HasNoNumber kept.calls tid
 
--- an entry makes no number live and none dead
+-- an entry changes for no number whether it is live
 abbrev pub LeavesLife : Entry → Type 0
 LeavesLife e = (i : Input) (st : State) (q : ℕ) → is_live (state_after i st e) q ≡ is_live st q
 
--- no entry of a worker does
+-- no entry of a worker changes for any number whether it is live
 pub record WorkersLeaveLife : Type 0 where
   pub claimed : (w p : ℕ) → LeavesLife (Claimed w p)
   pub copied : (p part place word : ℕ) → LeavesLife (Copied p part place word)

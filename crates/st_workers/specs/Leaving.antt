@@ -1,4 +1,4 @@
--- The worker of a message that ends leaves it.
+-- The worker of a message that ends becomes idle, unless it is ready.
 use Rattle.std.specs.Prelude.{◌≡◌, ◌==◌, ℕ, Bool, false, if◌then◌else◌, List, Option, Some, None}
 use Rattle.st_base.specs.Numbered.{item_at_number}
 use Rattle.st_messages.specs.declared.message.MsgState.{MsgState}
@@ -14,13 +14,13 @@ is_claimed_by (Some (Claimed its)) worker = its == worker
 is_claimed_by (Some (Answered verdict)) worker = false
 is_claimed_by (Some (Faulted errno)) worker = false
 
--- a worker that is ready stays so, and any other is idle
+-- a worker that is ready stays ready, and any other is idle
 abbrev pub left : Option Turn → Option Turn
 left None = None
 left (Some Idle) = Some Idle
 left (Some (Working seq)) = Some Idle
 left (Some (Ready copies)) = Some (Ready copies)
 
--- the worker of a message has left it, and each other is at what it was
+-- the worker of a message has left it, and the turn of each other worker is unchanged
 abbrev pub HasLeft : List Turn → Option MsgState → List Turn → Type 0
 HasLeft old state new = (worker : ℕ) → item_at_number new worker ≡ (if is_claimed_by state worker then left (item_at_number old worker) else item_at_number old worker)

@@ -1,4 +1,4 @@
--- What a worker does next, by what is kept and by the machine.
+-- What a worker does next, in the machine that runs and in the law's machine.
 use Rattle.std.specs.Prelude.{◌≡◌, ◌<◌, ℕ, true, Option, Some, None, option_map}
 use Rattle.st_calls.specs.declared.judged.Snapshot.{Snapshot}
 use Rattle.st_effects.specs.Progress.{Progress, Word, Look, Stuck, Ready}
@@ -20,24 +20,24 @@ use Rattle.st_workers.specs.declared.task.Task.TheVariants.{Rest, Claim, Copy, L
 use Rattle.st_workers.specs.declared.turn.Turn.{Turn}
 use Rattle.st_workers.specs.declared.turn.Turn.TheVariants as turn
 
--- what an idle worker does, by the first number that waits
+-- what an idle worker does, by the first waiting number
 abbrev pub idle_task : Option ℕ → Task
 idle_task None = Rest
 idle_task (Some seq) = Claim
 
--- what a worker does at a number of this process that has come so far
+-- what a worker does at a number of this process, by the progress of its message
 abbrev pub task_at : ℕ → ℕ → Progress → Task
 task_at seq pid (Word part place) = Copy seq pid part place
 task_at seq pid (Look part name) = LookAt seq part
 task_at seq pid (Stuck errno) = Fault seq errno
 task_at seq pid (Ready args) = Answer
 
--- the same by its slot
+-- the same by the slot of the number
 abbrev pub task_of_slot : ℕ → Option Slot → Task
 task_of_slot seq None = Rest
 task_of_slot seq (Some slot) = task_at seq slot.head.pid (progress_of slot)
 
--- what a worker does, by what it is at
+-- what a worker does, by its turn
 abbrev pub task_of_turn : UnderWay → Option Turn → Task
 task_of_turn kept None = Rest
 task_of_turn kept (Some turn.Idle) = idle_task (first_waiting kept.calls)
@@ -48,7 +48,7 @@ task_of_turn kept (Some (turn.Ready s)) = Answer
 abbrev pub task_of : UnderWay → ℕ → Task
 task_of kept worker = task_of_turn kept (turn_at kept worker)
 
--- a word is copied, a name is looked at, or an error is told
+-- the task is to copy a word, to look at a name, or to mark a message as faulted
 abbrev pub IsBusy : Task → Type 0
 IsBusy Rest = ⊥
 IsBusy Claim = ⊥
@@ -57,7 +57,7 @@ IsBusy (LookAt seq part) = Unit {0}
 IsBusy (Fault seq errno) = Unit {0}
 IsBusy Answer = ⊥
 
--- a word is copied
+-- the task is to copy a word
 abbrev pub IsCopy : Task → Type 0
 IsCopy Rest = ⊥
 IsCopy Claim = ⊥
@@ -66,7 +66,7 @@ IsCopy (LookAt seq part) = ⊥
 IsCopy (Fault seq errno) = ⊥
 IsCopy Answer = ⊥
 
--- a name is looked at
+-- the task is to look at a name
 abbrev pub IsLook : Task → Type 0
 IsLook Rest = ⊥
 IsLook Claim = ⊥
@@ -75,7 +75,7 @@ IsLook (LookAt seq part) = Unit {0}
 IsLook (Fault seq errno) = ⊥
 IsLook Answer = ⊥
 
--- an error is told
+-- the task is to mark a message as faulted
 abbrev pub IsFault : Task → Type 0
 IsFault Rest = ⊥
 IsFault Claim = ⊥
@@ -84,7 +84,7 @@ IsFault (LookAt seq part) = ⊥
 IsFault (Fault seq errno) = Unit {0}
 IsFault Answer = ⊥
 
--- a number that a task names is live, and a word that is copied lies in memory
+-- the number that a task names is live, and the index of a word that it copies is inside memory
 abbrev pub IsThere : HeldCalls → Task → Type 0
 IsThere calls Rest = Unit {0}
 IsThere calls Claim = Unit {0}
@@ -97,7 +97,7 @@ IsThere calls Answer = Unit {0}
 abbrev pub IsOfProcess : State → ℕ → ℕ → Type 0
 IsOfProcess st q pid = option_map (λ (head : Head). head.pid) (st.messages q).head ≡ Some pid
 
--- the machine has the worker do that: its next entry is that of the task
+-- the worker's next entry in the law's machine is that of the task
 abbrev pub IsTask : Input → State → UnderWay → ℕ → Task → Type 0
 IsTask i st kept worker Rest = worker_entry i st worker ≡ None
 IsTask i st kept worker Claim = (q : ℕ) × (worker_entry i st worker ≡ Some (entry.Claimed worker q))

@@ -1,4 +1,4 @@
--- The messages under way by their numbers, and what each worker is at.
+-- The messages under way by their numbers, and the turns of the workers.
 use Rattle.std.specs.Prelude.{ℕ, List, Option}
 use Rattle.st_base.specs.Numbered.{item_at_number}
 use Rattle.st_lookaside.specs.Slot.{Slot}
@@ -7,17 +7,17 @@ use Rattle.st_messages.specs.declared.message.MsgState.{MsgState}
 use Rattle.st_messages.specs.Messages.{HeldCalls, state_at, thread_at}
 use Rattle.st_workers.specs.declared.turn.Turn.{Turn}
 
--- the held calls, what is copied and seen of each, and the workers' turns in the order of their numbers
+-- the held calls, what is copied and seen for each, and the turns of the workers in the order of their numbers
 pub record UnderWay : Type 0 where
   pub calls : HeldCalls
   pub slots : List Slot
   pub turns : List Turn
 
--- what a worker is at
+-- the turn of a worker
 abbrev pub turn_at : UnderWay → ℕ → Option Turn
 turn_at kept worker = item_at_number kept.turns worker
 
--- what is found of each number and of each worker, and the number that the next message has
+-- what is found of each number and of each worker, and the number of the next message
 pub record Found : Type 0 where
   pub next : ℕ
   pub state : ℕ → Option MsgState
@@ -25,7 +25,7 @@ pub record Found : Type 0 where
   pub slot : ℕ → Option Slot
   pub turn : ℕ → Option Turn
 
--- what is found in what is kept
+-- what is found in the messages and workers that are kept
 abbrev pub found_in : UnderWay → Found
 found_in kept = record {
   next = kept.calls.next;

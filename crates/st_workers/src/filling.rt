@@ -1,4 +1,4 @@
-// One more word or look for a message, and the turn of its worker behind it.
+// Takes one more word or look for a message, and updates the turn of its worker.
 ghost use Rattle.std.specs.Prelude.{◌≡◌, ℕ, true, Some, IsSome, IfSome, IfOk, OnOk, OnErr};
 ghost use Rattle.st_effects.specs.Progress.{Progress};
 ghost use Rattle.st_lookaside.specs.Slot.{after_look, after_word, next_of, progress_of, IsInOrder, IsInside, IsLookNext, IsReady, IsWordNext, Slot};
@@ -18,7 +18,7 @@ use st_lookaside::{Next, Slots};
 use st_names::Seen;
 use std::alloc::{AllocError, Global};
 
-/// What a worker does at a message of this process that needs this next.
+/// What a worker does next at a message of this process, by what the message needs next.
 pub fn task_at(seq: Seq, pid: Pid, next: Next) -> Task
     ensures task { (progress : Progress) → next ≡ next_of progress → result ≡ task_at seq pid progress }
     ensures there { (calls : HeldCalls) → is_live calls seq ≡ true → IsInside next → IsThere calls result }
@@ -36,7 +36,7 @@ pub fn task_at(seq: Seq, pid: Pid, next: Next) -> Task
     }
 }
 
-/// The turn of the worker of a message: where all is there, it is sealed.
+/// The turn of the worker of a message. If the message is complete, it is sealed.
 #[inline]
 pub fn turn_for(slots: &mut Slots, alloc: Global, seq: Seq) -> Result<Turn, AllocError>
     requires { IsSome (slot_at slots.old seq) }
@@ -49,7 +49,7 @@ pub fn turn_for(slots: &mut Slots, alloc: Global, seq: Seq) -> Result<Turn, Allo
     Ok(Turn::Working(seq))
 }
 
-// Seals a message of which its last word or look made the whole. Without memory that word or look is undone.
+// Seals a message that its last word or look has completed. If memory runs out, that word or look is undone.
 fn seal_last(slots: &mut Slots, alloc: Global, seq: Seq) -> Result<Shared<Snapshot>, AllocError>
     requires slot { IsSome (slot_at slots.old seq) }
     requires ready { IfSome (slot_at slots.old seq) (λ slot. IsReady (progress_of slot)) }
@@ -67,8 +67,8 @@ fn seal_last(slots: &mut Slots, alloc: Global, seq: Seq) -> Result<Shared<Snapsh
     }
 }
 
-/// Takes the word that a message needs next. Where all is there behind it, it is sealed, and its worker's turn is to answer; else the
-/// turn stays as it is. Without memory nothing is taken.
+/// Takes the word that a message needs next. If the message is then complete, it is sealed, and its worker's turn is to answer; otherwise
+/// the turn is unchanged. If memory runs out, nothing is taken.
 pub fn take_word(
     slots: &mut Slots,
     turn: &mut Turn,
@@ -90,8 +90,8 @@ pub fn take_word(
     Ok(())
 }
 
-/// Takes what was seen of the name that a message looks at next. Where all is there behind it, it is sealed, and its worker's turn is to
-/// answer; else the turn stays as it is. Without memory nothing is taken.
+/// Takes the answer to the look at a message's next name. If the message is then complete, it is sealed, and its worker's turn is to
+/// answer; otherwise the turn is unchanged. If memory runs out, nothing is taken.
 pub fn take_look(
     slots: &mut Slots,
     turn: &mut Turn,

@@ -1,7 +1,7 @@
 ghost use Rattle.st_workers.specs.Laws.{ClosingIsNotKept, OthersHaveNoNumber, WorkersLeaveLife};
 
-/// A worker's step makes no number live and none dead; a message that is closed is kept as before, but for whether it is live; and a
-/// thread of which no live message is has no number.
+/// A worker's step changes for no number whether it is live. Whether a message is closed is kept only as whether it is live. A thread that
+/// no live message is of has no number.
 pub fn what_is_kept()
     ensures life { WorkersLeaveLife }
     ensures closing { ClosingIsNotKept }

@@ -1,4 +1,5 @@
-//! The messages under way and the workers that serve them.
+//! Serves the messages under way with workers: a worker claims a message, copies its words, looks at its names, and then answers it or
+//! marks it as faulted.
 #![tactic(auto)]
 
 mod filling;

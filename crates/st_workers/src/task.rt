@@ -3,11 +3,11 @@ use st_base::{Errno, Pid, Seq};
 /// What a worker does next. A message's arguments are numbered from 0 in their order.
 #[derive(Clone, Copy)]
 pub enum Task {
-    /// Nothing: it is at no number, and none waits.
+    /// Nothing: it is at no number, and no number is waiting.
     Rest,
-    /// It claims the least number that waits.
+    /// It claims the least waiting number.
     Claim,
-    /// It copies the word at this place of the memory of the message's process, for an argument.
+    /// It copies the word with this index in the memory of the message's process, for an argument.
     Copy {
         seq: Seq,
         pid: Pid,
@@ -19,11 +19,11 @@ pub enum Task {
         seq: Seq,
         part: u32,
     },
-    /// It tells this error of a message.
+    /// It marks a message as faulted with this error.
     Fault {
         seq: Seq,
         errno: Errno,
     },
-    /// It answers a message of which all is there.
+    /// It answers a complete message.
     Answer,
 }

@@ -1,4 +1,4 @@
-// What a worker is at, and where that is put. To let go of the turn that stood there is a case for each kind of turn, so it is done here alone.
+// The turns of workers, and how one is replaced. Dropping the old turn has a case for each kind of turn, so it is done only here.
 ghost use Rattle.std.specs.Prelude.{◌≡◌};
 
 use st_base::{Seq, Shared};
@@ -9,13 +9,13 @@ use st_calls::Snapshot;
 pub enum Turn {
     /// Nothing.
     Idle,
-    /// The message of this number, of which not all is there.
+    /// The message of this number, which isn't complete.
     Working(Seq),
-    /// The answer to these copies, which were sealed in the step that made them whole.
+    /// The answer to these copies, which were sealed in the step that completed them.
     Ready(Shared<Snapshot>),
 }
 
-// Another turn takes a turn's place.
+// Replaces a turn.
 #[inline(always)]
 pub(crate) fn put_turn(place: &mut Turn, turn: Turn)
     ensures { place.new ≡ turn }

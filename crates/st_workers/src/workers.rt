@@ -40,7 +40,7 @@ use std::marker::Model;
 pub struct Workers {
     messages: Messages,
     slots: Slots,
-    // Worker w stands at w - 1.
+    // Worker w is at index w - 1.
     turns: Vec<Turn>,
 }
 
@@ -56,7 +56,7 @@ impl Model for Workers {
     ghost invariant = { λ w. IsWhole (record { calls = w.messages; slots = w.slots; turns = w.turns.items }) };
 }
 
-// As many workers that are idle.
+// So many idle workers.
 fn idle(alloc: Global, workers: u32) -> Result<Vec<Turn>, AllocError>
     ensures count { IfOk result (λ turns. length turns.items ≡ workers) }
     ensures idle { IfOk result (λ turns. All (λ turn. turn ≡ Idle) turns.items) }
@@ -68,7 +68,7 @@ fn idle(alloc: Global, workers: u32) -> Result<Vec<Turn>, AllocError>
     Ok(turns)
 }
 
-// Has the worker that claimed a message of this state leave it, unless it is ready.
+// Makes the worker that claimed a message of this state idle, unless it is ready.
 fn leave(turns: &mut [Turn], state: Option<MsgState>)
     requires { (worker : ℕ) → state ≡ Some (Claimed worker) → (1 ≤ worker) × (worker ≤ length turns.old) }
     ensures left { HasLeft turns.old state turns.new }
@@ -87,7 +87,7 @@ fn leave(turns: &mut [Turn], state: Option<MsgState>)
 }
 
 impl Workers {
-    /// No messages, and so many workers, which are idle.
+    /// No messages, and so many idle workers.
     pub fn new(alloc: Global, workers: u32) -> Result<Self, AllocError>
         ensures workers { IfOk result (λ kept. kept.calls.workers ≡ workers) }
         ensures next { IfOk result (λ kept. kept.calls.next ≡ 1) }
@@ -108,14 +108,14 @@ impl Workers {
         self.messages.workers()
     }
 
-    /// The number that the next posting or renewal gives.
+    /// The number that the next call of `post` or `renew` returns.
     pub fn next_seq(&self) -> Seq
         ensures { result ≡ self.now.calls.next }
     {
         self.messages.next_seq()
     }
 
-    /// How far a message has come; none exactly where the number isn't live.
+    /// How far a message has come; none iff the number isn't live.
     pub fn state(&self, seq: Seq) -> Option<MsgState>
         ensures state { result ≡ state_at self.now.calls seq }
         ensures law { (i : Input) (st : State) → IsKept i st (is_live_in st) self.now → HasComeTo i st seq result }
@@ -123,7 +123,7 @@ impl Workers {
         self.messages.state(seq)
     }
 
-    /// The thread whose held call has a live number; none of another.
+    /// The thread whose held call has a live number; none if the number isn't live.
     pub fn thread(&self, seq: Seq) -> Option<Tid>
         ensures thread { result ≡ thread_at self.now.calls seq }
         ensures law { IfSome result (λ tid. (i : Input) (st : State) → IsKept i st (is_live_in st) self.now → IsHeldBy st seq tid) }
@@ -140,7 +140,7 @@ impl Workers {
         self.slots.slot(seq).head()
     }
 
-    /// What a worker is at.
+    /// The turn of a worker.
     pub fn turn(&self, worker: Worker) -> &Turn
         requires { IsWorker self.now.calls worker }
         ensures { turn_at self.now worker ≡ Some result.now }
@@ -181,7 +181,7 @@ impl Workers {
         }
     }
 
-    /// Posts the held call of a thread that has none, under the next number. Without memory all stands as before.
+    /// Posts the held call of a thread that has none, under the next number. If memory runs out, the abstract state is unchanged.
     pub fn post(&mut self, alloc: Global, tid: Tid, head: Head) -> Result<Seq, AllocError>
         requires seq { head.seq ≡ self.old.calls.next }
         requires thread { HasNoNumber self.old.calls tid }
@@ -204,7 +204,7 @@ impl Workers {
         }
     }
 
-    /// A worker that is idle claims the least number that waits, which it gives. Without memory nothing changes.
+    /// Lets an idle worker claim the least waiting number, and returns it. If memory runs out, nothing changes.
     pub fn claim(&mut self, alloc: Global, worker: Worker) -> Result<Seq, AllocError>
         requires { task_of self.old worker ≡ Claim }
         ensures calls { IfOk result (λ seq. self.new.calls ≡ with_state self.old.calls seq (Claimed worker)) }
@@ -233,7 +233,7 @@ impl Workers {
         *seq
     }
 
-    /// A worker copies a word, which is what its task asks for. Without memory all stands as before.
+    /// Takes the word that a worker copies, if that is its task. If memory runs out, the abstract state is unchanged.
     pub fn copy(&mut self, alloc: Global, worker: Worker, word: u64) -> Result<(), AllocError>
         requires { IsCopy (task_of self.old worker) }
         ensures calls { self.new.calls ≡ self.old.calls }
@@ -245,7 +245,7 @@ impl Workers {
         filling::take_word(&mut self.slots, turn, alloc, seq, word)
     }
 
-    /// The name that a worker looks at, where its task is a look. It readies the walk of that name, and all stands as before.
+    /// The name that a worker looks at, if that is its task. The walk of that name is readied, and the abstract state is unchanged.
     pub fn look_name(&mut self, alloc: Global, worker: Worker) -> Result<AbsName, AllocError>
         requires { IsLook (task_of self.old worker) }
         ensures stands { Stands self.old self.new }
@@ -257,7 +257,7 @@ impl Workers {
         self.slots.next_name(alloc, seq)
     }
 
-    /// A worker takes what is seen of the name that it looks at. Without memory all stands as before.
+    /// Takes the answer to a worker's look at its name. If memory runs out, the abstract state is unchanged.
     pub fn look(&mut self, alloc: Global, worker: Worker, seen: Seen<'_>) -> Result<(), AllocError>
         requires { IsLook (task_of self.old worker) }
         ensures calls { self.new.calls ≡ self.old.calls }
@@ -269,7 +269,7 @@ impl Workers {
         filling::take_look(&mut self.slots, turn, alloc, seq, seen)
     }
 
-    /// A worker tells the error that its task names, and is idle. It takes no memory.
+    /// Marks the message of a worker as faulted with the error that its task names, and makes the worker idle. It takes no memory.
     pub fn fault(&mut self, worker: Worker)
         requires { IsFault (task_of self.old worker) }
         ensures workers { self.new.calls.workers ≡ self.old.calls.workers }
@@ -284,8 +284,8 @@ impl Workers {
         self.messages.fault(seq, errno);
     }
 
-    /// A worker answers with the verdict on its copies, which it gives, and is idle. The answer is applied exactly where the number of
-    /// the copies is live. It takes no memory.
+    /// Answers with the verdict on a worker's copies, returns these, and makes the worker idle. The answer is applied iff the number of the
+    /// copies is live. It takes no memory.
     pub fn answer(&mut self, worker: Worker, verdict: Verdict) -> (Shared<Snapshot>, Delivered)
         requires { task_of self.old worker ≡ Answer }
         ensures copies { turn_at self.old worker ≡ Some (Ready result.0) }
@@ -304,7 +304,7 @@ impl Workers {
         (snapshot, delivered)
     }
 
-    /// The copies of a message that is answered.
+    /// The copies of an answered message.
     pub fn snapshot(&self, alloc: Global, seq: Seq) -> Result<Shared<Snapshot>, AllocError>
         requires { IsAnswered (state_at self.now.calls seq) }
         ensures { IfOk result (λ copies. (i : Input) (st : State) → IsKept i st (is_live_in st) self.now → snapshot_in st seq ≡ Some copies) }
@@ -312,8 +312,8 @@ impl Workers {
         self.slots.copies(alloc, seq)
     }
 
-    /// Ends a live number, as its call is made or denied, or its thread is dying. A worker at it is idle, unless it is ready: then it
-    /// answers yet, too late. It takes no memory.
+    /// Ends a live number, because its call is made or denied, or its thread is dying. A worker at this number becomes idle, unless it is
+    /// ready: then it still answers, but too late. It takes no memory.
     pub fn cancel(&mut self, seq: Seq)
         requires { is_live self.old.calls seq ≡ true }
         ensures calls { self.new.calls ≡ calls_after_cancel self.old.calls seq }
@@ -324,7 +324,7 @@ impl Workers {
         self.slots.drop_of(seq);
     }
 
-    /// Ends a live number, as `cancel` does, and posts its call again under the next one, which it gives, with these ids and this
+    /// Ends a live number, as `cancel` does, and posts its call again under the next number, which it returns, with these ids and this
     /// directory. Nothing that was copied or seen is kept. It takes no memory.
     pub fn renew(&mut self, seq: Seq, ids: Ids, cwd: Shared<AbsName>) -> Seq
         requires live { is_live self.old.calls seq ≡ true }

@@ -7,7 +7,7 @@ use Rattle.st_lookaside.specs.Part.{filled_of, nothing_filled, IsPart}
 use Rattle.st_lookaside.specs.declared.part.Part.{Part}
 use Rattle.st_lookaside.proofs.slot.restart.Goals as goal
 
--- what holds of those before and of this one holds of all up to it
+-- what holds of the items before this one, and of this one, holds of all up to it
 further : (P : Part → Type 0) (parts : List Part) (i : ℕ) (after : Part) → i < length parts → ((k : ℕ) (d : Part) → k < i → P (get_or parts k d)) → P after → (k : ℕ) (d : Part) → k < i + 1 → P (get_or (set parts i after) k d)
 further P parts i after within before here k d lt = elim (cases_eq k i) [
   | inl e ↦ subst P (sym (ap (λ (n : ℕ). get_or (set parts i after) n d) e ∙ get_or-set_same parts i after d within)) here

@@ -11,7 +11,7 @@ use Rattle.st_system.proofs.start.begin_threads.Goals as goal
 pub loop-i-init : goal.loop-i-init
 loop-i-init c = none_started c.args.input.now c.args.procs.now c.requires.none
 
--- the owner is that of the row
+-- the process of the thread is that of its row
 owner : (c : goal.After-owner_of) → c.owner_of.result ≡ first_owner c.args.input.now (suc c.loop-i.i)
 owner c = c.owner_of.ensures ∙ owner_of_place c.args.input.now c.loop-i.i c.index-rows-i.result
     (ap (λ rows. slice_get rows c.loop-i.i) (sym c.as_slice-rows.ensures) ∙ slice_get-get_or c.as_slice-rows.result.now c.loop-i.i c.index-rows-i.result c.loop-i-test.true ∙ ap Some (sym c.index-rows-i.is))

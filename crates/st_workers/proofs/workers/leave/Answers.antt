@@ -10,7 +10,7 @@ use Rattle.st_workers.specs.declared.turn.Turn.TheVariants.{Idle, Ready, Working
 use Rattle.st_workers.proofs.Turns.{item_here, item_put, number_within}
 use Rattle.st_workers.proofs.workers.leave.Goals as goal
 
--- the worker at a message has left it once its turn is put where it stood
+-- the worker at a message has left it after its turn is replaced
 module _ (turns : List Turn) (worker : ℕ) (turn put : Turn) (here : item_at_number turns worker ≡ Some turn) (leaves : left (Some turn) ≡ Some put) where
   at : (other : ℕ) → cond (other == worker) (Some put) (item_at_number turns other) ≡ cond (worker == other) (left (item_at_number turns other)) (item_at_number turns other)
   at other = elim (cases_eq other worker) [
@@ -26,7 +26,7 @@ module _ (turns : List Turn) (worker : ℕ) (turn put : Turn) (here : item_at_nu
       ap (λ (ts : List Turn). item_at_number ts other) is ∙ item_put turns worker put within.0 within.1 other ∙ at other
       ∙ ap (λ (o : Option MsgState). cond (is_claimed_by o other) (left (item_at_number turns other)) (item_at_number turns other)) (sym claimed)
 
--- a turn that isn't to work stays
+-- a turn that isn't at work stays
 stays : (turn : Turn) → ((seq : ℕ) → turn ≡ Working seq → ⊥) → left (Some turn) ≡ Some turn
 stays Idle other = refl
 stays (Working seq) other = absurd (other seq refl)

@@ -34,7 +34,7 @@ returns-clause-order c =
 pub returns-clause-next : goal.returns-clause-next
 returns-clause-next c = c.next.ensures.value ∙ ap (λ (s : Slot). next_of (progress_of s)) (returns-clause-slot c)
 
--- where one more word is needed
+-- if one more word is needed
 
 pub overflow_cast-result : goal.overflow_cast-result
 overflow_cast-result c =

@@ -51,7 +51,7 @@ returns-clause-order c =
 pub returns-clause-next : goal.returns-clause-next
 returns-clause-next c = c.next.ensures.value ∙ ap (λ (s : Slot). next_of (progress_of s)) (returns-clause-slot c)
 
--- where one more look is needed
+-- if one more look is needed
 
 pub overflow_cast-result : goal.overflow_cast-result
 overflow_cast-result c =
@@ -75,7 +75,7 @@ returns-in-Look-clause-order c =
     let at = open_at c.self.inside.head c.self.inside.parts.items c.deref.result.now c.in-Some.j c.index_mut-part.result.now c.self.invariant.slot c.deref.ensures.value c.in-Some.ensures c.index_mut-part.ensures.value in
     in_order c.self.inside.head c.self.inside.parts.items c.args.self.now c.in-Some.j c.index_mut-part.result.now c.self.invariant.slot c.self.view_is at (look_is_due _ c.requires)
 
--- without memory
+-- out of memory
 
 pub returns-in_err-take_look-clause-err : goal.returns-in_err-take_look-clause-err
 returns-in_err-take_look-clause-err c =

@@ -6,7 +6,7 @@ use Rattle.st_system.specs.System.{IsSystem}
 use Rattle.st_system.proofs.Kept.{of_ok, pid_owner, stored}
 use Rattle.st_system.proofs.system.System.store.Goals as goal
 
--- src/system.rt
+-- the system represents the state after the store
 pub returns-clause-system : goal.returns-clause-system
 returns-clause-system c = λ i st x.
     let owner = pid_owner (thread_at c.self.inside.procs c.args.tid) c.in-Some.pid c.in-Some.ensures.pid in

@@ -18,7 +18,7 @@ use Rattle.st_workers.proofs.Tasks.{claim_entry, claims_idle, state_slot, worker
 use Rattle.st_workers.proofs.Turns.{number_within}
 use Rattle.st_workers.proofs.workers.Workers.claim.Goals as goal
 
--- a number that waits
+-- a number is waiting
 some_there : (o : Option ℕ) → IsSome o → (seq : ℕ) × (o ≡ Some seq)
 some_there None x = cc
 some_there (Some seq) x = (seq, refl)
@@ -34,7 +34,7 @@ turn_for-requires c =
     let kept : UnderWay = record { calls = c.self.inside.messages; slots = c.self.inside.slots; turns = c.self.inside.turns.items } in
     ap is_some (state_slot kept c.self.invariant c.in-Some.seq Waiting c.in-Some.ensures.least.waiting).1
 
--- the worker is one
+-- the number of the worker is in range
 module _ (kept then : UnderWay) (same : kept ≡ then) (whole : IsWhole kept) (worker : ℕ) (claims : task_of then worker ≡ Claim) where
   number : (1 ≤ worker) × (worker ≤ length kept.turns)
   number = number_within kept.turns worker Idle (claims_idle kept (turn_at kept worker) (ap (λ (k : UnderWay). task_of k worker) same ∙ claims)).0
@@ -82,14 +82,14 @@ returns-clause-calls c = calls c ∙ ap (λ (k : UnderWay). with_state k.calls c
 pub returns-clause-workers : goal.returns-clause-workers
 returns-clause-workers c = ap (λ (k : HeldCalls). k.workers) (calls c) ∙ ap (λ (k : UnderWay). k.calls.workers) c.self.view_is
 
--- without memory
+-- out of memory
 pub invariant_of-self : goal.invariant_of-self
 invariant_of-self c = subst (λ (slots : List Slot). IsWhole (record { calls = c.self.inside.messages; slots = slots; turns = c.self.inside.turns.items })) (sym c.turn_for.ensures.same) c.self.invariant
 
 pub returns-in_err-turn-clause-workers : goal.returns-in_err-turn-clause-workers
 returns-in_err-turn-clause-workers c = ap (λ (k : UnderWay). k.calls.workers) c.self.view_is
 
--- a result that is an error says what every one says
+-- a proposition that holds also holds on an error
 on_err : {A E P : Type 0} (result : Result A E) → P → OnErr result P
 on_err (Ok a) x = tt
 on_err (Err e) x = x
