@@ -36,11 +36,11 @@ module _ (i : Input) (choices : List Choice) (c : Choice) (e : Entry) (adds : en
   pub run_more : run i (choices ++ c ∷ []) ≡ run i choices ++ e ∷ []
   run_more = ap reverse one_more ∙ reverse_onto before e []
 
-  -- the state is the one after the new entry
+  -- the new state is the state after the new entry
   pub state_more : state_of_run i (choices ++ c ∷ []) ≡ state_after i (state_of_run i choices) e
   state_more = ap (state_at i) one_more
 
--- the session is the one after the run
+-- the session is that of the state after the run
 pub session_behind : (i : Input) (choices : List Choice) → (state_of_run i choices).session ≡ session_at i (reverse (run i choices))
 session_behind i choices =
     let h : History = history i (reverse choices) in

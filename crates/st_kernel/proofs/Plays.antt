@@ -96,7 +96,7 @@ abbrev fault_or : {A : Type 0} → StepFault → Result A StepFault → StepFaul
 fault_or other (Ok value) = other
 fault_or other (Err e) = e
 
--- an error that is passed on is the one that was received
+-- an error that is passed on is the error that was received
 pub came_from : {A : Type 0} (s f : StepFault) (r : Result A StepFault) → IsErr r → IsErrAnd r (λ e. e ≡ s) → r ≡ Err f → s ≡ f
 came_from s f (Ok value) failed same is = cc
 came_from s f (Err e) failed same is = sym same ∙ ap (fault_or e) is

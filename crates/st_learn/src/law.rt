@@ -18,13 +18,13 @@ ghost use Rattle.st_learn.specs.Permitted.{IsPermittedBy};
 ghost use Rattle.st_law.specs.Sessions.{SessionFilter, decision, session_filters};
 ghost use Rattle.st_learn.specs.Learnt.{IsForItsRule, NoneAsks, learnt_policies};
 
-/// If no filter that was read asks, the policies with a session's filters decide on each call alone as the filters that were read decide,
-/// followed by the session's.
+/// If no filter that was read asks, the policies with a session's filters decide on each call by themselves, as the filters that were read
+/// and then the session's do.
 pub fn learnt_policies_decide_alike()
     ensures { (policies : List BinaryPolicy) (session : List SessionFilter) (s : Snapshot) → NoneAsks policies → All IsForItsRule session → verdict (read_filters (learnt_policies policies session) s.policy s.rule) s ≡ decision (read_filters policies s.policy s.rule) (session_filters session s.policy s.rule) s }
 {}
 
-/// If no filter that was read asks, each held call that a run has made is permitted by the policies with the run's session alone, under the
+/// If no filter that was read asks, the policies with the run's session by themselves permit each held call that a run has made, under the
 /// ids that it was made under.
 pub fn what_was_made_is_permitted_by_what_was_learnt()
     ensures { (input : Input) → NoneAsks input.policies → (later earlier : History) (t q : ℕ) (call : SysCall) (regs : List ℕ) (args : List ArgText) (ids : Ids) (result : CallResult) (changes : List Change) → IsLawfulBack input (later ++ Used t (Some q) call regs args ids result changes ∷ earlier) → IsPermittedBy (learnt_policies input.policies (session_at input (later ++ Used t (Some q) call regs args ids result changes ∷ earlier))) (looking_back input earlier) q ids }

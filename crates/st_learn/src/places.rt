@@ -101,7 +101,7 @@ impl Places {
         Ok(())
     }
 
-    /// Removes one of the indices of the policy of a row. It takes no memory.
+    /// Removes the index at a position from those of the policy of a row. It takes no memory.
     pub fn take_out_at(&mut self, row: usize, index: usize)
         requires { (policy : List ℕ) × ((row_of self.old policy ≡ Some row) × (index < length (places_in self.old policy))) }
         ensures { (policy : List ℕ) → row_of self.old policy ≡ Some row → LosesPlace self.old policy index self.new }

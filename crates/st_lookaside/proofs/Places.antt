@@ -44,7 +44,7 @@ module _ {X : Type 0} (p : X → Bool) where
       sym (find_skip (take i xs) (drop (suc i) xs) (get_or xs i d) fails)
       ∙ ap (λ (back : List X). find p (take i xs ++ back)) (sym (drop-cons xs i d within)) ∙ ap (find p) (take-append-drop i xs)
 
--- ---- slots whose numbers go up
+-- ---- slots with ascending numbers
 
 differs : (slot : Slot) (seq : ℕ) → slot.head.seq ≢ seq → has_number seq slot ≡ false
 differs slot seq ne = ne_eqb slot.head.seq seq ne
@@ -164,7 +164,7 @@ module _ (slots : List Slot) (ascending : AreAscending slots) (seq i : ℕ) wher
         ]
       ]
 
--- ---- the index that a search gives
+-- ---- the index that a search finds
 
 order_equal : (x y : ℕ) (b c : Bool) → nat_lt x y ≡ b → (x == y) ≡ c → cond b Less (cond c Equal Greater) ≡ Equal → x ≡ y
 order_equal x y true c lt eq e = cc

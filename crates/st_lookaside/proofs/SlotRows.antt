@@ -18,7 +18,7 @@ use Rattle.st_lookaside.specs.Slots.{slot_at, ChangesSlot, RenewsSlot}
 use Rattle.st_lookaside.specs.declared.head.Head.{Head}
 use Rattle.st_lookaside.specs.declared.slot.Next.TheVariants as next
 
--- a rename of the name at byte 0 to the one at byte 8, from the directory /w
+-- a rename of the name at byte 0 to the name at byte 8, from the directory /w
 abbrev ids : Ids
 ids = record { ruid = 3; euid = 4; rgid = 5; egid = 6 }
 

@@ -8,11 +8,11 @@ pub struct Head {
     pub seq: Seq,
     pub pid: Pid,
     pub ids: Ids,
-    /// The directory where its names begin that aren't absolute. Its name has at most 1,024 bytes.
+    /// The directory in which its relative names are resolved. Its name has at most 1,024 bytes.
     pub cwd: Shared<AbsName>,
     /// The binary whose policy judges it.
     pub policy: Shared<Text>,
-    /// The rule that judges it, which gives its arguments.
+    /// The rule by which it is judged, which determines its arguments.
     pub rule: Rule,
     pub call: SysCall,
     pub regs: [u64; 6],

@@ -50,7 +50,7 @@ impl Need {
         }
     }
 
-    // The same for an argument that needs no more words. It is a function of its own since it is rare: words are needed again and again.
+    // The same for an argument that needs no more words. It is a separate function because it is rare: words are needed again and again.
     #[inline(never)]
     fn behind_words(spec: ArgSpec, copying: &Copying, cwd: &AbsName) -> Self
         requires kind { copying.now.kind ≡ spec.kind }

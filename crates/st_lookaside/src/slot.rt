@@ -199,7 +199,7 @@ impl Slot {
         }
     }
 
-    // The message with the texts of its arguments, made anew.
+    // Makes the message with the texts of its arguments.
     fn snapshot(&self, alloc: Global) -> Result<Snapshot, AllocError>
         requires { IsReady (progress_of self.now) }
         ensures args { IfOk result (λ snapshot. progress_of self.now ≡ Ready snapshot.parts) }

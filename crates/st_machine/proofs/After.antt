@@ -19,7 +19,7 @@ use Rattle.st_next.proofs.Reached.{reached_more}
 abbrev pub AreRows : List ThreadRow → (ℕ → ThreadState) → Type 0
 AreRows rows threads = (t : ℕ) → IsRowOf (item_at_number rows t) (threads t)
 
--- two threads have come equally far: a row that represents the one represents the other
+-- two threads have come equally far: a row that represents one of them represents the other
 pub record HasComeAsFar (a b : ThreadState) : Type 0 where
   pub left : b.left ≡ a.left
   pub pending : b.pending ≡ a.pending

@@ -148,7 +148,7 @@ module _ (processes : Processes) (t m : ℕ) where
 
 -- ---- the processes of threads
 
--- a thread's process is that of the machine's record
+-- a thread's process is that of its state
 pub owner_by : (processes : Processes) (u : ℕ) (thread : ThreadState) → IsThread (thread_at processes u) thread → owner_of processes u ≡ thread.owner
 owner_by processes u thread is = by (thread_at processes u) is where
   by : (o : Option StartedThread) → IsThread o thread → unwrap_or (option_map (λ (started : StartedThread). started.pid) o) 0 ≡ thread.owner

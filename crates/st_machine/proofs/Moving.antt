@@ -87,7 +87,7 @@ module _ (m : Running) (t place word : ℕ) (next : IsNext m t (steps.Store plac
   stores_law : (st : State) → IsMachine m st → IsStored st t place word
   stores_law st is = lawful_entry m.input st (reached_of m.input st is.reached) (choice.Thread t) (Stored t place word) (next st is)
 
-  -- the place is inside memory
+  -- the index is inside memory
   pub stored_inside : (st : State) → IsMachine m st → place < SPACE_WORDS
   stored_inside st is =
       let h = history m.input (reverse is.reached.choices) in

@@ -300,7 +300,7 @@ module _ (m : Running) (st : State) (is : IsMachine m st) (t pid : ℕ) (made : 
         let low = there.1 in
         (there.0, omega (arith, low, old, new, same))
 
-    -- as many copies of the directory were made
+    -- as many copies of the directory were made as numbers are renewed
     pub copies_stay : replicate (length ns) (process_at m.system.processes pid).cwd ≡ replicate (length (numbers_from parts.processes pid t 1 closed)) (process_at parts.processes pid).cwd
     copies_stay = λ k. replicate (length (sym numbers_stay k)) (sym cwd_stays k)
 

@@ -41,7 +41,7 @@ use Rattle.st_workers.proofs.Ended.{lives_as}
 use Rattle.st_next.proofs.Reached.{reached_of}
 use Rattle.st_machine.proofs.After.{AreRows, behind, with_parts}
 
--- ---- messages alone
+-- ---- only the messages change
 
 -- the machine that runs, with other messages
 abbrev pub with_workers : Running → UnderWay → Running
@@ -70,7 +70,7 @@ space_is : (st : State) (o : Option Head) (pid : ℕ) → option_map (λ (head :
 space_is st None pid is = absurd (none-some pid is)
 space_is st (Some head) pid is = ap (λ (p : ℕ). (st.processes p).space) (same_Some head.pid pid is)
 
--- the word at a place of the memory of a message's process
+-- the word with an index in the memory of a message's process
 word_is : (st : State) (q place pid : ℕ) → IsOfProcess st q pid → word_for st q place ≡ word_of (st.memory (st.processes pid).space) place
 word_is st q place pid is = ap (λ (space : ℕ). word_of (st.memory space) place) (space_is st (st.messages q).head pid is)
 

@@ -82,7 +82,7 @@ impl<'a> Machine<'a> {
         Ok(())
     }
 
-    // Lets a worker copy the word at a place of the memory of this process, which is its message's.
+    // Lets a worker copy the word with an index in the memory of this process, which is its message's.
     fn copy(
         &mut self,
         alloc: Global,

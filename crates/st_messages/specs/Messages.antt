@@ -54,7 +54,7 @@ is_waiting message = is_waiting_state message.state
 abbrev pub first_waiting : HeldCalls → Option ℕ
 first_waiting calls = option_map (λ (message : Message). message.seq) (find is_waiting calls.live)
 
--- whether a state is that of a message whose worker has neither answered nor met a fault
+-- whether a state is that of a claimed message that is neither answered nor faulted
 abbrev pub is_claimed_state : Option MsgState → Bool
 is_claimed_state None = false
 is_claimed_state (Some Waiting) = false
@@ -62,7 +62,7 @@ is_claimed_state (Some (Claimed worker)) = true
 is_claimed_state (Some (Answered verdict)) = false
 is_claimed_state (Some (Faulted errno)) = false
 
--- whether a number is live, and its worker has neither answered nor met a fault
+-- whether a number is live and claimed, and neither answered nor faulted
 abbrev pub is_claimed : HeldCalls → ℕ → Bool
 is_claimed calls seq = is_claimed_state (state_at calls seq)
 
@@ -70,7 +70,7 @@ is_claimed calls seq = is_claimed_state (state_at calls seq)
 abbrev pub IsWaiting : HeldCalls → ℕ → Type 0
 IsWaiting calls seq = state_at calls seq ≡ Some Waiting
 
--- no smaller number waits
+-- this number is waiting, and no smaller number is
 pub record IsLeastWaiting (calls : HeldCalls) (seq : ℕ) : Type 0 where
   pub waiting : IsWaiting calls seq
   pub least : (other : ℕ) → IsWaiting calls other → seq ≤ other

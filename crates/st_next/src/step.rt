@@ -18,7 +18,7 @@ pub enum Step {
     Wait,
     /// It ends.
     End,
-    /// It stores a word at a place of its process's memory.
+    /// It stores a word with an index in its process's memory.
     Store {
         place: u32,
         word: u64,

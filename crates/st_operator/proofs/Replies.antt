@@ -27,7 +27,7 @@ use Rattle.st_operator.proofs.Places.{among_is, among_more, among_without, found
 
 -- ---- the next reply
 
--- where the next reply was found, the index of a reply is
+-- the index of a reply is at the position that was found for the next reply
 module _ (added : Added) (policy : List ℕ) (rule : Rule) (index : ℕ) (next : next_left added policy rule ≡ Some index) where
   abbrev place : ℕ
   place = get_or (places_in added.left policy) index 0

@@ -179,7 +179,7 @@ impl<'a> Operator<'a> {
         })
     }
 
-    // Keeps the filter of the next reply for these copies, which is at this index of the row of the replies left for the policy.
+    // Keeps the filter of the next reply for these copies. Its index is at this position in the row of the replies left for the policy.
     #[tactic(auto, using(crate::proofs::Replies::place_within))]
     fn reply(
         &mut self,

@@ -175,7 +175,7 @@ module _ (parts : Parts) (x : IsWhole parts) (request : Request) (pid_there : Is
   owner_now None x = tt
   owner_now (Some thread) x = pid_now thread.pid x
 
-  -- the memory of another process stays
+  -- the memory of another process is unchanged
   other_by : (p : ℕ) → p ≢ request.pid → IsExec (next_space parts.memories) request.inherit given.changes → (process_at processes p).space ≡ (process_at parts.processes p).space
   other_by p ne (inl none) = ap (λ (process : Process). process.space) (after.processes p ∙ ap (process_after (process_at parts.processes) request.pid p) none)
   other_by p ne (inr both) = ap (λ (process : Process). process.space) (after.processes p ∙ ap (process_after (process_at parts.processes) request.pid p) both.1)

@@ -92,7 +92,7 @@ module _ (system : System) (request : Request) where
   move_keeps old new object None = search (unless, same)
   move_keeps old new object (Some other) = moved_keeps old new object other
 
--- every call
+-- no call that fails changes the descriptors
 
 pub failure_keeps : (system : System) (request : Request) (call : SysCall) (errno : Errno) → (effect system call request).result ≡ Failed errno → (effect system call request).descriptors ≡ system.descriptors
 failure_keeps system request Open = search (unless, open_keeps)

@@ -137,7 +137,7 @@ walked spec (walk.Name name) x = reprinted name x
 walked spec (walk.Next name) x = tt
 walked spec (walk.Fault errno) x = tt
 
--- of a call that is made in one step
+-- the name of a directory, for a call that is made in one step
 step_name : (asked : ArgRequest) (tree : Tree) (s : Spelled) → IsFitProgress Chdir (part_of_spelling 0 filename asked tree s (Ready []))
 step_name asked tree (Text text) = walked filename _ (resolved_short (walk.most_lookups tree text) tree asked.cwd text (follows asked.call asked.regs 0) [])
 step_name asked tree (Fault errno) = tt
@@ -149,7 +149,7 @@ step_port call fits asked tree (Text text) x = fits _ x
 step_port call fits asked tree (Fault errno) x = tt
 step_port call fits asked tree (More place) x = tt
 
--- of a held call
+-- the name of a directory, for a held call
 held_name : (cwd : Components) (follow : Bool) (lookups : List SeenText) (s : Spelled) → IsFitProgress Chdir (progress_of_spelling 0 filename cwd follow lookups s (Ready []))
 held_name cwd follow lookups (Text text) = walked filename _ (start_short text cwd follow lookups)
 held_name cwd follow lookups (Fault errno) = tt

@@ -34,7 +34,7 @@ pub with_owner : (o : Option StartedThread) (row other : ThreadState) → IsThre
 with_owner None row other x owner ended = (owner ∙ x.0, ended ∙ x.1)
 with_owner (Some thread) row other x owner ended = (owner ∙ x.0, ended ∙ x.1)
 
--- a store
+-- the system represents the state after a store
 pub stored : (i : Input) (st : State) (parts : Parts) → IsSystem i st parts → (t place word space : ℕ) (new : Memories) → space ≡ (process_at parts.processes (owner_in (thread_at parts.processes t))).space
     → is_live parts.memories space ≡ true → ((s b : ℕ) → byte_in new s b ≡ memory_after_store (byte_in parts.memories) space place word s b) → KeepsSpaces parts.memories new
     → IsSystem i (state_after i st (Stored t place word)) (record { tree = parts.tree; descriptors = parts.descriptors; processes = parts.processes; memories = new })

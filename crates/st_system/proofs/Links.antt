@@ -36,7 +36,7 @@ pub root_unlinked : (tree : Tree) (root : ℕ) → object_of tree [] ≡ Some ro
 root_unlinked tree root is made directory =
     ap is_link_node (ap (λ (o : Option ℕ). node_at tree o) is ∙ numbered tree root made) ∙ directory_unlinked (node_with_number tree root).kind directory
 
--- ---- ways
+-- ---- links in the way
 
 -- if no link is in the way of a name, the name isn't a link's
 unlinked_along : (tree : Tree) (done rest : Components) → is_link_at tree done ≡ false → link_along tree true done rest ≡ None → is_link_at tree (done ++ rest) ≡ false

@@ -28,7 +28,7 @@ use st_tree::Tree;
 use std::alloc::{AllocError, Global};
 use std::marker::Model;
 
-/// What system calls are made over: the file tree, descriptors, processes with their threads, and memories.
+/// The modelled system that calls are made over: the file tree, descriptors, processes with their threads, and memories.
 #[derive(Debug, Drop)]
 pub struct System {
     pub(crate) tree: Tree,
@@ -109,7 +109,7 @@ impl System {
         self.procs.ids(pid)
     }
 
-    /// The directory of a process, where its names begin that aren't absolute. Its name has at most 1,024 bytes.
+    /// The directory in which a process's relative names are resolved. Its name has at most 1,024 bytes.
     pub fn cwd(&self, pid: Pid) -> &Shared<AbsName>
         requires { IsPid self.now.processes pid }
         ensures cwd { result.now ≡ (process_at self.now.processes pid).cwd }

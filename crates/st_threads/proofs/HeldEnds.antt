@@ -231,7 +231,7 @@ above_zero : (rows : List ThreadRow) (t : ℕ) (row : ThreadRow) → item_at_num
 above_zero rows zero row e d = absurd (none-some row e)
 above_zero rows (suc k) row e d = ap (λ (b : Bool). b && d) (sym (leb-suc-zero k))
 
--- at first none of them has ended
+-- at first no thread has ended
 pub none_so_far : (dies : ℕ → Bool) (rows : List ThreadRow) (workers : UnderWay) → HaveEnded (λ t. nat_le t 0 && dies t) rows workers rows workers
 none_so_far dies rows workers = ended_where (λ t. false) (λ t. nat_le t 0 && dies t) rows (λ t row e. above_zero rows t row e (dies t)) workers rows workers (none_ended rows workers)
 
@@ -293,7 +293,7 @@ module _ (dies : ℕ → Bool) (rows : List ThreadRow) (workers : UnderWay) (now
     by None e = tt
     by (Some q) e = lives_as have.input have.state (life_but (λ t. nat_le t n && dies t) have.state have.alive) between q (so_far.kept have.input have.state have.alive have.kept have.held) ∙ (held.lives (suc n) row q row_is e).lives
 
--- at last all of them have ended
+-- at last all these threads have ended
 pub all_ended : (dies : ℕ → Bool) (rows : List ThreadRow) (workers : UnderWay) (new : List ThreadRow) (left : UnderWay) (n : ℕ) → length rows ≤ n → HaveEnded (λ t. nat_le t n && dies t) rows workers new left → HaveEnded dies rows workers new left
 all_ended dies rows workers new left n high x = ended_where (λ t. nat_le t n && dies t) dies rows
     (λ t row e. ap (λ (b : Bool). b && dies t) (le-leb t n (let within = (number_within rows t row e).1 in omega (arith, within, high)))) workers new left x

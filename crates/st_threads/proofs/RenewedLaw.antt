@@ -157,7 +157,7 @@ module _ (processes : Processes) (pid caller : ℕ) where
   count_renewed [] u next = refl
   count_renewed (row ∷ rows) u next = ap suc (count_renewed rows (suc u) (next_behind next (number u row)))
 
-  -- ---- which numbers there are
+  -- ---- the numbers differ
 
   of_held : (u : ℕ) (row : ThreadRow) (q : ℕ) → number u row ≡ Some q → number_held row ≡ Some q
   of_held u row q e = by (owner_of processes u == pid && not (u == caller)) e where
@@ -250,7 +250,7 @@ module _ (processes : Processes) (pid caller : ℕ) where
           (λ q over. drawn q (omega (arith, over)) ∙ later u next row rows tags (number u row) refl q over) are.1,
     )
 
--- the threads of another record of the same processes
+-- the numbers are the same by another record of the same processes
 pub same_numbers : (a b : Processes) (pid caller : ℕ) → ((u : ℕ) → owner_of a u ≡ owner_of b u) → (rows : List ThreadRow) (u : ℕ) → numbers_from a pid caller u rows ≡ numbers_from b pid caller u rows
 same_numbers a b pid caller same [] u = refl
 same_numbers a b pid caller same (row ∷ rows) u = λ k. with_number (cond (same u k == pid && not (u == caller)) (number_held row) None) (same_numbers a b pid caller same rows (suc u) k)

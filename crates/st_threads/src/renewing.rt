@@ -40,7 +40,7 @@ fn number_renewed(
 pub struct RenewalPlan {
     pub changes: Sequence<Change>,
     pub cwds: Vec<Shared<AbsName>>,
-    // The number that the next renewal gives.
+    // The number of the next renewal.
     next: Seq,
 }
 

@@ -1,4 +1,4 @@
--- Whether messages are closed isn't kept.
+-- Whether a message is closed isn't kept.
 use Rattle.std.proofs.Common.{ℕ, Bool, true, false, Option, Some, None, sym, subst}
 use Rattle.st_base.specs.declared.errno.Errno.{Errno}
 use Rattle.st_messages.specs.declared.message.MsgState.{MsgState}

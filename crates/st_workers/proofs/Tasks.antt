@@ -289,7 +289,7 @@ module _ (kept : UnderWay) (w seq : ℕ) (slot : Slot) (working : turn_at kept w
   pub fault_is : (q : ℕ) (errno : Errno) → task_of kept w ≡ task.Fault q errno → (seq ≡ q) × (progress_of slot ≡ Stuck errno)
   fault_is q errno e = fault_parts seq slot.head.pid (progress_of slot) q errno (sym task_is ∙ e)
 
--- the slot of a number at which a name is looked at
+-- the slot of a number whose next task is a look
 pub look_slot : (kept : UnderWay) (w seq : ℕ) → IsWhole kept → turn_at kept w ≡ Some (Working seq) → IsLook (task_of kept w) → IsSome (slot_at kept.slots seq) × IfSome (slot_at kept.slots seq) (λ slot. IsLookNext (progress_of slot))
 look_slot kept w seq whole working is =
     let slot = working_slot kept whole w seq working in

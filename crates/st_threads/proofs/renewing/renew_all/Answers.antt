@@ -35,7 +35,7 @@ pub renew_call-requires-clause-same : goal.renew_call-requires-clause-same
 renew_call-requires-clause-same c = next_same c.args.system.now.processes c.args.pid c.args.caller c.args.threads.now c.args.workers.now c.loop-i.i c.loop-i.threads c.loop-i.workers c.loop-i.cwds.items c.loop-i.invariant
     (row c) (inside c) (here c) c.number_renewed-seq.result c.number_renewed-seq.ensures
 
--- the thread that is tested is the one whose call draws a number
+-- the thread that is tested is the thread whose call gets a number
 same_row : (rows : List ThreadRow) (i : ℕ) (a b : ThreadRow) → i < length rows → get_or rows i a ≡ get_or rows i b
 same_row rows i a b inside = same_Some (get_or rows i a) (get_or rows i b) (sym (slice_get-get_or rows i a inside) ∙ slice_get-get_or rows i b inside)
 
