@@ -1,5 +1,5 @@
-//! Runs the machine choice by choice, by the lines of a schedule or with the first enabled choice: it keeps the choices that were made, and
-//! gives each entry to a recorder.
+//! Runs the machine choice by choice: it plays the lines of a schedule or makes the first enabled choice, keeps the choices that were made,
+//! and gives each entry to a recorder.
 #![tactic(auto)]
 
 pub mod kernel;

@@ -11,7 +11,7 @@ use Rattle.st_learn.specs.Deciding.{first_at, lesser}
 use Rattle.st_learn.specs.Sessions.{places_from}
 use Rattle.st_learn.proofs.Filters.{one_longer, there}
 
--- equal kinds have the same first item
+-- equal kinds have the same first index
 pub first_same : {X : Type 0} (p q : X → Bool) (xs : List X) → ((x : X) → p x ≡ q x) → first_at p xs ≡ first_at q xs
 first_same p q xs same = λ i. first_at (λ x. same x i) xs
 
@@ -57,7 +57,7 @@ lesser_by true false o r both e = least_first r
 lesser_by false true o r both e = least_second o
 lesser_by false false o r both e = lesser_suc o r ∙ ap (option_map suc) e
 
--- the lesser of the first items of two kinds is the first of either kind
+-- the lesser of the first indices of two kinds is the first of either kind
 pub first_lesser : {X : Type 0} (p q : X → Bool) (xs : List X) → lesser (first_at p xs) (first_at q xs) ≡ first_at (λ x. p x || q x) xs
 first_lesser p q [] = refl
 first_lesser p q (x ∷ xs) = lesser_by (p x) (q x) (first_at p xs) (first_at q xs) (first_at (λ y. p y || q y) xs) (first_lesser p q xs)
@@ -78,7 +78,7 @@ joined : (c a r d : Bool) → (((c || a) || r) && d) ≡ ((c || (a || r)) && d)
 joined true a r d = refl
 joined false a r d = refl
 
--- the least of the first items of all these kinds is the first of any of them
+-- the least of the first indices of all these kinds is the first of any of them
 pub first_of_any : {X A : Type 0} (asks : A → X → Bool) (d : X → Bool) (xs : List X) (kinds : List A) (c : X → Bool)
     → fold (λ first a. lesser first (first_at (λ x. asks a x && d x) xs)) (first_at (λ x. c x && d x) xs) kinds ≡ first_at (λ x. (c x || list_any (λ a. asks a x) kinds) && d x) xs
 first_of_any asks d xs [] c = sym (first_same (λ x. (c x || false) && d x) (λ x. c x && d x) xs (λ x. none_more (c x) (d x)))
@@ -147,7 +147,7 @@ inside_by false None n p later e = absurd (clash e) where
   clash e = cc
 inside_by false (Some q) n p later e = let same = same_Some (suc q) p e in let less = later q refl in omega (arith, same, less)
 
--- the first item's index is within the list
+-- the first index is within the list
 pub first_inside : {X : Type 0} (is : X → Bool) (xs : List X) (p : ℕ) → first_at is xs ≡ Some p → p < length xs
 first_inside is [] p e = absurd (clash e) where
   clash : None ≡ Some p → ⊥

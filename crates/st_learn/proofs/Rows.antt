@@ -83,7 +83,7 @@ found_by false a i n is e = absurd (clash e) where
   clash : Some i ≡ None → ⊥
   clash f = cc
 
--- the first row of a policy is changed, and no other
+-- the row at a policy's index is changed, and no other
 pub row_changed : (es : List PlacesEntry) (policy : List ℕ) (i : ℕ) (w : Vec ℕ Global) → Some i ≡ position (is_key policy) (keys_of es) → (other : List ℕ)
     → listing_in (shown_rows (set_value_at es i w)) other ≡ cond (bytes_eq policy other) (Some (shown_listing w)) (listing_in (shown_rows es) other)
 row_changed es policy i w at other =
@@ -131,7 +131,7 @@ module _ (es : List PlacesEntry) (policy : List ℕ) (i : ℕ) (at : row_of (sho
   pub row_listing : (v : Vec ℕ Global) → slice_get (values_of es) i ≡ Some v → listing_in (shown_rows es) policy ≡ Some (shown_listing v)
   row_listing v is = row_there es policy i v (sym (Found-position (is_key policy) es i (sym row_is)).value) is
 
--- there is room for a policy iff its row has room
+-- if there is room for a policy, its row has room
 pub room_there : (rows : List PolicyPlaces) (policy : List ℕ) (v : Vec ℕ Global) → listing_in rows policy ≡ Some (shown_listing v) → HasRoom rows policy → vec_len v < vec_capacity v
 room_there rows policy v is left = let had : length v.items < vec_capacity v = subst IsRoomLeft is left in let same : vec_len v ≡ length v.items = v.ok.0 in omega (arith, had, same)
 

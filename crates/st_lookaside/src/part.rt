@@ -231,7 +231,7 @@ impl Part {
         }
     }
 
-    /// The argument, which is complete.
+    /// The argument, which has to be complete.
     pub fn arg(&self, alloc: Global, head: &Head) -> Result<ArgText, AllocError>
         requires part { IsPart (request_of head.now) self.now }
         requires need { self.now.need ≡ need.Nothing }

@@ -233,7 +233,7 @@ impl Workers {
         *seq
     }
 
-    /// Takes the word that a worker copies, if that is its task. If memory runs out, the abstract state is unchanged.
+    /// Takes the word that a worker's task asks it to copy. If memory runs out, the abstract state is unchanged.
     pub fn copy(&mut self, alloc: Global, worker: Worker, word: u64) -> Result<(), AllocError>
         requires { IsCopy (task_of self.old worker) }
         ensures calls { self.new.calls ≡ self.old.calls }
@@ -245,7 +245,7 @@ impl Workers {
         filling::take_word(&mut self.slots, turn, alloc, seq, word)
     }
 
-    /// The name that a worker looks at, if that is its task. The walk of that name is readied, and the abstract state is unchanged.
+    /// The name that a worker's task asks it to look at. The walk of that name is readied, and the abstract state is unchanged.
     pub fn look_name(&mut self, alloc: Global, worker: Worker) -> Result<AbsName, AllocError>
         requires { IsLook (task_of self.old worker) }
         ensures stands { Stands self.old self.new }
