@@ -48,8 +48,7 @@ fn learnt_expr(alloc: Global, args: &[ArgText]) -> Result<Expr, AllocError>
     }
 }
 
-/// The filter that is learnt from the copies of a call: a plain permit of the calls of its rule each of whose arguments has exactly the
-/// text that it has here.
+/// The filter that is learnt from the copies of a call: a plain permit of its rule, for the calls whose arguments have exactly these texts.
 pub fn learnt_filter(alloc: Global, copies: &Snapshot) -> Result<Filter, AllocError>
     ensures { IfOk result (λ filter. filter ≡ learnt_filter copies.now) }
 {
