@@ -1,4 +1,4 @@
--- An entry that is put and taken out again, and one that is written.
+-- An entry that is inserted and removed again, and a value that is overwritten.
 use Rattle.std.proofs.Common.{◌≡◌, ◌∙◌, arith, ℕ, true, false, cond, List, [], ◌∷◌, Some, refl, ap, sym, subst}
 use Rattle.std.proofs.lemmas.Bool.{true≢false}
 use Rattle.std.specs.Prelude.{is_some}
@@ -22,7 +22,7 @@ module _ {K X : Type 0} (cmp : K → K → Ordering) (k : K) (v : X) (same : cmp
   taken_out-cmp [] none = rw same refl
   taken_out-cmp (e ∷ es) none = taken_out-by (cmp k e.0) e es refl none (taken_out-cmp es)
 
--- an entry that was put in where its key had none, and is taken out
+-- an entry that was inserted under a new key and is removed
 pub taken_out : {X : Type 0} (k : ℕ) (v : X) (es : List (ℕ × X)) → is_some (lookup (is_at (nat_cmp k)) es) ≡ false → remove_entry (is_at (nat_cmp k)) (insert_entry nat_cmp es k v) ≡ es
 taken_out k v es none = taken_out-cmp nat_cmp k v (sym (nat_cmp_is k k Equal refl)) es none
 
@@ -35,7 +35,7 @@ module _ {K X : Type 0} {R : K → K → Ordering} (order : IsTotalOrder R) (k :
   written-by Equal e es is sorted found more = rw is refl
   written-by Greater e es is sorted found more = rw is (ap (λ xs. e ∷ xs) (more (subst (λ o. is_some (cond (is_eq o) (Some e.1) (lookup (is_at (R k)) es)) ≡ true) is found)))
 
-  -- a value that is written where its key has one
+  -- a value that is written under a key that has one
   pub written : (es : List (K × X)) → IsStrictlySortedBy R (keys_of es) → is_some (lookup (is_at (R k)) es) ≡ true → set_value (is_at (R k)) es v ≡ insert_entry R es k v
   unfolding IsStrictlySortedBy
   written [] sorted found = absurd (true≢false (sym found))

@@ -1,4 +1,4 @@
--- Descriptors that lead to one open file, and what a change of that file is to others.
+-- Descriptors that refer to one open file, and how a change of that file affects others.
 use Rattle.std.proofs.Common.{◌≡◌, ◌≢◌, zero, suc, ℕ, ◌<◌, List, [], ◌∷◌, Option, Some, None, length, get_or, set, refl, ap, sym, ◌∙◌, subst, arith}
 use Rattle.std.proofs.lemmas.List.{get_or-set_same, get_or-set_other, length-set}
 use Rattle.std.proofs.lemmas.Option.{none-some, slice_get_within, slice_get-get_or}
@@ -70,7 +70,7 @@ kept t offset p None = refl
 kept t offset None (Some file) = refl
 kept t offset (Some m) (Some file) = refl
 
--- a descriptor still leads to the same open file
+-- a descriptor still refers to the same open file
 still : (t : Table) (pid fd offset other_pid other : ℕ) → file_at (table_after_seek t pid fd offset) other_pid other ≡ file_of_number (table_after_seek t pid fd offset).files (file_number_at t other_pid other)
 still t pid fd offset other_pid other =
     ap (λ processes. file_of_number (table_after_seek t pid fd offset).files (get_or (places_in processes other_pid) other None)) (kept t offset (file_number_at t pid fd) (file_at t pid fd))

@@ -1,4 +1,4 @@
--- What was opened last, taken back.
+-- Undoing the last open.
 use Rattle.std.proofs.Common.{◌≡◌, ◌∙◌, ℕ, ◌-◌, ◌<◌, Bool, true, false, List, [], ◌∷◌, ◌++◌, Option, Some, None, length, get_or, set, take, refl, ap, sym, subst, arith}
 use Rattle.std.proofs.Math.Seq.{take-append_seam}
 use Rattle.std.proofs.lemmas.Bool.{true≢false}
@@ -24,7 +24,7 @@ module _ {K X : Type 0} (test : K → Bool) (v w : X) where
   twice_by true e es is more = rw (is, is) refl
   twice_by false e es is more = rw (is, is) (ap (λ xs. e ∷ xs) more)
 
-  -- a value that is written and written again
+  -- a value that is written twice
   twice : (es : List (K × X)) → set_value test (set_value test es v) w ≡ set_value test es w
   twice [] = refl
   twice (e ∷ es) = twice_by (test e.0) e es refl (twice es)
@@ -37,7 +37,7 @@ none_is : (place : Option ℕ) → is_none place ≡ true → place ≡ None
 none_is None free = refl
 none_is (Some number) free = absurd (true≢false (sym free))
 
--- what a process has that is put once more and then put back
+-- the places of a process that are replaced and then restored
 put_back : (es : List (ℕ × List (Option ℕ))) (pid : ℕ) (new : List (Option ℕ)) → IsStrictlySortedBy nat_cmp (keys_of es) → is_some (lookup (is_at (nat_cmp pid)) es) ≡ true
     → insert_entry nat_cmp (insert_entry nat_cmp es pid new) pid (places_in es pid) ≡ es
 put_back es pid new sorted has =
@@ -52,7 +52,7 @@ put_back es pid new sorted has =
     ∙ twice test new old es
     ∙ set_value_same test es old (there (lookup test es) has)
 
--- a free place that is given and then freed
+-- a free place that is taken and then freed
 freed : (es : List (ℕ × List (Option ℕ))) (pid fd : ℕ) (number : Option ℕ) → IsStrictlySortedBy nat_cmp (keys_of es) → is_some (lookup (is_at (nat_cmp pid)) es) ≡ true → get_or (places_in es pid) fd None ≡ None
     → insert_entry nat_cmp (insert_entry nat_cmp es pid (set (places_in es pid) fd number)) pid (set (places_in (insert_entry nat_cmp es pid (set (places_in es pid) fd number)) pid) fd None) ≡ es
 freed es pid fd number sorted has free =
@@ -89,6 +89,6 @@ module _ (before : Table) (pid fd : ℕ) (after : Table) (was : WasOpened before
       let count : length after.files - 1 ≡ length before.files = omega (arith, ap length files_are, length-append before.files (was.file ∷ [])) in
       ap (λ n. take n after.files) count ∙ ap (take (length before.files)) files_are ∙ take-append_seam before.files (was.file ∷ [])
 
--- a descriptor that was given is one of those that a process may have
+-- a descriptor that was given is below the limit of a process
 pub given_within : (count : ℕ) (before : Table) (pid fd : ℕ) (after : Table) → WasOpened before pid fd after → length (places_in before.processes pid) ≡ count → fd < count
 given_within count before pid fd after was are = omega (arith, (place before pid fd after was).0, are)

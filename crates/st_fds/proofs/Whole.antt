@@ -1,4 +1,4 @@
--- What keeps a table whole, and what a whole table says of its descriptors.
+-- What keeps a table whole, and what a whole table says about its descriptors.
 use Rattle.std.proofs.Common.{◌≡◌, ℕ, ◌+◌, ◌<◌, ◌≤◌, Bool, true, false, cond, List, [], ◌∷◌, Option, Some, None, inl, inr, length, get_or, set, replicate, refl, ap, sym, ◌∙◌, subst, arith}
 use Rattle.std.proofs.lemmas.Bool.{true≢false, ltb-true, ltb-false, not-false}
 use Rattle.std.proofs.lemmas.List.{length-set}
@@ -18,7 +18,7 @@ use Rattle.st_model.specs.DescriptorCalls.{all_free, first_three_places}
 use Rattle.st_model.specs.Descriptors.{Table, has_table, places_in, file_of_number, least_free, file_number_at}
 use Rattle.st_fds.specs.Table.{IsPlace, ArePlaces, IsWhole, IsLeastFree, AreOpenBelow}
 
--- more open files
+-- a place is still one when there are more open files
 place_more : (m n : ℕ) (place : Option ℕ) → m ≤ n → IsPlace m place → IsPlace n place
 place_more m n None more is = tt
 place_more m n (Some number) more is = omega arith
@@ -33,14 +33,14 @@ whole-more_files m n es larger whole = λ k d inside. places_more m n (get_or (v
 pub places-set : (count : ℕ) (places : List (Option ℕ)) (fd : ℕ) (place : Option ℕ) → IsPlace count place → ArePlaces count places → ArePlaces count (set places fd place)
 places-set count places fd place is are = (length-set places fd place ∙ are.0, All-set (IsPlace count) places fd place is are.1)
 
--- one process changes
+-- the places of one process change
 pub whole-put : (count : ℕ) (es : List (ℕ × List (Option ℕ))) (pid : ℕ) (places : List (Option ℕ)) → IsWhole es count → ArePlaces count places → IsWhole (insert_entry nat_cmp es pid places) count
 whole-put count es pid places whole are = All-values-insert_entry nat_cmp pid places (ArePlaces count) es whole are
 
 pub taken_away : (count : ℕ) (es : List (ℕ × List (Option ℕ))) (pid : ℕ) → IsWhole es count → IsWhole (remove_entry (is_at (nat_cmp pid)) es) count
 taken_away count es pid whole = All-map-remove_entry (is_at (nat_cmp pid)) (λ e. e.1) (ArePlaces count) es whole
 
--- no descriptor, and the three that a process begins with
+-- all descriptors free, and the three that a process starts with
 pub free_places : (count : ℕ) → ArePlaces count all_free
 free_places count = (refl, All-replicate (IsPlace count) 64 None tt)
 
@@ -60,7 +60,7 @@ found count (Some places) has are = are
 pub places_at : (count : ℕ) (es : List (ℕ × List (Option ℕ))) (pid : ℕ) → is_some (lookup (is_at (nat_cmp pid)) es) ≡ true → IsWhole es count → ArePlaces count (places_in es pid)
 places_at count es pid has whole = found count (lookup (is_at (nat_cmp pid)) es) has (IfSome-lookup_from_All (ArePlaces count) (is_at (nat_cmp pid)) es whole)
 
--- what a struct's fields have, where its value has it
+-- if a value has a process's table, so does an equal value (of a struct's fields)
 pub fields_have : (t u : Table) (pid : ℕ) → t ≡ u → has_table u pid ≡ true → has_table t pid ≡ true
 fields_have t u pid is has = subst (λ v. has_table v pid ≡ true) (sym is) has
 
@@ -70,7 +70,7 @@ one_place m n es new pid fd place places whole has places_are new_is larger is =
     let before = places_more m n places larger (subst (ArePlaces m) (sym places_are) (places_at m es pid has whole)) in
     subst (λ es. IsWhole es n) (sym new_is) (whole-put n es pid (set places fd place) (whole-more_files m n es larger whole) (places-set n places fd place is before))
 
--- a place that isn't free leads to an open file
+-- a number below the count of open files has one
 there : (files : List OpenFile) (number : ℕ) → number < length files → is_some (slice_get files number) ≡ true
 there files number inside = elim (slice_get_cases files number).1 [
   | inl at ↦ ap is_some at.2
@@ -110,7 +110,7 @@ module _ (t : Table) (pid : ℕ) (are : ArePlaces (length t.files) (places_in t.
   pub full : least_free t pid ≡ None → AreOpenBelow t pid 64
   full is = full_by _ (prefix_len (λ place. not (is_none place)) (places_in t.processes pid)) refl refl is
 
--- of a struct's value, where its fields are whole
+-- a place in a whole table, seen from an equal table (a struct's value)
 pub place_within : (t u : Table) (place : Option ℕ) → t ≡ u → IsPlace (length t.files) place → IfSome place (λ number. number < length u.files)
 place_within t u None same is = tt
 place_within t u (Some number) same is = subst (λ v. number < length v.files) same is

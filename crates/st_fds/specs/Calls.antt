@@ -1,4 +1,4 @@
--- What calls on descriptors answer.
+-- The results of calls on descriptors.
 use Rattle.std.specs.Prelude.{ℕ, Option, Some, None}
 use Rattle.std.specs.declared.result.Result.{Result}
 use Rattle.std.specs.declared.result.Result.TheVariants.{Ok, Err}
@@ -9,17 +9,17 @@ use Rattle.st_model.specs.declared.open_file.OpenFile.{OpenFile}
 use Rattle.st_fds.specs.declared.fds.FdFault.{FdFault}
 use Rattle.st_fds.specs.declared.fds.FdFault.TheVariants.{Os}
 
--- a call that is refused for a reason, or goes well
+-- a call that is refused with an error, or succeeds
 abbrev pub result_of_refusal : Option Errno → Result (Unit {0}) Errno
 result_of_refusal None = Ok tt
 result_of_refusal (Some errno) = Err errno
 
--- first that the descriptor isn't open, then that all are
+-- EBADF if the descriptor isn't open, otherwise EMFILE if all are open, otherwise the least free descriptor
 abbrev pub dup_result_at : Option OpenFile → Option ℕ → Result ℕ FdFault
 dup_result_at None least = Err (Os EBADF)
 dup_result_at (Some file) None = Err (Os EMFILE)
 dup_result_at (Some file) (Some least) = Ok least
 
--- what dup answers for a descriptor of a process: the least free one, or why the call is refused
+-- the result of dup(2) for a descriptor of a process: the least free descriptor, or why the call is refused
 abbrev pub dup_result : Table → ℕ → ℕ → Result ℕ FdFault
 dup_result t pid fd = dup_result_at (file_at t pid fd) (least_free t pid)

@@ -1,4 +1,4 @@
--- What every table of descriptors keeps to.
+-- The invariant of tables of descriptors, and how calls change which tables and descriptors exist.
 use Rattle.std.specs.Prelude.{◌≡◌, ℕ, ◌<◌, length, All, Bool, true, if◌then◌else◌, ◌==◌, List, Option, Some, None, is_some}
 use Rattle.std.specs.Map.{values_of}
 use Rattle.std.specs.List.Sorted.{IsStrictlySortedBy}
@@ -9,16 +9,16 @@ use Rattle.st_model.specs.Descriptors.{Table, has_table, file_at, least_free}
 use Rattle.st_model.specs.declared.open_file.OpenFile.{OpenFile}
 use Rattle.st_model.specs.declared.open_file.TheConstants.{DESCRIPTORS}
 
--- a place is free, or leads to one of so many open files
+-- a place is free, or has the number of one of `count` open files
 abbrev pub IsPlace : ℕ → Option ℕ → Type 0
 IsPlace count None = Unit {0}
 IsPlace count (Some number) = number < count
 
--- a process has 64 places
+-- a process has 64 places, each of them free or with the number of an open file
 abbrev pub ArePlaces : ℕ → List (Option ℕ) → Type 0
 ArePlaces count places = (length places ≡ DESCRIPTORS) × All (IsPlace count) places
 
--- the same of each process
+-- the places of each process are such
 abbrev pub IsWhole : List (ℕ × List (Option ℕ)) → ℕ → Type 0
 IsWhole processes count = All (ArePlaces count) (values_of processes)
 
@@ -26,7 +26,7 @@ IsWhole processes count = All (ArePlaces count) (values_of processes)
 abbrev pub KeepsTables : Table → Table → Type 0
 KeepsTables old new = (pid : ℕ) → has_table new pid ≡ has_table old pid
 
--- this process has a table now, or has none, and of the others the same have one
+-- this process has a table exactly if `has` says so, and every other process has one exactly if it did before
 abbrev pub ChangesTable : Table → ℕ → Bool → Table → Type 0
 ChangesTable old pid has new = (other : ℕ) → has_table new other ≡ (if other == pid then has else has_table old other)
 
@@ -34,13 +34,13 @@ ChangesTable old pid has new = (other : ℕ) → has_table new other ≡ (if oth
 abbrev pub AreOpenBelow : Table → ℕ → ℕ → Type 0
 AreOpenBelow t pid fd = (other : ℕ) → other < fd → is_some (file_at t pid other) ≡ true
 
--- the descriptor is the least that isn't open, and one that a process may have
+-- the descriptor is the least that isn't open, and is below the limit of a process
 pub record IsLeastFree (t : Table) (pid fd : ℕ) : Type 0 where
   pub within : fd < DESCRIPTORS
   pub free : file_at t pid fd ≡ None
   pub least : AreOpenBelow t pid fd
 
--- a process was given this descriptor for an open file, and nothing was changed since
+-- a process was given this descriptor for a new open file, and nothing was changed since
 pub record WasOpened (before : Table) (pid fd : ℕ) (after : Table) : Type 0 where
   pub has : has_table before pid ≡ true
   pub whole : IsWhole before.processes (length before.files)

@@ -15,13 +15,13 @@ use std::collections::BTreeMap;
 use std::marker::Model;
 use thiserror::Error;
 
-/// Why a descriptor could not be given.
+/// Why a call on descriptors failed.
 #[derive(Clone, Copy, Debug, PartialEq, Eq, Drop, Error)]
 pub enum FdFault {
     /// The call fails with this error.
     #[error("the call fails")]
     Os(Errno),
-    /// There is no memory for the open file.
+    /// Out of memory for the open file.
     #[error("out of memory")]
     NoMemory,
 }
@@ -36,12 +36,12 @@ impl From<AllocError> for FdFault {
     }
 }
 
-/// The descriptors of every process, from 0 to 63, and the open files that they share. A port is held while some descriptor of
-/// some process leads to the socket that is bound to it.
+/// The descriptors of every process, from 0 to 63, and the open files that they share. A port is in use while some descriptor of
+/// some process refers to the socket that is bound to it.
 #[derive(Debug, Drop)]
 pub struct Fds {
     processes: BTreeMap<Pid, Places>,
-    // Those that were ever opened: a descriptor's number is a place here.
+    // All open files so far. The number of an open file is its index here.
     files: Vec<OpenFile>,
 }
 
@@ -59,7 +59,7 @@ impl Model for Fds {
 }
 
 impl Fds {
-    /// No process has a table, which takes no memory.
+    /// Descriptors without a process that has a table, which take no memory.
     pub fn new(alloc: Global) -> Self
         ensures processes { result.processes ≡ [] }
         ensures files { result.files ≡ [] }
@@ -70,7 +70,7 @@ impl Fds {
         }
     }
 
-    /// The open file of a descriptor, as it is now; none exactly where it isn't open.
+    /// The open file of a descriptor, as it is now; `None` exactly when the descriptor isn't open.
     pub fn get(&self, pid: Pid, fd: u64) -> Option<OpenFile>
         requires { has_table self.now pid ≡ true }
         ensures file { result ≡ file_at self.now pid fd }
@@ -82,7 +82,7 @@ impl Fds {
         }
     }
 
-    // The number of the open file that a descriptor leads to.
+    // The number of the open file that a descriptor refers to.
     fn number(&self, pid: Pid, fd: u64) -> Option<usize>
         requires { has_table self.now pid ≡ true }
         ensures number { result ≡ file_number_at self.now pid fd }
@@ -97,7 +97,7 @@ impl Fds {
         }
     }
 
-    // The open file of a descriptor and its number; that it isn't open.
+    // The number of a descriptor's open file, and that file; EBADF if the descriptor isn't open.
     fn find(&self, pid: Pid, fd: u64) -> Result<(usize, OpenFile), Errno>
         requires { has_table self.now pid ≡ true }
         ensures number { IfOk result (λ found. file_number_at self.now pid fd ≡ Some found.0) }
@@ -111,7 +111,7 @@ impl Fds {
         }
     }
 
-    // The least descriptor that is free; none where all are open.
+    // The least free descriptor; `None` if all are open.
     fn least_free(&self, pid: Pid) -> Option<usize>
         requires { has_table self.now pid ≡ true }
         ensures value { result ≡ least_free self.now pid }
@@ -130,7 +130,7 @@ impl Fds {
         self.least_free(pid).is_none()
     }
 
-    /// Gives a process without a table the console as its descriptors 0, 1 and 2, each an open file of its own. Without memory
+    /// Gives a process without a table the console as its descriptors 0, 1 and 2, each with its own open file. If memory runs out,
     /// nothing changes.
     pub fn start(&mut self, pid: Pid) -> Result<(), AllocError>
         requires { has_table self.old pid ≡ false }
@@ -151,8 +151,8 @@ impl Fds {
         Ok(())
     }
 
-    /// Gives a process without a table the descriptors of another, which share their open files, as fork(2) does. Without
-    /// memory nothing changes.
+    /// Gives a process without a table the descriptors of another process, which share their open files, as fork(2) does. If memory
+    /// runs out, nothing changes.
     pub fn copy(&mut self, from: Pid, to: Pid) -> Result<(), AllocError>
         requires from { has_table self.old from ≡ true }
         requires to { has_table self.old to ≡ false }
@@ -165,7 +165,7 @@ impl Fds {
         Ok(())
     }
 
-    /// Takes back the table that `copy` made, where nothing was changed since: all is then as before.
+    /// Removes the table that `copy` made. If nothing was changed since, all is as before the copy.
     pub fn uncopy(&mut self, to: Pid)
         requires { has_table self.old to ≡ true }
         ensures table { self.new ≡ table_after_uncopy self.old to }
@@ -175,8 +175,8 @@ impl Fds {
         self.processes.remove(&to);
     }
 
-    /// Leads the least free descriptor to a new open file, and gives its number. EMFILE where all 64 are open, and then
-    /// NoMemory; after either nothing changes.
+    /// Makes the least free descriptor refer to a new open file, and returns its number. EMFILE if all 64 are open, otherwise
+    /// NoMemory if memory runs out; after either error nothing has changed.
     pub fn open(&mut self, pid: Pid, file: OpenFile) -> Result<u32, FdFault>
         requires { has_table self.old pid ≡ true }
         ensures descriptor { IfOk result (λ fd. least_free self.old pid ≡ Some fd) }
@@ -198,7 +198,7 @@ impl Fds {
         Ok(least as u32)
     }
 
-    /// Takes back the descriptor that `open` gave, where nothing was changed since: all is then as before.
+    /// Removes the descriptor that `open` gave. Nothing may have changed since; all is then as before the open.
     pub fn unopen(&mut self, pid: Pid, fd: u32)
         requires { (before : Table) × WasOpened before pid fd self.old }
         ensures { (before : Table) → WasOpened before pid fd self.old → self.new ≡ before }
@@ -207,8 +207,8 @@ impl Fds {
         self.files.pop();
     }
 
-    /// Leads the least free descriptor to the open file of this one too, and gives its number, as dup(2) does. It
-    /// takes no memory. EBADF where this one isn't open, then EMFILE where all 64 are.
+    /// Makes the least free descriptor refer to the open file of this descriptor too, and returns its number, as dup(2) does. Takes
+    /// no memory. EBADF if this descriptor isn't open, otherwise EMFILE if all 64 are.
     pub fn dup(&mut self, pid: Pid, fd: u64) -> Result<u32, FdFault>
         requires { has_table self.old pid ≡ true }
         ensures answer { result ≡ dup_result self.old pid fd }
@@ -227,7 +227,7 @@ impl Fds {
         Ok(least as u32)
     }
 
-    /// Frees a descriptor, as close(2) does. EBADF where it isn't open.
+    /// Closes a descriptor, as close(2) does. EBADF if it isn't open.
     pub fn close(&mut self, pid: Pid, fd: u64) -> Result<(), Errno>
         requires { has_table self.old pid ≡ true }
         ensures answer { result ≡ result_of_refusal (close_refused self.old pid fd) }
@@ -241,7 +241,7 @@ impl Fds {
         Ok(())
     }
 
-    /// Frees all descriptors of a process, which keeps its table.
+    /// Closes all descriptors of a process, which keeps its table.
     pub fn close_all(&mut self, pid: Pid)
         requires { has_table self.old pid ≡ true }
         ensures table { self.new ≡ table_after_close_all self.old pid }
@@ -250,7 +250,8 @@ impl Fds {
         places::put(&mut self.processes, pid, [None; DESCRIPTORS]);
     }
 
-    /// Sets the offset of a descriptor's open file, in bytes, for all that share it. EBADF where it isn't open.
+    /// Sets the offset of a descriptor's open file, in bytes, for all descriptors that share the file. EBADF if the descriptor
+    /// isn't open.
     pub fn seek(&mut self, pid: Pid, fd: u64, offset: u64) -> Result<(), Errno>
         requires { has_table self.old pid ≡ true }
         ensures answer { result ≡ result_of_refusal (seek_refused self.old pid fd) }
@@ -262,8 +263,8 @@ impl Fds {
         Ok(())
     }
 
-    /// Gives the socket of a descriptor a port, as bind(2) does. EBADF where it isn't open, then EINVAL where it is no socket,
-    /// has a port already or the port is 0, then EADDRINUSE where an open socket has the port.
+    /// Gives the socket of a descriptor a port, as bind(2) does. EBADF if the descriptor isn't open. Otherwise EINVAL if its file
+    /// isn't a socket, if the socket has a port already, or if the port is 0. Otherwise EADDRINUSE if an open socket has the port.
     pub fn bind(&mut self, pid: Pid, fd: u64, port: u16) -> Result<(), Errno>
         requires { has_table self.old pid ≡ true }
         ensures answer { result ≡ result_of_refusal (bind_refused self.old pid fd port) }
@@ -292,8 +293,8 @@ impl Fds {
         Ok(())
     }
 
-    /// Connects the socket of a descriptor to a port, as connect(2) does. EBADF where it isn't open, then EINVAL where it is no
-    /// socket or is connected, then ECONNREFUSED where no open socket has the port.
+    /// Connects the socket of a descriptor to a port, as connect(2) does. EBADF if the descriptor isn't open. Otherwise EINVAL if
+    /// its file isn't a socket or is connected. Otherwise ECONNREFUSED if no open socket has the port.
     pub fn connect(&mut self, pid: Pid, fd: u64, port: u16) -> Result<(), Errno>
         requires { has_table self.old pid ≡ true }
         ensures answer { result ≡ result_of_refusal (connect_refused self.old pid fd port) }

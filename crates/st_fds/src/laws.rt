@@ -1,6 +1,7 @@
 ghost use Rattle.st_fds.specs.Laws.{ChildrenShare, DuplicatesShare, OffsetsAreShared, OthersStay};
 
-/// What dup(2) and fork(2) make shares the open file: an offset moves for all descriptors that lead to it, and for no other.
+/// Descriptors made by dup(2) and fork(2) share the open file: an offset changes for all descriptors that refer to the file, and
+/// for no others.
 pub fn open_files_are_shared()
     ensures duplicates { DuplicatesShare }
     ensures children { ChildrenShare }

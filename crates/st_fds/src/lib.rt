@@ -1,4 +1,4 @@
-//! The descriptors of modelled processes: shared open files, and the ports that sockets hold.
+//! The file descriptors of modelled processes: shared open files, and the ports that sockets hold.
 #![tactic(auto)]
 
 pub mod fds;

@@ -11,17 +11,17 @@ use st_base::Pid;
 use st_model::{DESCRIPTORS, FileKind, OpenFile};
 use std::collections::BTreeMap;
 
-/// For each descriptor of a process the number of its open file; none where it is free.
+/// For each descriptor of a process, the number of its open file; `None` if the descriptor is free.
 pub type Places = [Option<usize>; DESCRIPTORS];
 
-/// The least descriptor that is free.
+/// The least free descriptor; `None` if all are open.
 pub fn least_free(places: &[Option<usize>]) -> Option<usize>
     ensures { result ≡ position is_none places.now }
 {
     places.iter().position(|place| place.is_none())
 }
 
-/// The places of a process that has a table.
+/// The descriptors of a process that has a table.
 pub fn places_of(processes: &BTreeMap<Pid, Places>, pid: Pid) -> &Places
     requires { is_some (lookup (is_at (nat_cmp pid)) processes.now.entries) ≡ true }
     ensures { result.now ≡ places_in processes.now.entries pid }
@@ -32,7 +32,7 @@ pub fn places_of(processes: &BTreeMap<Pid, Places>, pid: Pid) -> &Places
     }
 }
 
-/// Leads a descriptor of a process that has a table there.
+/// Makes a descriptor of a process that has a table refer to the open file of this number, or frees it.
 pub fn set_place(processes: &mut BTreeMap<Pid, Places>, pid: Pid, fd: usize, number: Option<usize>)
     requires has { is_some (lookup (is_at (nat_cmp pid)) processes.old.entries) ≡ true }
     requires within { fd < DESCRIPTORS }
@@ -45,7 +45,7 @@ pub fn set_place(processes: &mut BTreeMap<Pid, Places>, pid: Pid, fd: usize, num
     }
 }
 
-/// Gives a process that has a table other places, which takes no memory.
+/// Replaces the descriptors of a process that has a table, which takes no memory.
 pub fn put(processes: &mut BTreeMap<Pid, Places>, pid: Pid, places: Places)
     requires { is_some (lookup (is_at (nat_cmp pid)) processes.old.entries) ≡ true }
     ensures entries { processes.new.entries ≡ insert_entry nat_cmp processes.old.entries pid places }
@@ -54,14 +54,14 @@ pub fn put(processes: &mut BTreeMap<Pid, Places>, pid: Pid, places: Places)
     let _ = processes.insert(pid, places);
 }
 
-/// The open file of this number.
+/// The open file of this number, if it exists.
 pub fn file_of_number(files: &[OpenFile], number: Option<usize>) -> Option<OpenFile>
     ensures { result ≡ file_of_number files.now number }
 {
     files.get(number?).copied()
 }
 
-/// Whether the open file of this number is there and is bound to this port.
+/// Whether the open file of this number exists and is bound to this port.
 pub fn is_bound_to(files: &[OpenFile], number: Option<usize>, port: u16) -> bool
     ensures { result ≡ is_bound_to port (file_of_number files.now number) }
 {
@@ -79,7 +79,7 @@ pub fn is_bound_to(files: &[OpenFile], number: Option<usize>, port: u16) -> bool
     }
 }
 
-/// Whether one of these places leads to an open file that is bound to this port.
+/// Whether one of these descriptors refers to an open file that is bound to this port.
 pub fn has_bound_file(files: &[OpenFile], port: u16, places: &[Option<usize>]) -> bool
     ensures { result ≡ has_bound_file files.now port places.now }
 {

@@ -1,4 +1,4 @@
--- The bytes of spaces once a word is written or a space is added, and the words that bytes make.
+-- The bytes of spaces after a word is written or a space is added, and the words that bytes form.
 use Rattle.std.proofs.Common.{zero, suc, ◌≡◌, ℕ, ◌+◌, ◌-◌, ◌*◌, ◌/◌, ◌%◌, ◌^◌, ◌<◌, ◌≤◌, inl, inr, Bool, true, false, cond, List, ◌++◌, length, get_or, set, take, drop, replicate, eqb, length-append, length-drop, refl, ap, sym, ◌∙◌, arith}
 use Rattle.std.proofs.lemmas.Bool.Decides.{leb_tells}
 use Rattle.std.proofs.lemmas.Bool.{cases_eq, eq-eqb, ne_eqb, cond-true, cond-false}
@@ -19,25 +19,25 @@ under_cond : {A B : Type 0} (f : A → B) (e : Bool) (x y : A) → f (cond e x y
 under_cond f true x y = refl
 under_cond f false x y = refl
 
--- a word written at a place
+-- the bytes after a word is written at an index
 pub byte_of-set : (words : List ℕ) (place word b : ℕ) → place < length words → byte_of (set words place word) b ≡ bytes_after_store (byte_of words) place word b
 byte_of-set words place word b inside =
     let f : ℕ → ℕ = λ (w : ℕ). get_or (to_le_bytes w64 w) (b % 8) 0 in
     ap f (get_or-set words place word (b / 8) 0 inside) ∙ under_cond f (eqb (b / 8) place) word (get_or words (b / 8) 0)
 
--- byte k of a place
+-- byte k of the word at an index
 byte_of-at : (words : List ℕ) (place k b : ℕ) → k < 8 → b ≡ 8 * place + k → byte_of words b ≡ get_or (to_le_bytes w64 (get_or words place 0)) k 0
 byte_of-at words place k b low is =
     let row : b / 8 ≡ place = omega arith in
     let column : b % 8 ≡ k = omega arith in
     rw (row, column)
 
--- the eight bytes of a place
+-- the eight bytes of the word at an index
 bytes_from-place : (words : List ℕ) (place : ℕ) → bytes_from (byte_of words) (8 * place) 8 ≡ to_le_bytes w64 (get_or words place 0)
 bytes_from-place words place = ext_get_or 0 (bytes_from (byte_of words) (8 * place) 8) (to_le_bytes w64 (get_or words place 0)) refl (λ i low.
     get_or-map-range_with_len (byte_of words) (8 * place) 8 i (8 * place + i) 0 low refl ∙ byte_of-at words place i (8 * place + i) low refl)
 
--- the word at a place, from its bytes
+-- the word at an index, from its bytes
 pub word_of-byte_of : (words : List ℕ) (place : ℕ) → get_or words place 0 < 2 ^ 64 → get_or words place 0 ≡ word_of (byte_of words) place
 word_of-byte_of words place fits = sym (ap (from_le_bytes w64) (bytes_from-place words place) ∙ from_le_bytes-to_le_bytes_8 (get_or words place 0) fits)
 
@@ -46,11 +46,11 @@ zeros-at zero k = refl
 zeros-at (suc n) zero = refl
 zeros-at (suc n) (suc k) = zeros-at n k
 
--- words of zero are bytes of zero
+-- all bytes of words of zero are 0
 pub byte_of-zeros : (n b : ℕ) → byte_of (replicate n 0) b ≡ 0
 byte_of-zeros n b = ap (λ (w : ℕ). get_or (to_le_bytes w64 w) (b % 8) 0) (zeros-at n (b / 8)) ∙ zeros-at 8 (b % 8)
 
--- bytes, and then those that follow them
+-- n bytes followed by the next m bytes
 more_bytes : (f : ℕ → ℕ) (at n m : ℕ) (ys : List ℕ) → length ys ≡ m → ((i : ℕ) → i < m → get_or ys i 0 ≡ f (at + n + i)) → bytes_from f at n ++ ys ≡ bytes_from f at (n + m)
 more_bytes f at n m ys size each =
     let first : length (bytes_from f at n) ≡ n = length-map-range_with_len f at n in
@@ -61,7 +61,7 @@ more_bytes f at n m ys size each =
       | inr less ↦ let before : i < n = less.1 in get_or_append_left (bytes_from f at n) ys 0 i (omega (arith, before, first)) ∙ get_or-map-range_with_len f at n i (at + i) 0 before refl ∙ sym (get_or-map-range_with_len f at (n + m) i (at + i) 0 inside refl)
     ])
 
--- the bytes of a part of one word more
+-- the bytes so far, followed by those of a part of one more word
 pub bytes_from-part : (words : List ℕ) (at done width n from word : ℕ) (text part more : List ℕ) → text ≡ bytes_from (byte_of words) at done → word ≡ get_or words ((at + done) / 8) 0 → part ≡ to_le_bytes w64 word
     → from ≡ (at + done) % 8 → from + width ≤ 8 → n ≡ width → more ≡ text ++ take n (drop from part) → more ≡ bytes_from (byte_of words) at (done + width)
 bytes_from-part words at done width n from word text part more so_far word_is part_is from_is low n_is is =

@@ -1,4 +1,4 @@
--- Which words and bytes a space has once one is made, written, given up or unmade.
+-- Which words and bytes a space has after one is made, written, given up or unmade.
 use Rattle.std.proofs.Common.{zero, suc, ◌≡◌, ◌≢◌, ℕ, ◌-◌, ◌<◌, ◌≤◌, inl, inr, Bool, true, false, cond, ◌==◌, List, [], ◌∷◌, ◌++◌, length, get_or, set, take, Option, Some, None, refl, ap, sym, ◌∙◌, arith, subst}
 use Rattle.std.proofs.lemmas.Bool.{cases_eq, eq-eqb, ne_eqb, true≢false}
 use Rattle.std.proofs.lemmas.List.{get_or-set_same, get_or-set_other, get_or_push, get_or_read, length-take}
@@ -20,7 +20,7 @@ pushed_other [] y d (suc s) ne = refl
 pushed_other (x ∷ xs) y d zero ne = refl
 pushed_other (x ∷ xs) y d (suc s) ne = pushed_other xs y d s (λ e. ne (ap suc e))
 
--- the item that was added has the next number
+-- an item that is appended has the next number
 pub at_number-push : {X : Type 0} (d : X) (xs : List X) (y : X) (s : ℕ) → item_at_number_or d (xs ++ y ∷ []) s ≡ cond (s == suc (length xs)) y (item_at_number_or d xs s)
 at_number-push d xs y s = elim (cases_eq s (suc (length xs))) [
   | inl e ↦ rw (eq-eqb s (suc (length xs)) e) (ap (item_at_number_or d (xs ++ y ∷ [])) e ∙ get_or_push xs y d (length xs) refl)
@@ -43,7 +43,7 @@ cut_other d (x ∷ y ∷ xs) zero (suc k) size ne = absurd (omega (arith, size))
 cut_other d (x ∷ xs) (suc n) zero size ne = refl
 cut_other d (x ∷ xs) (suc n) (suc k) size ne = cut_other d xs n k (omega (arith, size)) (λ e. ne (ap suc e))
 
--- the last item is taken away
+-- the last item is removed
 pub at_number-cut : {X : Type 0} (d : X) (xs : List X) (last s : ℕ) → 1 ≤ last → last ≡ length xs → item_at_number_or d (take (last - 1) xs) s ≡ cond (s == last) d (item_at_number_or d xs s)
 at_number-cut d xs zero s low is = absurd (omega arith)
 at_number-cut d xs (suc n) s low is = let same : suc n - 1 ≡ n = omega arith in rw same (elim (cases_eq s (suc n)) [
@@ -61,12 +61,12 @@ within [] i is = absurd (true≢false (sym is))
 within (x ∷ spaces) zero is = omega arith
 within (x ∷ spaces) (suc i) is = omega (arith, within spaces i is)
 
--- a space that is there has one of the numbers that were given
+-- a space that exists has one of the numbers that were given
 pub live_within : (spaces : Memories) (space : ℕ) → is_live spaces space ≡ true → (1 ≤ space) × (space ≤ length spaces)
 live_within spaces zero is = absurd (true≢false (sym is))
 live_within spaces (suc i) is = (omega arith, omega (arith, within spaces i is))
 
--- what stands at its place
+-- the item at the index of a live space is its words
 pub words-place : (spaces : Memories) (space : ℕ) (o : Option (List ℕ)) → is_live spaces space ≡ true → o ≡ get_or spaces (space - 1) o → words_at spaces space ≡ o
 words-place spaces zero o live is = absurd (true≢false (sym live))
 words-place spaces (suc i) o live is =
@@ -77,26 +77,26 @@ under_cond : {A B : Type 0} (f : A → B) (b : Bool) (x y : A) → f (cond b x y
 under_cond f true x y = refl
 under_cond f false x y = refl
 
--- a space more has its bytes, and each other its own
+-- an appended space has its bytes, and each other space its own
 pub byte_in-push : (spaces : Memories) (o : Option (List ℕ)) (s b : ℕ) → byte_in (spaces ++ o ∷ []) s b ≡ cond (s == next_space spaces) (byte_of (unwrap_or o []) b) (byte_in spaces s b)
 byte_in-push spaces o s b =
     ap (λ (o : Option (List ℕ)). byte_of (unwrap_or o []) b) (at_number-push None spaces o s) ∙ under_cond (λ (o : Option (List ℕ)). byte_of (unwrap_or o []) b) (s == next_space spaces) o (words_at spaces s)
 
--- a space more of zeros has the bytes of one that isn't there
+-- an appended space of zeros has the bytes of a space that doesn't exist
 pub byte_in-made : (spaces : Memories) (s b : ℕ) → byte_in (spaces ++ Some zeros ∷ []) s b ≡ byte_in spaces s b
 byte_in-made spaces s b = byte_in-push spaces (Some zeros) s b ∙ elim (cases_eq s (next_space spaces)) [
   | inl e ↦ rw (eq-eqb s (next_space spaces) e) (byte_of-zeros 8192 b ∙ sym (ap (λ (n : ℕ). byte_in spaces n b) e ∙ ap (λ (o : Option (List ℕ)). byte_of (unwrap_or o []) b) (get_or-eq_default spaces None (omega arith)) ∙ byte_of-zeros 0 b))
   | inr ne ↦ rw (ne_eqb s (next_space spaces) ne) refl
 ]
 
--- a space fewer has no bytes, and each other its own
+-- a removed space has no bytes, and each other space its own
 pub byte_in-cut : (spaces : Memories) (last s b : ℕ) → 1 ≤ last → last ≡ length spaces → byte_in (take (last - 1) spaces) s b ≡ cond (s == last) 0 (byte_in spaces s b)
 byte_in-cut spaces last s b low is =
     ap (λ (o : Option (List ℕ)). byte_of (unwrap_or o []) b) (at_number-cut None spaces last s low is)
     ∙ under_cond (λ (o : Option (List ℕ)). byte_of (unwrap_or o []) b) (s == last) None (words_at spaces s)
     ∙ ap (λ (x : ℕ). cond (s == last) x (byte_in spaces s b)) (byte_of-zeros 0 b)
 
--- what is made of one space's bytes is made of no other's
+-- a change of one space's bytes changes no other space's
 pub byte_in-put : (change : (ℕ → ℕ) → ℕ → ℕ) (spaces : Memories) (space : ℕ) (o : Option (List ℕ)) (page new : List ℕ) → is_live spaces space ≡ true → o ≡ get_or spaces (space - 1) o → o ≡ Some page
     → ((b : ℕ) → byte_of new b ≡ change (byte_of page) b) → (s b : ℕ) → byte_in (set spaces (space - 1) (Some new)) s b ≡ cond (s == space) (change (byte_in spaces s) b) (byte_in spaces s b)
 byte_in-put change spaces space o page new live is some made s b =

@@ -9,7 +9,7 @@ use Rattle.st_memory.specs.Memory.{byte_of}
 use Rattle.st_model.specs.Memory.{bytes_after_put}
 use Rattle.st_memory.proofs.Bytes.{byte_of-set}
 
--- a byte that is put, one below them and one above
+-- a byte that is put, one below those that are put, and one above them
 put_in-inside : (before : ℕ → ℕ) (at : ℕ) (bytes : List ℕ) (b : ℕ) → at ≤ b → b < at + length bytes → bytes_after_put before at bytes b ≡ get_or bytes (b - at) 0
 put_in-inside before at bytes b low high =
     cond-true (nat_le at b && nat_lt b (at + length bytes)) (get_or bytes (b - at) 0) (before b)
@@ -25,14 +25,14 @@ put_in-above before at bytes b high =
     cond-false (nat_le at b && nat_lt b (at + length bytes)) (get_or bytes (b - at) 0) (before b)
     (and_right (nat_le at b) (nat_lt b (at + length bytes)) (le-ltb b (at + length bytes) high))
 
--- where b lies at a run of n from at on
+-- where b is relative to a run of n bytes from `at` on: below, inside or above
 lies : (at n b : ℕ) → (b < at) ⊎ (((at ≤ b) × (b < at + n)) ⊎ (at + n ≤ b))
 lies at n b = elim (cases_lt b at) [
   | inl low ↦ inl low
   | inr high ↦ elim (cases_lt b (at + n)) [ inl inside ↦ inr (inl (high, inside)) | inr past ↦ inr (inr past) ]
 ]
 
--- the bytes so far, and then more from where they end, are the bytes up to there
+-- the first `done` bytes are put, then those up to `end`: the first `end` bytes are put
 pub put_in-more : (before between : ℕ → ℕ) (at : ℕ) (bytes : List ℕ) (done end : ℕ) → done ≤ end → end ≤ length bytes
     → ((b : ℕ) → between b ≡ bytes_after_put before at (take done bytes) b) → (b : ℕ)
     → bytes_after_put between (at + done) (take (end - done) (drop done bytes)) b ≡ bytes_after_put before at (take end bytes) b
@@ -65,7 +65,7 @@ put_in-more before between at bytes done end order inside so_far b =
       ]
     ]
 
--- what is made of the one word into which the bytes fall is made of the page
+-- a change of the one word that contains all the bytes, as a change of the page
 pub byte_of-merged : (words : List ℕ) (place old word at : ℕ) (part : List ℕ) → old ≡ get_or words place 0 → place ≡ at / 8 → place < length words → at % 8 + length part ≤ 8
     → ((k : ℕ) → k < 8 → get_or (to_le_bytes w64 word) k 0 ≡ bytes_after_put (λ (n : ℕ). get_or (to_le_bytes w64 old) n 0) (at % 8) part k)
     → (b : ℕ) → byte_of (set words place word) b ≡ bytes_after_put (byte_of words) at part b
@@ -105,7 +105,7 @@ bytes-small i zero n k = omega arith
 bytes-small i (suc count) n zero = byte_at-small i n
 bytes-small i (suc count) n (suc k) = bytes-small (suc i) count n k
 
--- bytes written over a part of a list are put there
+-- bytes that overwrite a part of a list are put there
 put_mid-put_in : (old part : List ℕ) (from width k : ℕ) → from + width ≤ length old → length part ≡ width → get_or (put_mid from width old part) k 0 ≡ bytes_after_put (λ (n : ℕ). get_or old n 0) from part k
 put_mid-put_in old part from width k inside is =
     let was : ℕ → ℕ = λ (n : ℕ). get_or old n 0 in
@@ -129,7 +129,7 @@ put_in-small : (before : ℕ → ℕ) (at : ℕ) (bytes : List ℕ) (b : ℕ) �
 put_in-small before at bytes b old new =
     cond_both (nat_le at b && nat_lt b (at + length bytes)) (get_or bytes (b - at) 0) (before b) (λ (x : ℕ). x < 256) (λ e. new) (λ e. old)
 
--- the word of eight bytes of which some were written over
+-- the word of eight bytes of which some were overwritten
 pub merged-is : (word from width result : ℕ) (old part new : List ℕ) → old ≡ to_le_bytes w64 word → new ≡ part → length part ≡ width → from + width ≤ 8 → ((i : ℕ) → get_or part i 0 < 256)
     → result ≡ from_le_bytes w64 (put_mid from width old new)
     → (k : ℕ) → k < 8 → get_or (to_le_bytes w64 result) k 0 ≡ bytes_after_put (λ (n : ℕ). get_or (to_le_bytes w64 word) n 0) from part k

@@ -34,7 +34,7 @@ impl Page {
         })
     }
 
-    /// The word at a place.
+    /// The word at an index.
     pub fn word(&self, place: usize) -> u64
         requires { place < SPACE_WORDS }
         ensures { result ≡ word_of (byte_of self.now) place }
@@ -42,7 +42,7 @@ impl Page {
         self.words[place]
     }
 
-    /// So many bytes from this one on, a word at a time into room that is made once.
+    /// `count` bytes from offset `at` on, copied a word at a time into a vector that is allocated once.
     pub fn bytes(&self, alloc: Global, at: usize, count: usize) -> Result<Vec<u8>, AllocError>
         requires { 0 < count → at + count ≤ SPACE_BYTES }
         ensures { IfOk result (λ bytes. bytes.items ≡ bytes_from (byte_of self.now) at count) }
@@ -59,7 +59,7 @@ impl Page {
         Ok(bytes)
     }
 
-    /// An equal one in memory of its own.
+    /// A copy with its own memory.
     pub fn copy(&self, alloc: Global) -> Result<Self, AllocError>
         ensures { IfOk result (λ page. page ≡ self.now) }
     {
@@ -68,7 +68,7 @@ impl Page {
         })
     }
 
-    /// Stores a word at a place.
+    /// Stores a word at an index.
     pub fn put_word(&mut self, place: usize, word: u64)
         requires { place < SPACE_WORDS }
         ensures { (b : ℕ) → byte_of self.new b ≡ bytes_after_store (byte_of self.old) place word b }
@@ -86,7 +86,7 @@ impl Page {
         self.words[place] = merged(self.words[place], at % 8, part);
     }
 
-    /// Puts bytes from this one on, a word at a time.
+    /// Puts bytes at an offset, a word at a time.
     pub fn put_bytes(&mut self, at: usize, bytes: &[u8])
         requires { 0 < length bytes.now → at + length bytes.now ≤ SPACE_BYTES }
         ensures { (b : ℕ) → byte_of self.new b ≡ bytes_after_put (byte_of self.old) at bytes.now b }
@@ -101,7 +101,7 @@ impl Page {
     }
 }
 
-// A word with some of its bytes replaced, from this one on.
+// A word with `part` in place of its bytes from index `from` on.
 fn merged(word: u64, from: usize, part: &[u8]) -> u64
     requires { from + length part.now ≤ 8 }
     ensures { (k : ℕ) → k < 8 → slice_index (to_le_bytes w64 result) k ≡ bytes_after_put (slice_index (to_le_bytes w64 word)) from part.now k }

@@ -12,10 +12,10 @@ use thiserror::Error;
 /// Why memory could not be read or written.
 #[derive(Clone, Copy, Debug, PartialEq, Eq, Drop, Error)]
 pub enum MemFault {
-    /// Something past the end of the space is meant.
+    /// The access reaches past the end of the space.
     #[error("past the end of the memory")]
     Outside,
-    /// There is no memory for the answer.
+    /// Out of memory for the result.
     #[error("out of memory")]
     NoMemory,
 }
@@ -30,11 +30,11 @@ impl From<AllocError> for MemFault {
     }
 }
 
-/// The memories of processes: each space has 8,192 words, little-endian, and is named by its number, from 1. A number is given
+/// The memories of processes. Each space has 8,192 words, little-endian, and is named by its number, from 1. A number is given
 /// once, unless its space is unmade.
 #[derive(Debug, Drop)]
 pub struct Spaces {
-    // Space s stands at s - 1; where it was given up, nothing does.
+    // Space s is at index s - 1; the entry of a space that was given up is `None`.
     pages: Vec<Option<Page>>,
 }
 
@@ -47,7 +47,7 @@ impl Model for Spaces {
 }
 
 impl Spaces {
-    /// No spaces, which takes no memory.
+    /// Memories without a space, which take no memory.
     pub fn new(alloc: Global) -> Self
         ensures { result ≡ [] }
     {
@@ -56,7 +56,7 @@ impl Spaces {
         }
     }
 
-    /// Makes a space of zeros; its number is one more than that of the space made before. Without memory nothing changes.
+    /// Makes a space of zeros. Its number is one more than that of the space made before. If memory runs out, nothing changes.
     pub fn make(&mut self, alloc: Global) -> Result<Space, AllocError>
         requires { next_space self.old < 2 ^ 32 }
         ensures number { IfOk result (λ space. space ≡ next_space self.old) }
@@ -72,8 +72,8 @@ impl Spaces {
         Ok(self.pages.len() as Space)
     }
 
-    /// Makes a space with the bytes of this one, as fork(2) does; its number is one more than that of the space made before.
-    /// Without memory nothing changes.
+    /// Makes a copy of a space, as fork(2) does. Its number is one more than that of the space made before. If memory runs out,
+    /// nothing changes.
     pub fn copy_space(&mut self, alloc: Global, from: Space) -> Result<Space, AllocError>
         requires live { is_live self.old from ≡ true }
         requires room { next_space self.old < 2 ^ 32 }
@@ -89,7 +89,7 @@ impl Spaces {
         Ok(self.pages.len() as Space)
     }
 
-    /// Frees the memory of a space, whose number names none from then on.
+    /// Frees the memory of a space. From then on its number names no space.
     pub fn give_up(&mut self, space: Space)
         requires { is_live self.old space ≡ true }
         ensures spaces { self.new ≡ spaces_after_give_up self.old space }
@@ -100,8 +100,8 @@ impl Spaces {
         self.pages[space as usize - 1] = None;
     }
 
-    /// Takes back the space that was made last, where nothing was written since: all is then as before it was made, and its
-    /// number is the next one again.
+    /// Removes the space that was made last; its number is the next one again. If nothing was written since, all is as before the
+    /// space was made.
     pub fn unmake(&mut self, space: Space)
         requires live { is_live self.old space ≡ true }
         requires last { suc space ≡ next_space self.old }
@@ -124,7 +124,7 @@ impl Spaces {
         }
     }
 
-    /// The word at a place of a space.
+    /// The word at an index of a space; `None` exactly when the index is past the end.
     pub fn word(&self, space: Space, place: u32) -> Option<u64>
         requires { is_live self.now space ≡ true }
         ensures none { IsNone result ↔ (SPACE_WORDS ≤ place) }
@@ -137,7 +137,7 @@ impl Spaces {
         }
     }
 
-    /// Stores a word at a place of a space, and changes nothing else.
+    /// Stores a word at an index of a space, and changes nothing else.
     pub fn put_word(&mut self, space: Space, place: u32, word: u64) -> Result<(), MemFault>
         requires { is_live self.old space ≡ true }
         ensures ok { OnOk result ((s b : ℕ) → byte_in self.new s b ≡ memory_after_store (byte_in self.old) space place word s b) }
@@ -156,7 +156,7 @@ impl Spaces {
         Ok(())
     }
 
-    /// Puts bytes into a space, from this byte on, and changes nothing else.
+    /// Puts bytes into a space at an offset, and changes nothing else.
     pub fn put_bytes(&mut self, space: Space, at: u64, bytes: &[u8]) -> Result<(), MemFault>
         requires { is_live self.old space ≡ true }
         ensures ok { OnOk result ((s b : ℕ) → byte_in self.new s b ≡ memory_after_put (byte_in self.old) space at bytes.now s b) }
@@ -175,7 +175,7 @@ impl Spaces {
         Ok(())
     }
 
-    /// So many bytes of a space, from this one on.
+    /// `count` bytes of a space from offset `at` on.
     pub fn bytes(&self, alloc: Global, space: Space, at: u64, count: u64) -> Result<Text, MemFault>
         requires { is_live self.now space ≡ true }
         ensures ok { IfOk result (λ text. text ≡ bytes_from (byte_in self.now space) at count) }
@@ -189,7 +189,7 @@ impl Spaces {
     }
 }
 
-// Whether one of so many bytes, from this one on, lies past the end of a space.
+// Whether one of `count` bytes from offset `at` on is past the end of a space.
 fn is_outside(at: u64, count: u64) -> bool
     ensures { IsTrue result ↔ IsOutside at count }
 {

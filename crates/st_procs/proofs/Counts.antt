@@ -1,4 +1,4 @@
--- The counts of threads stay right as processes start, and as threads start and end.
+-- The counts of threads stay right when processes start, and when threads start and end.
 use Rattle.std.proofs.Common.{◌≡◌, ◌≢◌, zero, suc, ℕ, ◌+◌, ◌-◌, ◌^◌, ◌<◌, ◌≤◌, Bool, true, false, cond, List, [], ◌∷◌, ◌++◌, Some, None, inl, inr, length, refl, ap, sym, ◌∙◌, arith}
 use Rattle.std.proofs.Math.ListN.{get_or-eq_default}
 use Rattle.std.proofs.lemmas.Bool.{cases_eq, cases_lt, eq-eqb, ne_eqb}
@@ -31,20 +31,20 @@ abbrev counts-one : (StartedThread → Bool) → StartedThread → ℕ
 counts-one p thread = cond (p thread) 1 0
 
 module _ (es : List (ℕ × StartedThread)) (tid : ℕ) (thread : StartedThread) (ordered : IsStrictlySortedBy nat_cmp (keys_of es)) where
-  -- a thread is put in where none was
+  -- a thread is inserted where none was
   put_in : (p : StartedThread → Bool) → lookup (is_at (nat_cmp tid)) es ≡ None → count_by p (values_of (insert_entry nat_cmp es tid thread)) ≡ count_by p (values_of es) + cond (p thread) 1 0
   put_in p none =
       let total : sum_by (counts-one p) (values_of (insert_entry nat_cmp es tid thread)) + unwrap_or (option_map (counts-one p) (lookup (is_at (nat_cmp tid)) es)) 0 ≡ sum_by (counts-one p) (values_of es) + counts-one p thread = sum_by-insert_entry (counts-one p) nat_cmp_total es tid thread ordered in
       let now = rw none at total in
       omega (arith, now)
 
-  -- or in place of another
+  -- a thread replaces another
   put_over : (p : StartedThread → Bool) (before : StartedThread) → lookup (is_at (nat_cmp tid)) es ≡ Some before → count_by p (values_of (insert_entry nat_cmp es tid thread)) + cond (p before) 1 0 ≡ count_by p (values_of es) + cond (p thread) 1 0
   put_over p before is =
       let total : sum_by (counts-one p) (values_of (insert_entry nat_cmp es tid thread)) + unwrap_or (option_map (counts-one p) (lookup (is_at (nat_cmp tid)) es)) 0 ≡ sum_by (counts-one p) (values_of es) + counts-one p thread = sum_by-insert_entry (counts-one p) nat_cmp_total es tid thread ordered in
       rw is at total
 
--- one that is found is counted
+-- a thread that is found and passes the test is counted
 pub found : (p : StartedThread → Bool) (es : List (ℕ × StartedThread)) (tid : ℕ) (thread : StartedThread) → lookup (is_at (nat_cmp tid)) es ≡ Some thread → p thread ≡ true → 0 < count_by p (values_of es)
 found p es tid thread is passes =
     let total : sum_by (counts-one p) (values_of (remove_entry (is_at (nat_cmp tid)) es)) + unwrap_or (option_map (counts-one p) (lookup (is_at (nat_cmp tid)) es)) 0 ≡ sum_by (counts-one p) (values_of es) = sum_by-remove_entry (counts-one p) (is_at (nat_cmp tid)) es in
@@ -53,7 +53,7 @@ found p es tid thread is passes =
 
 -- ---- the counts of a process
 
--- a number that counts a thread is a process's
+-- a number with a thread in its counts is that of a process
 there : (counts : List ThreadCounts) (pid : ℕ) → 0 < (item_at_number_or no_threads counts pid).begun → (0 < pid) × (pid ≤ length counts)
 there counts zero some = absurd (omega (arith, some))
 there counts (suc k) some = elim (cases_lt k (length counts)) [
@@ -66,13 +66,13 @@ length-put xs zero x = refl
 length-put xs (suc k) x = length-set xs k x
 
 module _ (counts : List ThreadCounts) (es : List (ℕ × StartedThread)) (are : AreCounted counts es) where
-  -- the process of a thread is there
+  -- the process of a thread exists
   pub known : (tid : ℕ) (thread : StartedThread) → lookup (is_at (nat_cmp tid)) es ≡ Some thread → (0 < thread.pid) × (thread.pid ≤ length counts)
   known tid thread is =
       let some = found (is_thread_of thread.pid) es tid thread is (eq-eqb thread.pid thread.pid refl) in
       there counts thread.pid (let now : 0 < (item_at_number_or no_threads counts thread.pid).begun = rw (are.counted thread.pid) some in now)
 
-  -- numbers of threads are few
+  -- there are at most 2 ^ 32 threads
   pub fits : (p : StartedThread → Bool) → count_by p (values_of es) ≤ 2 ^ 32
   fits p = omega (arith, count_by-le-length p (values_of es), length-values_of es, length-keys_of es, length-le_from_below (2 ^ 32) (keys_of es) are.ordered are.tids)
 
@@ -97,7 +97,7 @@ module _ (counts : List ThreadCounts) (es : List (ℕ × StartedThread)) (are : 
     abbrev fresh : StartedThread
     fresh = record { pid = pid; ended = false }
 
-    -- a thread starts
+    -- the counts of a thread's process after the thread starts
     own : pair ((item_at_number_or no_threads counts pid).begun + 1) ((item_at_number_or no_threads counts pid).running + 1) ≡ count_in new pid
     own =
         let was = are.counted pid in
@@ -127,7 +127,7 @@ module _ (counts : List ThreadCounts) (es : List (ℕ × StartedThread)) (are : 
       few = omega (arith, are.few, length-put counts pid (pair ((item_at_number_or no_threads counts pid).begun + 1) ((item_at_number_or no_threads counts pid).running + 1)));
     }
 
-    -- with its process
+    -- a thread starts together with its process
     pub forked : (counts_new : List ThreadCounts) → counts_new ≡ counts ++ pair 1 1 ∷ [] → pid ≡ suc (length counts) → suc (length counts) < 2 ^ 32 - 1 → AreCounted counts_new new
     forked counts_new is_counts is room =
         let nothing : item_at_number_or no_threads counts pid ≡ no_threads = rw is beyond in
@@ -142,11 +142,11 @@ module _ (counts : List ThreadCounts) (es : List (ℕ × StartedThread)) (are : 
           few = omega (arith, room, length-append counts (pair 1 1 ∷ []));
         }
 
-  -- of a thread that runs
+  -- a thread that runs
   module _ (tid pid : ℕ) (is : lookup (is_at (nat_cmp tid)) es ≡ Some (record { pid = pid; ended = false })) where
     -- ---- threads that end
 
-    -- its process counts it
+    -- the process counts the thread as running
     pub one_runs : 0 < (item_at_number_or no_threads counts pid).running
     one_runs =
         let some = found (is_running_in pid) es tid (record { pid = pid; ended = false }) is (rw (eq-eqb pid pid refl) refl) in
@@ -159,7 +159,7 @@ module _ (counts : List ThreadCounts) (es : List (ℕ × StartedThread)) (are : 
       abbrev fewer : ThreadCounts
       fewer = pair (item_at_number_or no_threads counts pid).begun ((item_at_number_or no_threads counts pid).running - 1)
 
-      -- until it ends
+      -- the counts of its process after the thread ends
       ended-own : fewer ≡ count_in new pid
       ended-own =
           let was = are.counted pid in

@@ -1,4 +1,4 @@
--- When a process lives, by its threads and by their counts, and when a thread is its last.
+-- When a process is live, by its threads and by their counts, and when a thread is its last.
 use Rattle.std.proofs.Common.{◌≡◌, ◌≢◌, ℕ, ◌+◌, ◌==◌, ◌||◌, not, Bool, true, false, cond, List, [], ◌∷◌, Option, Some, None, inl, inr, refl, ap, sym, ◌∙◌, subst, arith}
 use Rattle.std.proofs.lemmas.Bool.{true≢false, and_from, and_parts, and_right, ne_eqb, not-true, or_left, cases_eq, eq-eqb, eqb-true, false_from_ne_true, lt-ltb, le-ltb}
 use Rattle.std.proofs.lemmas.List.Sums.{sum_by-cons}
@@ -16,7 +16,7 @@ use Rattle.st_procs.proofs.Lookups.{keys-kept, present-any}
 
 -- ---- tests that pass, and threads that are found
 
--- a test passes somewhere where it passes a number of times
+-- a test passes for some item exactly if the count of items that pass isn't 0
 counted-by : {X : Type 0} (p : X → Bool) (x : X) (xs : List X) → list_any p xs ≡ nat_lt 0 (count_by p xs) → (b : Bool) → p x ≡ b → list_any p (x ∷ xs) ≡ nat_lt 0 (count_by p (x ∷ xs))
 counted-by p x xs more true is =
     let total : count_by p (x ∷ xs) ≡ cond (p x) 1 0 + count_by p xs = sum_by-cons (λ x. cond (p x) 1 0) x xs in
@@ -28,28 +28,28 @@ pub any_counted : {X : Type 0} (p : X → Bool) (xs : List X) → list_any p xs 
 any_counted p [] = refl
 any_counted p (x ∷ xs) = counted-by p x xs (any_counted p xs) (p x) refl
 
--- what a thread that is found says of its process
+-- the process of a thread that is found
 pub of_found : (o : Option StartedThread) (pid : ℕ) → option_map (λ (t : StartedThread). t.pid) o ≡ Some pid → (t : StartedThread) × (o ≡ Some t) × (t.pid ≡ pid)
 of_found None pid is = absurd cc
 of_found (Some t) pid is = (t, refl, cc)
 
--- ---- processes that live
+-- ---- live processes
 
 there : (p : Processes) (pid : ℕ) → IsPid p pid → is_pid p pid ≡ true
 there p pid is = and_from _ _ (lt-ltb 0 pid is.0) (lt-ltb pid _ is.1)
 
--- whether a process lives, for one that is there
+-- whether a process that exists is live
 pub live-is_pid : (p : Processes) (pid : ℕ) → IsPid p pid → is_live p pid ≡ (not (list_any (is_thread_of pid) (values_of p.threads)) || list_any (is_running_in pid) (values_of p.threads))
 live-is_pid p pid is = rw (there p pid is) refl
 
 module _ (p : Processes) (pid : ℕ) where
-  -- a thread of the process is found
+  -- the process has some thread
   pub has : (tid : ℕ) → pid_of p tid ≡ Some pid → list_any (is_thread_of pid) (values_of p.threads) ≡ true
   has tid is =
       let t = of_found (thread_at p tid) pid is in
       any_counted (is_thread_of pid) (values_of p.threads) ∙ lt-ltb 0 _ (found (is_thread_of pid) p.threads tid t.0 t.1 (eq-eqb t.0.pid pid t.2))
 
-  -- one that runs is
+  -- the process has some thread that runs
   has_running : (tid : ℕ) (t : StartedThread) → thread_at p tid ≡ Some t → is_running_in pid t ≡ true → list_any (is_running_in pid) (values_of p.threads) ≡ true
   has_running tid t is passes = any_counted (is_running_in pid) (values_of p.threads) ∙ lt-ltb 0 _ (found (is_running_in pid) p.threads tid t is passes)
 
@@ -65,7 +65,7 @@ module _ (p : Processes) (pid : ℕ) where
       let one = present-any (is_thread_of pid) p.threads ordered some in
       none one.0 (ap (option_map (λ (t : StartedThread). t.pid)) one.2 ∙ ap Some (eqb-true one.1.pid pid one.3)))
 
-  -- each has ended where none runs
+  -- if none runs, each thread has ended
   ended : list_any (is_running_in pid) (values_of p.threads) ≡ false → (tid : ℕ) → pid_of p tid ≡ Some pid → is_running p tid ≡ false
   ended none tid is = false_from_ne_true _ (λ running.
       let t = of_found (thread_at p tid) pid is in
@@ -76,7 +76,7 @@ new_ones_live p pid ordered is none = live-is_pid p pid is ∙ rw (none_is p pid
 
 -- ---- processes that have ended
 
--- the answer to whether a process lives, and what it says of its threads
+-- if a process isn't live, it has threads, and each has ended
 ended_of : (p : Processes) (pid : ℕ) → AreOrdered p → (h r : Bool) → h ≡ list_any (is_thread_of pid) (values_of p.threads) → r ≡ list_any (is_running_in pid) (values_of p.threads) → (not h || r) ≡ false → HasEnded p pid
 ended_of p pid ordered false r h_is r_is dead = absurd (true≢false dead)
 ended_of p pid ordered true r h_is r_is dead =
@@ -109,7 +109,7 @@ module _ (p : Processes) (tid : ℕ) (t : StartedThread) (is : thread_at p tid �
   pub own_has : list_any (is_thread_of t.pid) (values_of new.threads) ≡ true
   own_has = has new t.pid tid (ap (option_map (λ (t : StartedThread). t.pid)) at_own)
 
-  -- it was the last where none runs then
+  -- if none runs afterwards, the thread was the last
   pub last_of : list_any (is_running_in t.pid) (values_of new.threads) ≡ false → IsLast p tid
   last_of none other ne same =
       let own : pid_of p tid ≡ Some t.pid = ap (option_map (λ (t : StartedThread). t.pid)) is in
@@ -137,7 +137,7 @@ last_ones_end p tid pid ordered is last =
 
 -- ---- threads that are the last
 
--- whether a thread was the last, by whether its process lives then
+-- if a process with threads isn't live, none of them runs
 dead-runs : (h r : Bool) → h ≡ true → (not h || r) ≡ false → r ≡ false
 dead-runs true r is dead = dead
 dead-runs false r is dead = absurd (true≢false dead)
@@ -157,7 +157,7 @@ last_iff p tid pid ordered is there b b_is =
 
 -- ---- by the counts of threads
 
--- whether a process lives, by its counts
+-- whether a process is live, by its counts
 pub live_new : (p : Processes) (pid : ℕ) (n : ThreadCounts) → IsPid p pid → n ≡ count_in p.threads pid → n.begun ≡ 0 → is_live p pid ≡ true
 live_new p pid n is n_is none =
     let count : count_by (is_thread_of pid) (values_of p.threads) ≡ 0 = sym (ap (λ (n : ThreadCounts). n.begun) n_is) ∙ none in
@@ -171,7 +171,7 @@ live_begun p pid n is n_is some =
     ap (λ (n : ThreadCounts). nat_lt 0 n.running) n_is ∙ sym (any_counted (is_running_in pid) (values_of p.threads))
     ∙ sym (live-is_pid p pid is ∙ ap (λ h. not h || list_any (is_running_in pid) (values_of p.threads)) yes)
 
--- ---- what a thread's end changes
+-- ---- what the end of a thread changes
 
 threads_end-by : (p : Processes) (tid : ℕ) (o : Option StartedThread) → thread_at p tid ≡ o → ThreadEnds p tid (processes_after_end_at p tid o)
 threads_end-by p tid None is = λ other. elim (cases_eq other tid) [

@@ -1,4 +1,4 @@
--- The item of a number, in a list that is mapped, changed or added to.
+-- The item of a number, in a list that is mapped, changed or appended to.
 use Rattle.std.proofs.Common.{◌≡◌, ◌≢◌, zero, suc, ℕ, ◌-◌, ◌<◌, ◌≤◌, ◌==◌, cond, List, [], ◌∷◌, ◌++◌, inl, inr, length, get_or, set, map, refl, ap, sym, ◌∙◌, arith}
 use Rattle.std.proofs.Math.ListN.{get_or-eq_default}
 use Rattle.std.proofs.lemmas.Bool.{cases_eq, cases_lt, eq-eqb, ne_eqb}
@@ -6,7 +6,7 @@ use Rattle.std.proofs.lemmas.List.{get_or-map, get_or-set_same, get_or-set_other
 use Rattle.st_base.specs.Numbered.{item_at_number_or, with_item_at_number}
 
 module _ {X Y : Type 0} (f : X → Y) (xs : List X) where
-  -- the item of a number, of a mapped list
+  -- the item of a number in a mapped list
   pub at_number-map : (d : Y) (e : X) (n : ℕ) → 0 < n → n ≤ length xs → f (get_or xs (n - 1) e) ≡ item_at_number_or d (map f xs) n
   at_number-map d e zero from to = absurd (omega (arith, from))
   at_number-map d e (suc k) from to = let before : suc k - 1 ≡ k = omega arith in rw before (sym (get_or-map f xs k e d (omega (arith, to))))
@@ -16,7 +16,7 @@ module _ {X Y : Type 0} (f : X → Y) (xs : List X) where
   put_number-map x (suc k) from = let before : suc k - 1 ≡ k = omega arith in rw before (map-set f xs k x)
 
 module _ {X : Type 0} (d : X) (xs : List X) (x : X) where
-  -- the item of a number, once one is put
+  -- the item of a number after one is put
   put-same : (n : ℕ) → 0 < n → n ≤ length xs → item_at_number_or d (with_item_at_number xs n x) n ≡ x
   put-same zero from to = absurd (omega (arith, from))
   put-same (suc k) from to = get_or-set_same xs k x d (omega (arith, to))
@@ -32,7 +32,7 @@ module _ {X : Type 0} (d : X) (xs : List X) (x : X) where
     | inr ne ↦ rw (ne_eqb other n ne) (put-other n other ne)
   ]
 
-  -- the item of a number, once one stands behind the others
+  -- the item of a number after an append
   push-same : (n : ℕ) → n ≡ suc (length xs) → item_at_number_or d (xs ++ x ∷ []) n ≡ x
   push-same zero is = cc
   push-same (suc k) is = get_or_push xs x d k (omega (arith, is))

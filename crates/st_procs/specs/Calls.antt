@@ -1,4 +1,4 @@
--- What the calls that set ids answer.
+-- The results of the calls that set ids.
 use Rattle.std.specs.Prelude.{Option, Some, None}
 use Rattle.std.specs.declared.result.Result.{Result}
 use Rattle.std.specs.declared.result.Result.TheVariants.{Ok, Err}
@@ -7,7 +7,7 @@ use Rattle.st_base.specs.declared.ids.Ids.{Ids}
 use Rattle.st_calls.specs.declared.call.SysCall.{SysCall}
 use Rattle.st_calls.specs.declared.call.SysCall.TheVariants.{SetUid, SetEuid, SetGid, SetEgid}
 
--- a call that sets ids
+-- the calls that set ids
 abbrev pub SetsIds : SysCall → Type 0
 SetsIds SetUid = Unit {0}
 SetsIds SetEuid = Unit {0}
@@ -15,7 +15,7 @@ SetsIds SetGid = Unit {0}
 SetsIds SetEgid = Unit {0}
 SetsIds _ = ⊥
 
--- a call that is refused for a reason, or gives ids
+-- a call that is refused with an error, or returns ids
 abbrev pub set_ids_result : Option Errno → Ids → Result Ids Errno
 set_ids_result None ids = Ok ids
 set_ids_result (Some errno) ids = Err errno

@@ -1,4 +1,4 @@
--- Rows as they are kept: each process beside counts of its threads.
+-- Rows as they are stored: each process with the counts of its threads.
 use Rattle.std.specs.Prelude.{◌≡◌, ℕ, ◌-◌, ◌^◌, ◌<◌, List, length, map}
 use Rattle.std.specs.List.{All, count_by}
 use Rattle.std.specs.List.Sorted.{IsStrictlySortedBy}
@@ -23,7 +23,7 @@ processes_of rows = map (λ row. process_of row.process) rows
 abbrev pub counts_of : List Row → List ThreadCounts
 counts_of rows = map (λ row. row.threads) rows
 
--- of a process that never had a thread
+-- the counts of a process that never had a thread
 abbrev pub no_threads : ThreadCounts
 no_threads = record { begun = 0; running = 0 }
 
@@ -31,7 +31,7 @@ no_threads = record { begun = 0; running = 0 }
 abbrev pub count_in : List (ℕ × StartedThread) → ℕ → ThreadCounts
 count_in threads pid = record { begun = count_by (is_thread_of pid) (values_of threads); running = count_by (is_running_in pid) (values_of threads) }
 
--- each number has the counts of its threads, so that none has a thread where there is no process
+-- each number has the counts of its threads, so a number without a process has no threads
 pub record AreCounted (counts : List ThreadCounts) (threads : List (ℕ × StartedThread)) : Type 0 where
   pub counted : (pid : ℕ) → item_at_number_or no_threads counts pid ≡ count_in threads pid
   pub ordered : IsStrictlySortedBy nat_cmp (keys_of threads)

@@ -5,7 +5,8 @@ ghost use Rattle.st_procs.specs.Calls.{set_ids_result};
 use st_base::{Errno, Ids};
 use st_calls::SysCall;
 
-/// The ids that a process with these has after a call that sets them. EINVAL for what is no id, then EPERM.
+/// The ids of a process after a call that sets them. EINVAL if the value isn't an id, otherwise EPERM if the process may not set
+/// it.
 pub fn ids_after(call: SysCall, ids: Ids, value: u64) -> Result<Ids, Errno>
     ensures { result ≡ set_ids_result (set_refused call ids value) (ids_after_set call ids value) }
 {

@@ -1,6 +1,6 @@
 ghost use Rattle.st_procs.specs.Laws.{BinariesAreOwn, ChildrenAreLikeParents, DirectoriesAreOwn, IdsAreOwn, LastOnesEnd, NewOnesLive, StartsAdd};
 
-/// A call changes the row of one process alone, a child begins as its parent is, and a process ends with its last thread.
+/// A call changes the row of one process alone, a child starts as its parent is, and a process ends with its last thread.
 pub fn rows_stay_apart()
     ensures starts { StartsAdd }
     ensures children { ChildrenAreLikeParents }

@@ -1,4 +1,5 @@
-//! The rows of modelled processes and threads: who a process is, where it is, which policy applies to it, and when it ends.
+//! The table of modelled processes and threads: who a process is, its directory and memory, which policy applies to it, and when it
+//! ends.
 #![tactic(auto)]
 
 mod identity;

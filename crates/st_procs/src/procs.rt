@@ -18,7 +18,7 @@ use std::marker::Model;
 /// The processes, numbered from 1 in the order in which they started, and the threads that have started.
 #[derive(Debug, Drop)]
 pub struct Procs {
-    // Process p stands at p - 1.
+    // Process p is at index p - 1.
     rows: Vec<Row>,
     threads: BTreeMap<Tid, StartedThread>,
 }
@@ -36,7 +36,7 @@ impl Model for Procs {
 }
 
 impl Procs {
-    /// No process and no thread, which takes no memory.
+    /// A table without processes and threads, which takes no memory.
     pub fn new(alloc: Global) -> Self
         ensures rows { result.rows ≡ [] }
         ensures threads { result.threads ≡ [] }
@@ -47,14 +47,14 @@ impl Procs {
         }
     }
 
-    /// The number that the next process has.
+    /// The number of the next process.
     pub fn next_pid(&self) -> Pid
         ensures { result ≡ next_pid self.now }
     {
         self.rows.len() as Pid + 1
     }
 
-    /// Starts a process without threads, and gives its number. Without memory nothing changes.
+    /// Starts a process without threads, and returns its number. If memory runs out, nothing changes.
     pub fn start(&mut self, row: ProcRow) -> Result<Pid, AllocError>
         requires { next_pid self.old < 2 ^ 32 - 1 }
         ensures pid { IfOk result (λ pid. pid ≡ next_pid self.old) }
@@ -74,7 +74,7 @@ impl Procs {
         Ok(pid)
     }
 
-    /// The process of a thread; none exactly where it hasn't started.
+    /// The process of a thread; `None` exactly when the thread hasn't started.
     pub fn pid_of(&self, tid: Tid) -> Option<Pid>
         ensures pid { result ≡ pid_of self.now tid }
         ensures there { IfSome result (λ pid. IsPid self.now pid) }
@@ -85,7 +85,7 @@ impl Procs {
         }
     }
 
-    /// Who a process is.
+    /// The ids of a process.
     pub fn ids(&self, pid: Pid) -> Ids
         requires { IsPid self.now pid }
         ensures { result ≡ (process_at self.now pid).ids }
@@ -93,7 +93,7 @@ impl Procs {
         rows::process(&self.rows, pid).ids
     }
 
-    /// Where a process's names begin that aren't absolute.
+    /// The directory of a process, where its relative names begin.
     pub fn cwd(&self, pid: Pid) -> &Shared<AbsName>
         requires { IsPid self.now pid }
         ensures { result.now ≡ (process_at self.now pid).cwd }
@@ -109,7 +109,7 @@ impl Procs {
         &rows::process(&self.rows, pid).binary
     }
 
-    /// The number of a process's memory.
+    /// The number of a process's memory space.
     pub fn space(&self, pid: Pid) -> Space
         requires { IsPid self.now pid }
         ensures { result ≡ (process_at self.now pid).space }
@@ -135,7 +135,7 @@ impl Procs {
         counts.begun == 0 || counts.running > 0
     }
 
-    /// Starts a thread of a process. Without memory nothing changes.
+    /// Starts a thread of a process. If memory runs out, nothing changes.
     pub fn begin(&mut self, tid: Tid, pid: Pid) -> Result<(), AllocError>
         requires process { IsPid self.old pid }
         requires thread { pid_of self.old tid ≡ None }
@@ -154,8 +154,8 @@ impl Procs {
         Ok(())
     }
 
-    /// Starts a process that is like this one but for its memory, and a thread of it, as fork(2) does, and gives its number.
-    /// Without memory nothing changes.
+    /// Starts a process that equals this one but for its memory, with one thread, as fork(2) does, and returns its number. If
+    /// memory runs out, nothing changes.
     pub fn fork(&mut self, pid: Pid, tid: Tid, space: Space) -> Result<Pid, AllocError>
         requires parent { IsPid self.old pid }
         requires thread { pid_of self.old tid ≡ None }
@@ -178,8 +178,8 @@ impl Procs {
         Ok(child)
     }
 
-    /// Gives a process another memory, and the policy of the binary that it executes unless it keeps its own, as execve(2)
-    /// does. It takes no memory.
+    /// Gives a process another memory space, and the policy of the binary that it executes unless it keeps its own, as execve(2)
+    /// does. Takes no memory.
     pub fn exec(&mut self, pid: Pid, binary: Shared<Text>, space: Space, inherit: bool)
         requires { IsPid self.old pid }
         ensures rows { self.new ≡ processes_after_exec self.old pid binary space inherit }
@@ -188,8 +188,8 @@ impl Procs {
         rows::execute(&mut self.rows, pid, binary, space, inherit);
     }
 
-    /// Sets ids of a process by one of the four calls that do, and gives all that it has then. It takes no memory. EINVAL
-    /// where the value is no id, then EPERM; after either nothing changes.
+    /// Sets ids of a process by one of the four calls that do so, and returns all its ids. Takes no memory. EINVAL if the value
+    /// isn't an id, otherwise EPERM if the process may not set it; after either error nothing has changed.
     pub fn set_ids(&mut self, pid: Pid, call: SysCall, value: u64) -> Result<Ids, Errno>
         requires process { IsPid self.old pid }
         requires call { SetsIds call }
@@ -204,7 +204,7 @@ impl Procs {
         Ok(ids)
     }
 
-    /// Gives a process another directory. It takes no memory.
+    /// Gives a process another directory. Takes no memory.
     pub fn set_cwd(&mut self, pid: Pid, cwd: Shared<AbsName>)
         requires { IsPid self.old pid }
         ensures rows { self.new ≡ with_cwd self.old pid cwd }
@@ -213,7 +213,7 @@ impl Procs {
         rows::set_cwd(&mut self.rows, pid, cwd);
     }
 
-    /// Ends a thread, and says whether its process ends with it: whether it was the last that hadn't ended.
+    /// Ends a thread, and returns whether its process ends with it: whether it was the last thread that hadn't ended.
     pub fn end_thread(&mut self, tid: Tid) -> bool
         requires { is_running self.old tid ≡ true }
         ensures ended { self.new ≡ processes_after_end self.old tid }
@@ -226,7 +226,7 @@ impl Procs {
         !self.alive(pid)
     }
 
-    // Ends a thread, and gives its process.
+    // Ends a thread, and returns its process.
     fn finish(&mut self, tid: Tid) -> Pid
         requires { is_running self.old tid ≡ true }
         ensures ended { self.new ≡ processes_after_end self.old tid }

@@ -7,22 +7,22 @@ use st_base::{Ids, Pid, Shared, Space, Text};
 use st_names::AbsName;
 use std::alloc::AllocError;
 
-/// A process, as it starts.
+/// The row of a process, without the counts of its threads.
 #[derive(Debug, Drop)]
 pub struct ProcRow {
     /// Whether policies apply to it.
     pub traced: bool,
-    /// The binary whose policy applies to it.
+    /// The binary whose policy applies to the process.
     pub binary: Shared<Text>,
     pub ids: Ids,
-    /// Where its names begin that aren't absolute.
+    /// The directory where its relative names begin.
     pub cwd: Shared<AbsName>,
-    /// The number of its memory.
+    /// The number of its memory space.
     pub space: Space,
 }
 
 impl ProcRow {
-    /// A process like this one but for its memory.
+    /// A process that equals this one but for its memory space.
     pub fn child(&self, space: Space) -> Result<Self, AllocError>
         ensures { IfOk result (λ child. process_of child ≡ record (process_of self.now) { space = space }) }
     {
@@ -43,7 +43,7 @@ pub struct ThreadCounts {
     pub running: usize,
 }
 
-/// A process, and its threads.
+/// A process and the counts of its threads.
 #[derive(Debug, Drop)]
 pub struct Row {
     pub process: ProcRow,
@@ -68,7 +68,7 @@ pub fn counts(rows: &[Row], pid: Pid) -> ThreadCounts
     rows[pid as usize - 1].threads
 }
 
-/// Counts the threads of a process anew.
+/// Sets the counts of a process's threads.
 pub fn set_count(rows: &mut [Row], pid: Pid, threads: ThreadCounts)
     requires from { 0 < pid }
     requires to { pid ≤ length rows.old }
@@ -78,7 +78,7 @@ pub fn set_count(rows: &mut [Row], pid: Pid, threads: ThreadCounts)
     rows[pid as usize - 1].threads = threads;
 }
 
-/// Gives a process another memory, and the policy of the binary that it executes unless it keeps its own.
+/// Gives a process another memory space, and the policy of the binary that it executes unless it keeps its own.
 pub fn execute(rows: &mut [Row], pid: Pid, binary: Shared<Text>, space: Space, inherit: bool)
     requires from { 0 < pid }
     requires to { pid ≤ length rows.old }
@@ -92,7 +92,7 @@ pub fn execute(rows: &mut [Row], pid: Pid, binary: Shared<Text>, space: Space, i
     }
 }
 
-/// Gives a process other ids.
+/// Sets the ids of a process.
 pub fn set_ids(rows: &mut [Row], pid: Pid, ids: Ids)
     requires from { 0 < pid }
     requires to { pid ≤ length rows.old }
@@ -102,7 +102,7 @@ pub fn set_ids(rows: &mut [Row], pid: Pid, ids: Ids)
     rows[pid as usize - 1].process.ids = ids;
 }
 
-/// Gives a process another directory.
+/// Sets the directory of a process.
 pub fn set_cwd(rows: &mut [Row], pid: Pid, cwd: Shared<AbsName>)
     requires from { 0 < pid }
     requires to { pid ≤ length rows.old }

@@ -27,7 +27,7 @@ impl Model for StartedThread {
     ghost inverse = { λ t. record { pid = t.pid; ended = t.ended } };
 }
 
-/// Puts in a thread of this process that hasn't ended. Without memory nothing changes.
+/// Inserts a thread of this process, which hasn't ended. If memory runs out, nothing changes.
 pub fn begin(
     threads: &mut BTreeMap<Tid, StartedThread>,
     tid: Tid,
@@ -41,7 +41,7 @@ pub fn begin(
     Ok(())
 }
 
-/// Ends a thread that hasn't ended, and gives its process. It takes no memory.
+/// Ends a thread that hasn't ended, and returns its process. Takes no memory.
 pub fn end(threads: &mut BTreeMap<Tid, StartedThread>, tid: Tid) -> Pid
     requires { has_not_ended (lookup (is_at (nat_cmp tid)) threads.old.entries) ≡ true }
     ensures pid { lookup (is_at (nat_cmp tid)) threads.old.entries ≡ Some (record { pid = result; ended = false }) }

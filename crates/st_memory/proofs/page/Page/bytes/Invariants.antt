@@ -3,7 +3,7 @@ use Rattle.st_memory.specs.Memory.{byte_of}
 use Rattle.st_model.specs.Memory.{bytes_from}
 use Rattle.st_memory.proofs.page.Page.bytes.Given as goal
 
--- the bytes so far
+-- the bytes that were read so far
 abbrev pub invariant-loop-done : goal.invariant-loop-done
 invariant-loop-done l = record {
   within : l.done ≤ l.count;

@@ -3,7 +3,7 @@ use Rattle.st_memory.specs.Memory.{byte_of}
 use Rattle.st_model.specs.Memory.{bytes_after_put}
 use Rattle.st_memory.proofs.page.Page.put_bytes.Given as goal
 
--- the bytes so far are put
+-- the bytes so far have been put
 abbrev pub invariant-loop-done : goal.invariant-loop-done
 invariant-loop-done l = record {
   within : l.done ≤ length l.bytes;
