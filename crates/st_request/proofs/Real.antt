@@ -1,4 +1,4 @@
--- Open files whose objects were made and are no links stay so.
+-- Open files whose objects were made and aren't links stay so.
 use Rattle.std.proofs.Common.{◌∙◌, ℕ, Bool, List, [], ◌∷◌, Option, Some, None, inl, inr, get_or, ap, sym, subst, arith}
 use Rattle.std.proofs.lemmas.List.Elements.{All-set, All-append, All-cons}
 use Rattle.std.proofs.lemmas.Option.{slice_get_cases}
@@ -13,7 +13,7 @@ use Rattle.st_effects.specs.Names.{is_link}
 use Rattle.st_tree.specs.Answers.{KeepsKinds}
 use Rattle.st_request.specs.Ready.{IsReal, IsRealFile, IsRealKind, KeepsObjects}
 
--- what holds of each open file holds of that of a number
+-- what holds of each open file holds of the one with a number
 of_number : (P : OpenFile → Type 0) (files : List OpenFile) (number : Option ℕ) → All P files → IfSome (file_of_number files number) P
 of_number P files None all = tt
 of_number P files (Some n) all = elim (slice_get_cases files n).1 [
@@ -31,7 +31,7 @@ sought_by tree table offset number None real is = real
 sought_by tree table offset None (Some file) real is = real
 sought_by tree table offset (Some n) (Some file) real is = All-set (IsRealFile tree) table.files n (record file { offset = offset }) is real
 
--- an offset that moves
+-- an offset changes
 pub sought : (tree : Tree) (table : Table) (pid fd offset : ℕ) → IsReal tree table → IsReal tree (table_after_seek table pid fd offset)
 sought tree table pid fd offset real = sought_by tree table offset (file_number_at table pid fd) (file_at table pid fd) real (of_descriptor tree table pid fd real)
 
@@ -48,11 +48,11 @@ kept_kind old new is_written (Socket port connected) kept is = tt
 pub kept : (old new : Tree) (table : Table) → KeepsKinds old new → IsReal old table → IsReal new table
 kept old new table kinds real = λ k d inside. let file = get_or table.files k d in kept_kind old new file.write file.kind kinds (real k d inside)
 
--- a file is written, and the offset moves
+-- a file is written, and the offset changes
 pub written : (old new : Tree) (table : Table) (pid fd offset : ℕ) → KeepsKinds old new → IsReal old table → IsReal new (table_after_seek table pid fd offset)
 written old new table pid fd offset kinds real = sought new table pid fd offset (kept old new table kinds real)
 
--- ---- objects and open files that come to others
+-- ---- objects and open files that are added
 
 kept_openable : (old new : Tree) (is_written : Bool) (kind : FileKind) → KeepsObjects old new → IsRealKind old is_written kind → IsRealKind new is_written kind
 kept_openable old new is_written Console keeps is = tt

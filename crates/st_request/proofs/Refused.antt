@@ -1,4 +1,4 @@
--- Changes of the tree that nothing refuses.
+-- Changes of the tree that can't be refused.
 use Rattle.std.proofs.Common.{◌≡◌, ◌≢◌, Option, Some, None, Result, Err}
 use Rattle.st_base.specs.declared.errno.Errno.{Errno}
 use Rattle.st_tree.specs.Answers.{Refuses}

@@ -1,4 +1,4 @@
--- What calls change leaves each object that was made, and its kind.
+-- The changes of calls keep each object that was made, and its kind.
 use Rattle.std.proofs.Common.{◌≡◌, ◌∙◌, ap, refl, sym, ℕ, ◌-◌, ◌<◌, List, [], ◌∷◌, length, get_or, map, set, arith}
 use Rattle.std.proofs.Math.ListN as list
 use Rattle.std.proofs.Math.Seq.{map-set_same}
@@ -17,7 +17,7 @@ use Rattle.st_request.proofs.Real.{kept_objects}
 kind_of : Node → Kind
 kind_of node = node.kind
 
--- an object becomes another of its kind
+-- an object is replaced by one of its kind
 same_kind : (tree : Tree) (number : ℕ) (node : Node) → node.kind ≡ (node_with_number tree number).kind → KeepsObjects tree (with_node tree number node)
 unfolding kind_of
 same_kind tree number node kind other made =
@@ -29,7 +29,7 @@ same_kind tree number node kind other made =
       sym (list.get_or-map kind_of (set objects i node) k root_node) ∙ ap (λ ks. get_or ks k (kind_of root_node)) kinds ∙ list.get_or-map kind_of objects k root_node,
     )
 
--- an object comes to the others
+-- an object is added
 one_more : (tree : Tree) (name : List (List ℕ)) (node : Node) → KeepsObjects tree (add_object tree name node)
 one_more tree name node number made =
     let objects : List Node = tree.objects in
@@ -66,7 +66,7 @@ changes_keep tree (change ∷ changes) = λ number made.
 pub stay_real : (tree : Tree) (table : Table) (changes : List Change) → IsReal tree table → IsReal (tree_after tree changes) table
 stay_real tree table changes real = kept_objects tree (tree_after tree changes) table (changes_keep tree changes) real
 
--- the console is no object
+-- the console isn't an object
 pub started_real : (tree : Tree) (table : Table) (pid : ℕ) → IsReal tree table → IsReal tree (table_after_start table pid)
 started_real tree table pid real =
     let Is = IsRealFile tree in

@@ -1,4 +1,4 @@
--- The system that calls are made over, by the parts that are kept, and the whole outcome of a call.
+-- The system that calls are made over, from the parts that are stored, and the whole outcome of a call.
 use Rattle.std.specs.Prelude.{Result, Ok, Err}
 use Rattle.st_base.specs.declared.errno.Errno.{Errno}
 use Rattle.st_model.specs.Descriptors.{Table}
@@ -30,11 +30,11 @@ abbrev pub system_of : effects.System → Tree → Table → Processes → Memor
 system_of system tree descriptors processes memories =
     with_tree (with_descriptors (with_processes (with_memories system memories) processes) descriptors) tree
 
--- the whole outcome, from what a call gave and the descriptors that there are then
+-- the whole outcome, from a call's result and changes and the descriptors after it
 abbrev pub outcome_of : Outcome → Table → effects.Outcome
 outcome_of outcome descriptors = record { result = outcome.result; changes = outcome.changes; descriptors = descriptors }
 
--- a call fails where a test did, else it has this outcome
+-- a call fails if a test did, otherwise it has this outcome
 abbrev pub unless_err : {T : Type 0} → effects.System → Result T Errno → (T → effects.Outcome) → effects.Outcome
 unless_err system (Ok given) outcome = outcome given
 unless_err system (Err errno) outcome = effects.failure system errno

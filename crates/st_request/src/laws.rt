@@ -11,14 +11,14 @@ ghost use Rattle.st_request.specs.Outcome.{system_of};
 ghost use Rattle.st_request.specs.Processes.{AreProcessesAfter};
 ghost use Rattle.st_request.specs.Ready.{IsReal};
 
-/// Open files stay those of objects that were made and are no links: whatever calls change in the tree, and where a process
-/// begins with the console.
+/// The object of each open file was made and isn't a link. This stays so whatever calls change in the tree, and when a process
+/// starts with the console.
 pub fn open_files_stay_real()
     ensures changes { (tree : Tree) (table : Table) (changes : List Change) → IsReal tree table → IsReal (tree_after tree changes) table }
     ensures start { (tree : Tree) (table : Table) (pid : ℕ) → IsReal tree table → IsReal tree (table_after_start table pid) }
 {}
 
-/// The system that calls are made over has each part that is kept, and of the rest what it had.
+/// The system that calls are made over has each part that is stored, and otherwise what it had.
 pub fn a_system_has_its_parts()
     ensures tree { (system : System) (tree : Tree) (table : Table) (processes : Processes) (memories : Memories) → (system_of system tree table processes memories).tree ≡ tree }
     ensures table { (system : System) (tree : Tree) (table : Table) (processes : Processes) (memories : Memories) → (system_of system tree table processes memories).descriptors ≡ table }
@@ -30,7 +30,7 @@ pub fn a_system_has_its_parts()
     ensures held { (system : System) (tree : Tree) (table : Table) (processes : Processes) (memories : Memories) → (system_of system tree table processes memories).held ≡ system.held }
 {}
 
-/// Calls that change processes as their changes say start no thread and end none, so the same processes live.
+/// A call that changes the processes as its changes say starts no thread and ends none, so the same processes are live.
 pub fn the_same_processes_live()
     ensures { (old : Processes) (pid : ℕ) (changes : List Change) (new : Processes) → AreProcessesAfter old pid changes new → (p : ℕ) → is_live new p ≡ is_live old p }
 {}

@@ -1,4 +1,4 @@
-//! A call as it is made: who makes it, with what, over what, and what it gives.
+//! Requests and outcomes of calls: who makes a call, with which arguments, over which system, and what it returns and changes.
 #![tactic(auto)]
 
 mod laws;

@@ -11,7 +11,8 @@ use st_memory::Spaces;
 use st_trace::Change;
 use std::alloc::{AllocError, Global};
 
-/// Puts bytes into a space, from this byte on: the outcome of a call that gives this number. Without memory nothing is changed.
+/// Puts bytes into a space at an offset, and returns the outcome of a call whose result is this number. If memory runs out, nothing
+/// changes.
 pub fn put_bytes(
     spaces: &mut Spaces,
     alloc: Global,

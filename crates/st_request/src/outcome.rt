@@ -4,7 +4,7 @@ use st_base::{Errno, Sequence};
 use st_trace::{CallResult, Change};
 use std::alloc::{AllocError, Global};
 
-/// What a call gives its thread, and what it changed.
+/// What a call returns to its thread, and what it changed.
 #[derive(Debug, Drop)]
 pub struct Outcome {
     pub result: CallResult,
@@ -13,7 +13,7 @@ pub struct Outcome {
 }
 
 impl Outcome {
-    /// A call that fails, which changes nothing.
+    /// The outcome of a call that fails, which changes nothing.
     pub fn failure(alloc: Global, errno: Errno) -> Self
         ensures result { result.result ≡ CallResult.Failed errno }
         ensures changes { result.changes ≡ [] }
@@ -24,7 +24,7 @@ impl Outcome {
         }
     }
 
-    /// A call that gives a number, and changes nothing.
+    /// The outcome of a call that returns a number, and changes nothing.
     pub fn value(alloc: Global, value: u64) -> Self
         ensures result { result.result ≡ CallResult.Value value }
         ensures changes { result.changes ≡ [] }
@@ -35,7 +35,7 @@ impl Outcome {
         }
     }
 
-    /// A call that gives a number, and makes one change. Its error is want of memory.
+    /// The outcome of a call that returns a number, and makes one change. Its only error is out of memory.
     pub fn change(alloc: Global, value: u64, change: Change) -> Result<Self, AllocError>
         ensures result { IfOk result (λ outcome. outcome.result ≡ CallResult.Value value) }
         ensures changes { IfOk result (λ outcome. outcome.changes ≡ change ∷ []) }

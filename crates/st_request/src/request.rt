@@ -18,7 +18,7 @@ pub struct Request<'a> {
     pub regs: [u64; 6],
     /// The arguments that policies judge, in order; a name is absolute and normalised.
     pub args: &'a [ArgText],
-    /// The thread that fork(2) starts; 0 where the call is none.
+    /// The thread that fork(2) starts; 0 if the call isn't a fork.
     pub child: Tid,
     /// Whether execve(2) keeps the policy that applies.
     pub inherit: bool,
@@ -33,7 +33,7 @@ impl<'a> Model for Request<'a> {
 }
 
 impl<'a> Request<'a> {
-    /// The register of this number, from 0 to 5.
+    /// The register with this number, from 0 to 5.
     pub fn register(&self, i: usize) -> u64
         requires { i < 6 }
         ensures { result ≡ register self.now i }
@@ -49,7 +49,7 @@ impl<'a> Request<'a> {
         (self.register(i) % 512) as u32
     }
 
-    /// The text of an argument, counted from 0; of one that isn't there, the empty text.
+    /// The text of an argument, counted from 0; empty if there is no such argument.
     pub fn text(&self, i: usize) -> &[u8]
         ensures { result.now ≡ arg_text_at self.now i }
     {
@@ -59,7 +59,7 @@ impl<'a> Request<'a> {
         }
     }
 
-    /// The name that an argument spells, counted from 0; where it isn't there, the root's. Its error is want of memory.
+    /// The name that an argument spells, counted from 0; the root if there is no such argument. Its only error is out of memory.
     pub fn name(&self, alloc: Global, i: usize) -> Result<AbsName, AllocError>
         ensures { IfOk result (λ name. name ≡ arg_name_at self.now i) }
     {

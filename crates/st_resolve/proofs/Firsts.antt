@@ -16,7 +16,7 @@ all_up_by false u part rest ups is e = e
 all_up_by true true part rest ups is e = e ∙ sym (ap (λ (up : Bool). is_last (cond up (rest_after_ups rest) (part ∷ rest))) is)
 all_up_by true false part rest ups is e = not_zero (length (part ∷ rest)) (omega arith) ∙ sym (ap (λ (up : Bool). is_last (cond up (rest_after_ups rest) (part ∷ rest))) is)
 
--- a name leads up alone where each part is no component or `..`
+-- no component but `..` is left exactly if each part is `..` or no component
 pub all_up : (parts : Components) → list_all (λ part. not (is_component part) || is_up part) parts ≡ is_last (rest_after_ups (filter is_component parts))
 all_up [] = refl
 all_up (part ∷ parts) = all_up_by (is_component part) (is_up part) part (filter is_component parts) _ refl (all_up parts)
@@ -31,7 +31,7 @@ spelled_shorter (part ∷ name) (suc n) =
     let rest = spelled_shorter name n in
     omega (arith, rest, length-append part (flat_map with_slash (take n name)), length-append part (flat_map with_slash name))
 
--- a name's front is no longer than the name
+-- a prefix of a name is no longer than the name
 front_shorter : (name : Components) (n : ℕ) → length (printed_name (take n name)) ≤ length (printed_name name)
 front_shorter [] zero = omega arith
 front_shorter [] (suc n) = omega arith
@@ -70,7 +70,7 @@ begins : (text : List ℕ) (cwd : Components) (follow : Bool) → None ≡ fault
     start_walk text cwd follow [] ≡ walk_on (name_after_ups (start_of_name text cwd) (components_of text)) (rest_after_ups (components_of text)) 0 [] follow
 begins text cwd follow none = goes_by (nat_eq (length text) 0) (has_long_part text) _ none
 
--- a text that leads up alone means its name before any look
+-- a text whose only components are `..` means its name before any look
 pub name_first : (text : List ℕ) (cwd : Components) (follow : Bool) → length (printed_name cwd) ≤ LONGEST_NAME → None ≡ fault_before_lookups text → is_last (rest_after_ups (components_of text)) ≡ true →
     step.Name ≡ step_of (start_walk text cwd follow [])
 name_first text cwd follow short none up =

@@ -1,4 +1,4 @@
--- Components that stand in several texts.
+-- The components of several texts.
 use Rattle.std.proofs.Common.{◌≡◌, ◌<◌, ◌≤◌, ℕ, suc, ◌-◌, Bool, true, false, List, [], ◌∷◌, ◌++◌, length, take, drop, nat_eq, Some, refl, ap, sym, ◌∙◌, subst, arith, append_assoc, append-nil, length-append, length-drop, drop-cons, get_or}
 use Rattle.std.specs.List.{slice_get}
 use Rattle.std.proofs.lemmas.Bool.{eqb-true}
@@ -21,7 +21,7 @@ dropped_from : (all text more : Components) → all ≡ text ++ more → 0 < len
 dropped_from all [] more e some = absurd (omega arith)
 dropped_from all (part ∷ text) more e some = sym (ap (drop 1) e)
 
--- the last text is not used up
+-- the last text has a component left
 last_unfinished : (old init : List Components) (text : Components) → old ≡ init ++ text ∷ [] → AreUnfinished old → 0 < length text
 last_unfinished old init text e some =
     subst (λ (t : Components). 0 < length t) (ap (λ (texts : List Components). get_or texts (length init) []) e ∙ get_or-append_seam init text [] [])
@@ -46,7 +46,7 @@ pub joined_first : (texts : List Components) (text all : Components) (part : Lis
 joined_first texts text all part view e is =
     first_from all text (joined (take (length texts - 1) texts)) part (sym view ∙ ap joined (last_split texts text e) ∙ joined_last (take (length texts - 1) texts) text) is
 
--- unfinished texts have a component each
+-- there are no more unfinished texts than components
 pub texts_within : (texts : List Components) → AreUnfinished texts → length texts ≤ length (joined texts)
 texts_within [] some = omega arith
 texts_within (text ∷ texts) some =
@@ -54,7 +54,7 @@ texts_within (text ∷ texts) some =
     let first : 0 < length text = All-head (λ t. 0 < length t) text texts some in
     omega (arith, length-append (joined texts) text)
 
--- nothing is left exactly where there are no texts
+-- nothing is left exactly if there are no texts
 pub none_left : (texts : List Components) (all : Components) (n : ℕ) (b : Bool) → joined texts ≡ all → AreUnfinished texts → n ≡ length texts → b ≡ nat_eq n 0 → (b ≡ true → all ≡ []) × (all ≡ [] → b ≡ true)
 none_left [] all n b view some e is = (λ h. sym view, λ h. is ∙ ap (λ (m : ℕ). nat_eq m 0) e)
 none_left (text ∷ texts) all n b view some e is =
@@ -63,7 +63,7 @@ none_left (text ∷ texts) all n b view some e is =
       λ h. absurd (let none = ap length (view ∙ h) in omega arith),
     )
 
--- of several texts the next component is never the last
+-- with several texts, the next component isn't the last
 pub several_left : (texts : List Components) (all : Components) (n : ℕ) → joined texts ≡ all → AreUnfinished texts → n ≡ length texts → 0 < length all → (n ≡ 1 → ⊥) → nat_eq n 1 ≡ is_last (drop 1 all)
 several_left [] all n view some e left differs = absurd (let none = ap length view in omega arith)
 several_left (text ∷ texts) all n view some e left differs =

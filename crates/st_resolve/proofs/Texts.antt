@@ -21,7 +21,7 @@ components_first text =
     ap (filter is_component) (parts_first text)
     ∙ ap (λ (more : Components). cond (is_component (first_part text)) (first_part text ∷ more) more) (behind_first (drop n text) (spelled_rest text) ∙ ap components_of (drop-drop 1 n text))
 
--- the same from a place on, whose first part ends here
+-- the same from an offset on, whose first part ends at another offset
 components_at : (text part : List ℕ) (at end : ℕ) → end ≡ at + first_part_len (drop at text) → part ≡ first_part (drop at text) →
     components_of (drop at text) ≡ cond (is_component part) (part ∷ components_of (drop (min (end + 1) (length text)) text)) (components_of (drop (min (end + 1) (length text)) text))
 components_at text part at end is taken =
@@ -32,21 +32,21 @@ components_at text part at end is taken =
     ∙ ap (λ (xs : List ℕ). cond (is_component (first_part rest)) (first_part rest ∷ components_of xs) (components_of xs)) more
     ∙ ap (λ (p : List ℕ). cond (is_component p) (p ∷ components_of (drop (min (end + 1) (length text)) text)) (components_of (drop (min (end + 1) (length text)) text))) (sym taken)
 
--- a part that is no component is passed over
+-- a part that isn't a component is skipped
 pub part_skipped : (text part : List ℕ) (at end : ℕ) → end ≡ at + first_part_len (drop at text) → part ≡ first_part (drop at text) → is_component part ≡ false →
     components_of (drop (min (end + 1) (length text)) text) ≡ components_of (drop at text)
 part_skipped text part at end is taken none =
     let more : Components = components_of (drop (min (end + 1) (length text)) text) in
     sym (components_at text part at end is taken ∙ ap (λ (b : Bool). cond b (part ∷ more) more) none)
 
--- a component is followed by those behind it
+-- a component is followed by those after it
 pub part_taken : (text part : List ℕ) (at end : ℕ) → end ≡ at + first_part_len (drop at text) → part ≡ first_part (drop at text) → is_component part ≡ true →
     components_of (drop at text) ≡ part ∷ components_of (drop (min (end + 1) (length text)) text)
 part_taken text part at end is taken some =
     let more : Components = components_of (drop (min (end + 1) (length text)) text) in
     components_at text part at end is taken ∙ ap (λ (b : Bool). cond b (part ∷ more) more) some
 
--- ---- places in a text
+-- ---- offsets in a text
 
 pub front_of : (all : Components) (part : List ℕ) (rest : Components) → all ≡ part ∷ rest → all ≡ part ∷ drop 1 all
 front_of all part rest e = e ∙ ap (λ (more : Components). part ∷ more) (sym (ap (drop 1) e))
@@ -85,12 +85,12 @@ if_all : (all : Components) (b : Bool) → b ≡ nat_eq (length all) 0 → (b �
 if_all [] b e = (λ h. refl, λ h. e)
 if_all (part ∷ rest) b e = (λ h. absurd (let zero = eqb-true (length (part ∷ rest)) 0 (sym e ∙ h) in omega arith), λ h. cc)
 
--- a place is the text's end exactly where no component is left
+-- an offset is the text's end exactly if no component is left
 pub ended : (text : List ℕ) (at len : ℕ) (all : Components) (b : Bool) → components_of (drop at text) ≡ all → IsAtComponent text at → len ≡ length text → b ≡ nat_eq at len → (b ≡ true → all ≡ []) × (all ≡ [] → b ≡ true)
 ended text at len all b view is len_is tested =
     if_all all b (tested ∙ ap (nat_eq at) len_is ∙ ends_there text at is ∙ ap (λ (parts : Components). nat_eq (length parts) 0) view)
 
--- the component at a place that is no end
+-- the component at an offset that isn't the end
 pub first_here : (text bytes : List ℕ) (at end : ℕ) (all : Components) → components_of (drop at text) ≡ all → IsAtComponent text at → bytes ≡ text → end ≡ at + first_part_len (drop at bytes) → 0 < length all →
     all ≡ take (end - at) (drop at bytes) ∷ drop 1 all
 first_here text bytes at end all view is same place some =

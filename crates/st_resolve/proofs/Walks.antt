@@ -11,6 +11,6 @@ asked_at : (done left : Components) (links : ℕ) (follow : Bool) (fault : Optio
 asked_at done left links follow (Some errno) part rest e h = absurd (h errno refl)
 asked_at done left links follow None part rest e h = ap (λ (l : Components). asked_name (walk_on done l links [] follow)) (sym e)
 
--- the name that is asked for has the next component at its end
+-- the name that is asked for ends with the next component
 pub asked : (w : Walk) (part : List ℕ) → w.left ≡ part ∷ drop 1 w.left → ((errno : Errno) → step_of (walk_from w []) ≢ step.Fault errno) → Some (w.done ++ part ∷ []) ≡ asked_name (walk_from w [])
 asked w part e h = asked_at w.done w.left w.links w.follow w.fault part (drop 1 w.left) e h

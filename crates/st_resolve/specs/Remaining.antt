@@ -1,4 +1,4 @@
--- Components that stand in several texts.
+-- The components of several texts.
 use Rattle.std.specs.Prelude.{◌<◌, List, [], ◌∷◌, ◌++◌, length, All}
 use Rattle.st_names.specs.Name.{Components}
 
@@ -7,6 +7,6 @@ abbrev pub joined : List Components → Components
 joined [] = []
 joined (text ∷ texts) = joined texts ++ text
 
--- each of the texts has a component left
+-- each text has a component left
 abbrev pub AreUnfinished : List Components → Type 0
 AreUnfinished texts = All (λ text. 0 < length text) texts

@@ -1,4 +1,4 @@
--- A walk as far as it has come.
+-- The state of a walk, and its steps.
 use Rattle.std.specs.Prelude.{ℕ, ◌+◌, nat_eq, if◌then◌else◌, Bool, List, ◌++◌, length, take, drop, Option, Some, None}
 use Rattle.st_base.specs.declared.errno.Errno.{Errno}
 use Rattle.st_base.specs.declared.errno.Errno.TheVariants.{ENOENT, ENAMETOOLONG}
@@ -8,8 +8,8 @@ use Rattle.st_model.specs.Walk.{WalkState, Name, Next, Fault, walk_on, name_afte
 use Rattle.st_resolve.specs.declared.walk.WalkStep.{WalkStep}
 use Rattle.st_resolve.specs.declared.walk.WalkStep.TheVariants as step
 
--- the name that is reached, the components that are left, how many links were followed, whether a link that is last is
--- followed, and the fault that has ended the walk
+-- the name that is reached, the components that are left, how many links were followed, whether a link that is last is followed,
+-- and the fault that has ended the walk
 pub record Walk : Type 0 where
   pub done : Components
   pub left : Components
@@ -17,40 +17,40 @@ pub record Walk : Type 0 where
   pub follow : Bool
   pub fault : Option Errno
 
--- a walk that has ended with a fault stays there
+-- a walk that has ended with a fault keeps the fault
 abbrev pub walk_unless : Option Errno → Components → Components → ℕ → List SeenText → Bool → WalkState
 walk_unless None done left links lookups follow = walk_on done left links lookups follow
 walk_unless (Some errno) done left links lookups follow = Fault errno
 
--- what the walk comes to by what is seen from here on
+-- where the walk gets by what is seen from here on
 abbrev pub walk_from : Walk → List SeenText → WalkState
 walk_from walk lookups = walk_unless walk.fault walk.done walk.left walk.links lookups walk.follow
 
--- the same, without the name
+-- how far a walk is, without its name
 abbrev pub step_of : WalkState → WalkStep
 step_of (Name name) = step.Name
 step_of (Next name) = step.More
 step_of (Fault errno) = step.Fault errno
 
--- the name that is looked at next, if one is
+-- the name that is looked at next, if any
 abbrev pub asked_name : WalkState → Option Components
 asked_name (Name name) = None
 asked_name (Next name) = Some name
 asked_name (Fault errno) = None
 
--- the walk behind the `..` that it has come to
+-- the walk after each `..` that comes next
 abbrev pub climbed : Walk → Walk
 climbed walk = record walk { done = name_after_ups walk.done walk.left; left = rest_after_ups walk.left }
 
--- the walk behind its next component, which joins the name
+-- the walk after its next component, which is appended to the name
 abbrev pub entered : Walk → Walk
 entered walk = climbed (record walk { done = walk.done ++ take 1 walk.left; left = drop 1 walk.left })
 
--- the walk with a link's target in the place of its next component
+-- the walk with a link's target in place of its next component
 abbrev pub followed : Walk → List ℕ → Walk
 followed walk target = climbed (record walk { done = start_of_name target walk.done; left = components_of target ++ drop 1 walk.left; links = walk.links + 1 })
 
--- the fault that comes before any look
+-- the fault of a text before any look
 abbrev pub fault_before_lookups : List ℕ → Option Errno
 fault_before_lookups text =
     if nat_eq (length text) 0 then Some ENOENT

@@ -9,11 +9,11 @@ use st_names::{first_slash, is_component};
 use std::alloc::{AllocError, Global};
 use std::marker::Model;
 
-/// The components of a text that are left to go through. Where the next one ends is kept, so that it isn't searched for each time.
+/// The components of a text that are left. The end of the next component is stored, so that it isn't searched for each time.
 #[derive(Debug, Drop)]
 pub struct Cursor {
     text: Text,
-    // Where the next component begins and ends, or the text's length for both.
+    // Where the next component begins and ends; both are the text's length if none is left.
     at: usize,
     end: usize,
 }
@@ -30,7 +30,7 @@ impl Model for Cursor {
     ghost invariant = { λ c. IsComponentAt c.text c.at c.end };
 }
 
-// Where the part ends that begins at this place.
+// Where the part that begins at this offset ends.
 fn part_end(text: &[u8], at: usize) -> usize
     requires { at ≤ length text.now }
     ensures place { result ≡ at + first_part_len (drop at text.now) }
@@ -39,7 +39,7 @@ fn part_end(text: &[u8], at: usize) -> usize
     at + first_slash(&text[at..])
 }
 
-// Where the first component from this place on begins and ends, or the text's length for both where there is none.
+// Where the first component from this offset on begins and ends; both are the text's length if there is none.
 fn component_from(text: &[u8], from: usize) -> (usize, usize)
     requires { from ≤ length text.now }
     ensures at { IsComponentAt text.now result.0 result.1 }
@@ -56,7 +56,7 @@ fn component_from(text: &[u8], from: usize) -> (usize, usize)
     (at, at)
 }
 
-// Where the next component begins and ends behind one that ends at this place, or the text's length for both where there is none.
+// Where the component after one that ends at this offset begins and ends; both are the text's length if there is none.
 #[inline]
 fn component_behind(text: &[u8], end: usize) -> (usize, usize)
     requires { end ≤ length text.now }
@@ -105,7 +105,7 @@ impl Cursor {
         behind == text.len()
     }
 
-    /// Goes on behind the next component.
+    /// Moves past the next component.
     pub fn drop_first(&mut self)
         requires { 0 < length self.old }
         ensures { self.new ≡ drop 1 self.old }

@@ -1,5 +1,5 @@
-//! How names are resolved in the modelled file tree: a walk over the components of a text that is asked for one name after
-//! another and told what was seen of each.
+//! How names are resolved in the modelled file tree: a walk over the components of a text, which asks for a look at one name after
+//! another and goes on by what was seen.
 #![tactic(auto)]
 
 mod cursor;

@@ -1,4 +1,4 @@
-// The components that a walk has left, out of its text and out of the links that it follows.
+// The components that a walk has left, from its text and from the links that it follows.
 ghost use Rattle.std.specs.Prelude.{◌≡◌, ◌↔◌, ◌+◌, ◌<◌, ◌≤◌, false, [], ◌∷◌, ◌++◌, drop, length, IsTrue, IsNone, IfSome, IfOk, OnOk, OnErr, vec_len, vec_capacity};
 ghost use Rattle.st_names.specs.Name.{components_of, has_slash};
 ghost use Rattle.st_model.specs.Walk.{is_last};
@@ -11,7 +11,7 @@ use std::marker::Model;
 /// The components that are left, the next one first.
 #[derive(Debug, Drop)]
 pub struct Remaining {
-    // The texts that they stand in, that of the next component last. Each has a component left.
+    // The texts that have these components, that of the next component last. Each text has a component left.
     texts: Vec<Cursor>,
 }
 
@@ -39,7 +39,7 @@ impl Remaining {
         Ok(Remaining { texts })
     }
 
-    /// Whether none is left.
+    /// Whether no component is left.
     pub fn is_empty(&self) -> bool
         ensures { IsTrue result ↔ (self.now ≡ []) }
     {
@@ -74,7 +74,7 @@ impl Remaining {
         drop_first(&mut self.texts);
     }
 
-    /// Puts the components of a text in the place of the next one.
+    /// Replaces the next component with the components of a text. If memory runs out, nothing changes.
     pub fn replace_first(&mut self, alloc: Global, text: &[u8]) -> Result<(), AllocError>
         requires { 0 < length self.old }
         ensures ok { OnOk result (self.new ≡ components_of text.now ++ drop 1 self.old) }
@@ -88,7 +88,7 @@ impl Remaining {
     }
 }
 
-// Adds a text, unless it has no component left.
+// Pushes a text, unless it has no component left.
 fn put_back(texts: &mut Vec<Cursor>, text: Cursor)
     requires { vec_len texts.old < vec_capacity texts.old }
     ensures joined { joined texts.new.items ≡ text ++ joined texts.old.items }
@@ -101,7 +101,7 @@ fn put_back(texts: &mut Vec<Cursor>, text: Cursor)
     }
 }
 
-// Drops the next component of these texts, and the text that it stands in if that has no other.
+// Drops the next component of these texts, and its text if that has no other component.
 fn drop_first(texts: &mut Vec<Cursor>)
     requires { AreUnfinished texts.old.items }
     ensures joined { joined texts.new.items ≡ drop 1 (joined texts.old.items) }

@@ -18,10 +18,10 @@ use std::alloc::{AllocError, Global};
 use std::marker::Model;
 use thiserror::Error;
 
-/// Why a walk does not begin.
+/// Why a walk doesn't begin.
 #[derive(Clone, Copy, Debug, PartialEq, Eq, Drop, Error)]
 pub enum WalkFault {
-    /// The text is no name, or the name that it means is too long.
+    /// The text isn't a name, or the name that it means is too long.
     #[error("the name can't be resolved")]
     Os(Errno),
     #[error("out of memory")]
@@ -38,19 +38,19 @@ impl From<AllocError> for WalkFault {
     }
 }
 
-/// How far a walk has come.
+/// How far a walk is.
 #[derive(Clone, Copy, Debug, PartialEq, Eq)]
 pub enum WalkStep {
-    /// It asks for a look.
+    /// The walk asks for a look.
     More,
-    /// It has its name.
+    /// The walk has its name.
     Name,
-    /// It has ended with this error.
+    /// The walk has ended with this error.
     Fault(Errno),
 }
 
-/// The resolution of one name, a component at a time. It asks for a look at one name after another and goes on by what is
-/// told of each; nothing of that is kept but the links that still have components left.
+/// The resolution of one name, a component at a time. The walk asks for a look at one name after another and goes on by what was
+/// seen. It stores nothing of what was seen but the links that still have components left.
 #[derive(Debug, Drop)]
 pub struct Walk {
     done: AbsName,
@@ -78,7 +78,7 @@ fn is_up(part: &[u8]) -> bool
     part == b"..".as_slice()
 }
 
-// Where a text begins: at the root if it is absolute, else at this name.
+// Where a text begins: at the root if it is absolute, otherwise at this name.
 fn origin_of(alloc: Global, text: &[u8], from: &AbsName) -> Result<AbsName, AllocError>
     ensures { IfOk result (λ name. name ≡ start_of_name text.now from.now) }
 {
@@ -89,7 +89,7 @@ fn origin_of(alloc: Global, text: &[u8], from: &AbsName) -> Result<AbsName, Allo
     }
 }
 
-// The fault of a text before any look.
+// The error of a text before any look.
 fn first_fault(text: &[u8]) -> Option<Errno>
     ensures { result ≡ fault_before_lookups text.now }
 {
@@ -102,15 +102,15 @@ fn first_fault(text: &[u8]) -> Option<Errno>
     }
 }
 
-// Whether a text leads up alone, so that no look is needed.
+// Whether `..` is a text's only component, once or several times, so that no look is needed.
 fn is_way_up(text: &[u8]) -> bool
     ensures { result ≡ is_last (rest_after_ups (components_of text.now)) }
 {
     split_at_slashes(text).all(|part| !is_component(part) || is_up(part))
 }
 
-/// How far the walk of a text is before its first look, which takes no memory; the directory's name has at most 1,024 bytes. ENOENT
-/// where the text is empty, ENAMETOOLONG where a part of it has more than 255 bytes.
+/// How far the walk of a text is before its first look. Takes no memory. The directory's name has at most 1,024 bytes. ENOENT if
+/// the text is empty, ENAMETOOLONG if a part of it has more than 255 bytes.
 pub fn first_step(text: &[u8], cwd: &AbsName) -> WalkStep
     requires { length (printed_name cwd.now) ≤ LONGEST_NAME }
     ensures { (follow : Bool) → result ≡ step_of (start_walk text.now cwd.now follow []) }
@@ -123,9 +123,9 @@ pub fn first_step(text: &[u8], cwd: &AbsName) -> WalkStep
 }
 
 impl Walk {
-    /// The walk of a text from this directory; `follow` says whether a link that is last is followed. ENOENT where the text is
-    /// empty, ENAMETOOLONG where a part of it has more than 255 bytes, and both before memory is taken; ENAMETOOLONG where no
-    /// look is needed and the name has more than 1,024 bytes.
+    /// The walk of a text from this directory; `follow` says whether a link that is last is followed. ENOENT if the text is empty,
+    /// ENAMETOOLONG if a part of it has more than 255 bytes, both before memory is taken. ENAMETOOLONG also if no look is needed
+    /// and the name has more than 1,024 bytes.
     pub fn begin(alloc: Global, text: &[u8], cwd: &AbsName, follow: bool) -> Result<Walk, WalkFault>
         ensures walk { IfOk result (λ walk. (lookups : List SeenText) → walk_from walk lookups ≡ start_walk text.now cwd.now follow lookups) }
         ensures may { IfOk result (λ _. (errno : Errno) → start_walk text.now cwd.now follow [] ≢ Fault errno) }
@@ -149,7 +149,7 @@ impl Walk {
         }
     }
 
-    /// How far the walk has come.
+    /// How far the walk is.
     pub fn step(&self) -> WalkStep
         ensures { result ≡ step_of (walk_from self.now []) }
     {
@@ -163,7 +163,7 @@ impl Walk {
         }
     }
 
-    /// The name to look at next; none exactly where the walk has its name.
+    /// The name to look at next; `None` exactly when the walk has its name.
     pub fn next_look(&self, alloc: Global) -> Result<Option<AbsName>, AllocError>
         requires { (errno : Errno) → step_of (walk_from self.now []) ≢ step.Fault errno }
         ensures look { IfOk result (λ look. look ≡ asked_name (walk_from self.now [])) }
@@ -177,9 +177,9 @@ impl Walk {
         Ok(Some(name))
     }
 
-    /// Goes on by what was seen of the name that `next_look` gave, and says how far that is: ENOENT where a component that isn't
-    /// last is missing, ENOTDIR where it is a file or where NotDir was seen, ELOOP at the 33rd link, ENAMETOOLONG where the
-    /// finished name has more than 1,024 bytes. Without memory the walk stays where it is.
+    /// Goes on by what was seen of the name that `next_look` gave, and returns how far the walk is then. ENOENT if a component that
+    /// isn't last is missing, ENOTDIR if it is a file or if NotDir was seen, ELOOP at the 33rd link, ENAMETOOLONG if the finished
+    /// name has more than 1,024 bytes. If memory runs out, the walk is unchanged.
     pub fn advance(&mut self, alloc: Global, seen: Seen<'_>) -> Result<WalkStep, AllocError>
         requires { step_of (walk_from self.old []) ≡ step.More }
         ensures walk { OnOk result ((lookups : List SeenText) → walk_from self.new lookups ≡ walk_from self.old (seen_text seen.entry ∷ lookups)) }
@@ -216,7 +216,7 @@ impl Walk {
         &self.done
     }
 
-    /// The name that the walk has found, which takes no memory.
+    /// The name that the walk has found. Takes no memory.
     pub fn into_name(self) -> AbsName
         requires { step_of (walk_from self []) ≡ step.Name }
         ensures { walk_from self [] ≡ Name result }
@@ -224,7 +224,7 @@ impl Walk {
         self.done
     }
 
-    // Drops the `..` that are next, each with the component that it steps up from.
+    // Drops each `..` that is next, with the component that it steps up from.
     #[inline]
     fn climb(&mut self)
         ensures { self.new ≡ climbed self.old }
@@ -238,7 +238,7 @@ impl Walk {
         }
     }
 
-    // Adds the next component to the name.
+    // Appends the next component to the name.
     fn enter(&mut self) -> Result<(), AllocError>
         requires { 0 < length self.old.left }
         ensures ok { OnOk result (self.new ≡ entered self.old) }
@@ -252,7 +252,7 @@ impl Walk {
         Ok(())
     }
 
-    // Puts a link's target in the place of the next component.
+    // Replaces the next component with a link's target.
     fn follow_link(&mut self, alloc: Global, target: &[u8]) -> Result<(), AllocError>
         requires next { 0 < length self.old.left }
         requires links { self.old.links < MOST_LINKS }

@@ -1,4 +1,4 @@
--- The bytes before the first zero one, and what a text spells by their count.
+-- The bytes before the first zero byte, and what a text spells by their count.
 use native.Mathlib.Omega.{arith}
 use Rattle.std.proofs.Common.{◌≡◌, ◌<◌, ◌≤◌, ◌+◌, ◌/◌, ◌%◌, ℕ, zero, suc, Bool, true, false, cond, not, ◌||◌, nat_lt, List, [], ◌∷◌, ◌++◌, length, take, drop, get_or, min, Some, None, refl, ap, sym, ◌∙◌, ltb, eqb}
 use Rattle.std.proofs.lemmas.Bool.{ltb-true, ltb-false, eqb-true, eqb-false, or_parts}
@@ -25,11 +25,11 @@ chosen : (b : Bool) (n m x y : ℕ) → eqb n m ≡ b → n ≡ m → cond b x y
 chosen true n m x y t e = refl
 chosen false n m x y t e = absurd (eqb-false n m t e)
 
--- behind bytes of which none is zero
+-- after bytes none of which is zero
 pub letters-append : (xs ys : List ℕ) → prefix_len is_letter xs ≡ length xs → prefix_len is_letter (xs ++ ys) ≡ length xs + prefix_len is_letter ys
 letters-append xs ys e = prefix_len-append is_letter xs ys ∙ chosen (eqb (prefix_len is_letter xs) (length xs)) (prefix_len is_letter xs) (length xs) (length xs + prefix_len is_letter ys) (prefix_len is_letter xs) refl e
 
--- bytes of which none is zero are all before the first zero one
+-- bytes none of which is zero are all before the first zero byte
 pub letters_all : (bytes : List ℕ) → list_any is_zero bytes ≡ false → prefix_len is_letter bytes ≡ length bytes
 letters_all [] e = refl
 letters_all (x ∷ bytes) e =
@@ -44,7 +44,7 @@ letters_some (x ∷ bytes) e = by_first (is_zero x) e (λ h. letters_some bytes 
   by_first true h rest = omega arith
   by_first false h rest = let below = rest h in omega (arith, below)
 
--- ---- where the first zero byte stands
+-- ---- where the first zero byte is
 
 picked : (b : Bool) (n m : ℕ) → ltb n m ≡ b → n < m → cond b (Some n) None ≡ Some n
 picked true n m h l = refl
@@ -68,7 +68,7 @@ some_zero bytes l = by_test (list_any is_zero bytes) refl where
   by_test true t = t
   by_test false t = let all = letters_all bytes t in absurd (omega (arith, all, l))
 
--- a zero byte behind those that are letters is the first one
+-- a zero byte after letters alone is the first zero byte
 pub stops_at : (bytes : List ℕ) (i : ℕ) → i ≤ prefix_len is_letter bytes → i < length bytes → get_or bytes i 0 ≡ 0 → (i ≡ prefix_len is_letter bytes) × (list_any is_zero bytes ≡ true)
 stops_at bytes i front below e = by_test (ltb i (prefix_len is_letter bytes)) refl where
   by_test : (b : Bool) → ltb i (prefix_len is_letter bytes) ≡ b → (i ≡ prefix_len is_letter bytes) × (list_any is_zero bytes ≡ true)
@@ -78,7 +78,7 @@ stops_at bytes i front below e = by_test (ltb i (prefix_len is_letter bytes)) re
       cc
   by_test false t = let late = ltb-false i (prefix_len is_letter bytes) t in (omega (arith, front, late), some_zero bytes (omega (arith, late, below)))
 
--- another byte is one more letter
+-- a byte that isn't zero is one more letter
 pub goes_past : (bytes : List ℕ) (i : ℕ) → i ≤ prefix_len is_letter bytes → i < length bytes → (get_or bytes i 0 ≡ 0 → ⊥) → i + 1 ≤ prefix_len is_letter bytes
 goes_past bytes i front below other = by_test (ltb i (prefix_len is_letter bytes)) refl where
   is_zero_there : (byte : ℕ) → is_letter byte ≡ false → byte ≡ 0
@@ -95,7 +95,7 @@ goes_past bytes i front below other = by_test (ltb i (prefix_len is_letter bytes
       let stops = prefix_len_stops is_letter bytes 0 (omega (arith, late, below)) in
       absurd (other (ap (λ (n : ℕ). get_or bytes n 0) (sym here) ∙ is_zero_there (get_or bytes (prefix_len is_letter bytes) 0) stops))
 
--- where all are letters none is zero
+-- if all bytes are letters, none is zero
 pub none_stops : (bytes : List ℕ) → length bytes ≤ prefix_len is_letter bytes → list_any is_zero bytes ≡ false
 none_stops bytes l = by_test (list_any is_zero bytes) refl where
   by_test : (b : Bool) → list_any is_zero bytes ≡ b → list_any is_zero bytes ≡ false
@@ -139,11 +139,11 @@ open_bytes longest place bytes e short =
 same_bytes : (longest at : ℕ) (words bytes : List ℕ) → bytes_of_words at words ≡ bytes → spell_text longest at words ≡ spelled_by longest (at / 8 + length words) bytes
 same_bytes longest at words bytes e = ap (λ (bs : List ℕ). spelled_by longest (at / 8 + length words) bs) e
 
--- more bytes than it may have come before a zero one
+-- more bytes than allowed come before a zero byte
 pub long_text : (longest at : ℕ) (words bytes : List ℕ) → bytes_of_words at words ≡ bytes → longest < prefix_len is_letter bytes → spell_text longest at words ≡ Fault ENAMETOOLONG
 long_text longest at words bytes e l = same_bytes longest at words bytes e ∙ long_bytes longest (at / 8 + length words) bytes l
 
--- a zero byte ends it
+-- a zero byte ends the text
 pub ended_text : (longest at : ℕ) (words bytes : List ℕ) → bytes_of_words at words ≡ bytes → prefix_len is_letter bytes ≤ longest → prefix_len is_letter bytes < length bytes → spell_text longest at words ≡ Text (take (prefix_len is_letter bytes) bytes)
 ended_text longest at words bytes e short some = same_bytes longest at words bytes e ∙ ended_bytes longest (at / 8 + length words) bytes short some
 
@@ -159,7 +159,7 @@ length-word word = refl
 abbrev none : List ℕ
 none = []
 
--- a word has no more than eight
+-- a word has at most eight letters
 pub few_letters : (next word : ℕ) → letter_count next word ≤ 8
 few_letters next word =
     let within = prefix_len-le-length is_letter (bytes_at next word) in
@@ -173,7 +173,7 @@ drop_none (suc n) = refl
 pub bytes_of_none : (next : ℕ) → bytes_of_words next [] ≡ []
 bytes_of_none next = drop_none (next % 8)
 
--- the bytes of words are those of the first, and those of the rest
+-- the bytes of words are those of the first word, then those of the rest
 pub bytes_of_words-cons : (next word : ℕ) (rest : List ℕ) → bytes_of_words next (word ∷ rest) ≡ bytes_at next word ++ bytes_of_words (next_word_byte next) rest
 bytes_of_words-cons next word rest =
     let none : next_word_byte next % 8 ≡ 0 = omega arith in

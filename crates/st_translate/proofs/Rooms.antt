@@ -1,4 +1,4 @@
--- Every part fits into the room for its words and its text.
+-- Each part fits into the capacity for its words and its text.
 use native.Mathlib.Omega.{arith}
 use Rattle.std.proofs.Common.{◌≡◌, ◌<◌, ◌≤◌, ◌+◌, ◌/◌, ℕ, List, [], ◌∷◌, ◌++◌, length, ap, sym, ◌∙◌, length-append}
 use Rattle.std.proofs.lemmas.List.Folds.{concat-append}
@@ -14,7 +14,7 @@ use Rattle.st_translate.specs.declared.stage.Stage.{Stage}
 use Rattle.st_translate.specs.declared.stage.Stage.TheVariants.{Text, Address, Pointer, Part, Fault, Done}
 use Rattle.st_translate.proofs.Stages.{spells}
 
--- texts that are joined have a byte more each, at most
+-- joined texts have at most one byte more each
 length-joined : (byte : ℕ) (parts : List (List ℕ)) → length (join_with_byte byte parts) ≤ length (concat parts) + length parts
 length-joined byte [] = omega arith
 length-joined byte (part ∷ []) = let all = length-append part [] in omega (arith, all)
@@ -31,7 +31,7 @@ length-concat parts part =
     let g = length-append part [] in
     omega (arith, e, f, g)
 
--- no kind of part has less room than a name
+-- each kind of part may have at least as many words as a name
 enough_words : (kind : PartKind) → NAME_WORDS ≤ most_words kind
 enough_words part_kind.Argv = omega arith
 enough_words kind = omega arith
@@ -40,7 +40,7 @@ enough_text : (kind : PartKind) → NAME_ROOM ≤ most_text kind
 enough_text part_kind.Argv = omega arith
 enough_text kind = omega arith
 
--- where a word is asked for, there is room for what it adds to the text
+-- if a word is asked for, there is capacity for what it adds to the text
 pub letters_fit : (kind : PartKind) (at : ℕ) (words text : List ℕ) (stage : Stage) → Reaches kind at words text stage → AsksWord stage → length text + most_added stage ≤ most_text kind
 letters_fit kind at words text (Text next read longest) r asks =
     let room = enough_text kind in
@@ -63,7 +63,7 @@ letters_fit kind at words text (Part next vector) r asks =
 letters_fit kind at words text (Fault errno) r asks = absurd asks
 letters_fit kind at words text Done r asks = absurd asks
 
--- there is room for the word, too
+-- there is capacity for the word too
 pub word_fits : (kind : PartKind) (at : ℕ) (words text : List ℕ) (stage : Stage) → Reaches kind at words text stage → AsksWord stage → length words < most_words kind
 word_fits kind at words text (Text next read longest) r asks =
     let room = enough_words kind in

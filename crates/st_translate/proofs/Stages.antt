@@ -18,7 +18,7 @@ use Rattle.st_translate.proofs.Letters.{bytes_of_none, open_text}
 use Rattle.st_translate.proofs.Texts.{next_inside, next_outside, text_goes_on}
 use Rattle.st_translate.proofs.Vectors.{part_goes_on, pointer_goes_on}
 
--- the word of an address is needed, wherever it lies
+-- the word of an address is needed, wherever it is
 address_goes_on : {kind : PartKind} {at : ℕ} {words text : List ℕ} {next : ℕ} → ReadsAddress kind at words text next → spell kind at words ≡ next_word (next / 8)
 address_goes_on {kind = kind} {at = at} {words = words} {next = next} r =
     ap (λ (k : PartKind). spell k at words) r.is_address ∙ ap (spell_address at) r.no_words ∙ by_test (at % 8 == 0) refl ∙ ap (λ (n : ℕ). next_word (n / 8)) (sym r.place) where
@@ -29,7 +29,7 @@ address_goes_on {kind = kind} {at = at} {words = words} {next = next} r =
 pub same_place : (n place : ℕ) → Some n ≡ Some place → n ≡ place
 same_place n place e = cc
 
--- a stage that asks for a word says which is next
+-- a stage that asks for a word says which word is next
 goes_on : (kind : PartKind) (at : ℕ) (words text : List ℕ) (stage : Stage) (place : ℕ) → asked_word (spelled_at stage text) ≡ Some place → IsWithin stage → Reads kind at words text stage → spell kind at words ≡ next_word place
 goes_on kind at words text (Text next read longest) place e within r = text_goes_on r within.0 ∙ ap next_word (same_place (next / 8) place e)
 goes_on kind at words text (Address next) place e within r = address_goes_on r ∙ ap next_word (same_place (next / 8) place e)
@@ -38,11 +38,11 @@ goes_on kind at words text (Part next vector) place e within r = part_goes_on r 
 goes_on kind at words text (Fault errno) place e within r = cc
 goes_on kind at words text Done place e within r = cc
 
--- where its word lies outside memory, that is a fault
+-- if that word is outside memory, there is a fault
 pub outside : (kind : PartKind) (at : ℕ) (words text : List ℕ) (stage : Stage) (place : ℕ) → asked_word (spelled_at stage text) ≡ Some place → SPACE_WORDS ≤ place → IsWithin stage → Reads kind at words text stage → spell kind at words ≡ spelling.Fault EFAULT
 outside kind at words text stage place e far within r = goes_on kind at words text stage place e within r ∙ next_outside place far
 
--- where no word is asked for, or one that lies in memory
+-- a stage that asks for no word, or for one in memory
 pub inside : (kind : PartKind) (at : ℕ) (words text : List ℕ) (stage : Stage) → ((place : ℕ) → asked_word (spelled_at stage text) ≡ Some place → place < SPACE_WORDS) → IsWithin stage → Reads kind at words text stage → Reaches kind at words text stage
 inside kind at words text (Text next read longest) near within r = ((near (next / 8) refl, within), r)
 inside kind at words text (Address next) near within r = (near (next / 8) refl, r)
@@ -51,7 +51,7 @@ inside kind at words text (Part next vector) near within r = ((near (next / 8) r
 inside kind at words text (Fault errno) near within r = r
 inside kind at words text Done near within r = r
 
--- what is reached is spelled
+-- words spell what the stage that they reach says
 pub spells : (kind : PartKind) (at : ℕ) (words text : List ℕ) (stage : Stage) → Reaches kind at words text stage → spell kind at words ≡ spelled_at stage text
 spells kind at words text (Text next read longest) r = text_goes_on r.1 r.0.1.0 ∙ next_inside (next / 8) r.0.0
 spells kind at words text (Address next) r = address_goes_on r.1 ∙ next_inside (next / 8) r.0
@@ -60,7 +60,7 @@ spells kind at words text (Part next vector) r = part_goes_on r.1 ∙ next_insid
 spells kind at words text (Fault errno) r = r
 spells kind at words text Done r = r
 
--- a stage that is reached and at which a word is asked for
+-- if words ask for another, so does the stage that they reach
 pub asks : (kind : PartKind) (at : ℕ) (words text : List ℕ) (stage : Stage) → Reaches kind at words text stage → IsSome (asked_word (spell kind at words)) → AsksWord stage
 asks kind at words text (Text next read longest) r some = r.0
 asks kind at words text (Address next) r some = r.0
@@ -69,7 +69,7 @@ asks kind at words text (Part next vector) r some = r.0
 asks kind at words text (Fault errno) r some = let never : IsSome (asked_word (spelling.Fault errno)) = subst (λ (s : Spelled). IsSome (asked_word s)) r some in cc
 asks kind at words text Done r some = let never : IsSome (asked_word (spelling.Text text)) = subst (λ (s : Spelled). IsSome (asked_word s)) r some in cc
 
--- the word that is asked for lies in memory
+-- the word that is asked for is in memory
 pub asks_inside : (kind : PartKind) (at : ℕ) (words text : List ℕ) (stage : Stage) → Reaches kind at words text stage → IfSome (asked_word (spelled_at stage text)) (λ place. place < SPACE_WORDS)
 asks_inside kind at words text (Text next read longest) r = r.0.0
 asks_inside kind at words text (Address next) r = r.0
@@ -95,11 +95,11 @@ begins_outside part_kind.Octal at e far = cc
 begins_outside part_kind.Domain at e far = cc
 begins_outside part_kind.SockType at e far = cc
 
--- one word further
+-- the words up to an index, and one word further
 pub further : (kind : PartKind) (at : ℕ) (words text : List ℕ) (stage : Stage) (i : ℕ) → i < length words → Reaches kind at (take i words ++ get_or words i 0 ∷ []) text stage → Reaches kind at (take (i + 1) words) text stage
 further kind at words text stage i below r = subst (λ (ws : List ℕ). Reaches kind at ws text stage) (sym (take_more words i 0 below)) r
 
--- where words are all there, what was read is their text
+-- if words are complete, the text that was read is the one they spell
 pub all_read : (kind : PartKind) (at : ℕ) (words text : List ℕ) (stage : Stage) → Reaches kind at words text stage → IsDone (spell kind at words) → spell kind at words ≡ spelling.Text text
 all_read kind at words text stage r done = by_stage stage (spells kind at words text stage r) where
   by_stage : (stage : Stage) → spell kind at words ≡ spelled_at stage text → spell kind at words ≡ spelling.Text text

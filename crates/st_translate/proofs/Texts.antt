@@ -1,4 +1,4 @@
--- A text, one word further.
+-- A text with one more word.
 use native.Mathlib.Omega.{arith}
 use Rattle.std.proofs.Common.{◌≡◌, ◌<◌, ◌≤◌, ◌+◌, ◌/◌, ℕ, Bool, true, false, cond, nat_le, List, [], ◌∷◌, ◌++◌, length, take, refl, ap, sym, ◌∙◌, length-append, append-nil, append_assoc}
 use Rattle.std.proofs.lemmas.Bool.{leb-true, leb-false}
@@ -14,7 +14,7 @@ use Rattle.st_translate.specs.Bytes.{bytes_at, ends_at, is_letter, letter_count,
 use Rattle.st_translate.specs.Stage.{ReadsText}
 use Rattle.st_translate.proofs.Letters.{bytes_of_none, bytes_of_words-cons, ended_text, letters-append, letters_all, letters_some, long_text, open_text}
 
--- a place in memory is next, and one outside is a fault
+-- an index in memory is next, and one outside is a fault
 pub next_inside : (place : ℕ) → place < SPACE_WORDS → next_word place ≡ More place
 next_inside place l = by_test (nat_le SPACE_WORDS place) refl where
   by_test : (b : Bool) → nat_le SPACE_WORDS place ≡ b → cond b (Fault EFAULT) (More place) ≡ More place
@@ -27,7 +27,7 @@ next_outside place l = by_test (nat_le SPACE_WORDS place) refl where
   by_test true t = refl
   by_test false t = let f = leb-false SPACE_WORDS place t in absurd (omega (arith, f))
 
--- the bytes of a word before the first zero one, where none is zero
+-- if no byte of a word is zero, all its bytes come before the first zero byte
 pub letters_at_all : (next word : ℕ) → ends_at next word ≡ false → letters_at next word ≡ bytes_at next word
 letters_at_all next word e = let all = letters_all (bytes_at next word) e in take_all (letter_count next word) (bytes_at next word) (omega (arith, all))
 
@@ -46,7 +46,7 @@ module _ {kind : PartKind} {at : ℕ} {words text : List ℕ} {next read longest
   letters_with : (word : ℕ) → prefix_len is_letter (text ++ bytes_at next word) ≡ read + letter_count next word
   letters_with word = letters-append text (bytes_at next word) r.letters ∙ ap (λ (n : ℕ). n + letter_count next word) (sym r.count)
 
-  -- the next word is needed, wherever it lies
+  -- the next word is needed, wherever it is
   pub text_goes_on : read ≤ longest → spell kind at words ≡ next_word (next / 8)
   text_goes_on short =
       let count = r.count in

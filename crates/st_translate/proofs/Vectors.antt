@@ -1,4 +1,4 @@
--- An argument vector, one word further.
+-- An argument vector with one more word.
 use native.Mathlib.Omega.{arith}
 use Rattle.std.proofs.Common.{◌≡◌, ◌<◌, ◌≤◌, ◌+◌, ◌/◌, ◌%◌, ◌==◌, ◌||◌, ℕ, suc, Bool, true, false, cond, nat_lt, nat_le, List, [], ◌∷◌, ◌++◌, length, drop, refl, ap, sym, ◌∙◌, length-append, append-nil, append_assoc}
 use Rattle.std.proofs.lemmas.Bool.{ltb-true, leb-true, eqb-true, ne_eqb}
@@ -31,7 +31,7 @@ when_within false m n x y t l = refl
 
 -- ---- texts with blanks between them
 
--- what grows at the end of the last part grows at the end of all
+-- what is appended to the last part is appended to the joined text
 join-last : (parts : List (List ℕ)) (part more : List ℕ) → join_with_byte blank (parts ++ (part ++ more) ∷ []) ≡ join_with_byte blank (parts ++ part ∷ []) ++ more
 join-last [] part more = refl
 join-last (first ∷ []) part more = sym (append_assoc first (blank ∷ part) more)
@@ -39,7 +39,7 @@ join-last (first ∷ second ∷ parts) part more =
     ap (λ (bs : List ℕ). first ++ (blank ∷ bs)) (join-last (second ∷ parts) part more)
     ∙ sym (append_assoc first (blank ∷ join_with_byte blank (second ∷ (parts ++ part ∷ []))) more)
 
--- a part behind others begins with a blank
+-- the text that comes before one more part: the parts so far, and a blank if there are any
 blank_behind : List (List ℕ) → List ℕ
 blank_behind [] = []
 blank_behind (first ∷ parts) = blank ∷ []
@@ -61,7 +61,7 @@ blank_added (first ∷ parts) word false t l = ap (λ (b : Bool). cond b [] (bla
 -- ---- a pointer
 
 module _ {kind : PartKind} {at : ℕ} {words text : List ℕ} {vector : Vector} (r : ReadsPointer kind at words text vector) where
-  -- the next pointer is needed, wherever it lies
+  -- the next pointer is needed, wherever it is
   pub pointer_goes_on : spell kind at words ≡ next_word (vector.pointer / 8)
   pointer_goes_on = ap (spell kind at) (sym (append-nil words)) ∙ r.onward [] ∙ ap next_word (sym r.place)
 
@@ -101,7 +101,7 @@ before_more : (pointer count : ℕ) → bytes_before_part pointer (count + 1) �
 before_more pointer count = let e : suc count ≡ count + 1 = omega arith in ap (bytes_before_part pointer) (sym e)
 
 module _ {kind : PartKind} {at : ℕ} {words text : List ℕ} {next : ℕ} {vector : Vector} (r : ReadsPart kind at words text next vector) where
-  -- the next word is needed, wherever it lies
+  -- the next word is needed, wherever it is
   pub part_goes_on : spell kind at words ≡ next_word (next / 8)
   part_goes_on = ap (spell kind at) (sym (append-nil words)) ∙ r.onward [] ∙ ap next_word (sym r.here)
 

@@ -1,11 +1,11 @@
--- A part of a call that lies in memory, as far as it is copied.
+-- A part of a call in memory, as far as it was copied.
 use Rattle.std.specs.Prelude.{ℕ, Bool, true, false, List, [], ◌∷◌, ◌++◌, Option, Some, None}
 use Rattle.st_base.specs.declared.errno.Errno.{Errno}
 use Rattle.st_calls.specs.declared.argument.PartKind.{PartKind}
 use Rattle.st_calls.specs.declared.argument.PartKind.TheVariants as kind
 use Rattle.st_model.specs.Spelling.{Spelled, Text, Fault, More, spell}
 
--- whether an argument of this kind lies in memory, and its place in the register; else it lies in the register itself
+-- whether an argument of this kind is in memory, at the address in its register; otherwise the register has its value
 abbrev pub lies_in_memory : PartKind → Bool
 lies_in_memory kind.Name = true
 lies_in_memory kind.Plain = true
@@ -16,7 +16,7 @@ lies_in_memory kind.Octal = false
 lies_in_memory kind.Domain = false
 lies_in_memory kind.SockType = false
 
--- the kind of the part, the byte where it begins, and the words that are copied
+-- the kind of the part, the byte where it begins, and the words that were copied
 pub record Copied : Type 0 where
   pub kind : PartKind
   pub at : ℕ
@@ -26,23 +26,23 @@ pub record Copied : Type 0 where
 abbrev pub spelled : Copied → Spelled
 spelled copied = spell copied.kind copied.at copied.words
 
--- the same with one more word
+-- the same part with one more word
 abbrev pub with_word : Copied → ℕ → Copied
 with_word copied word = record { kind = copied.kind; at = copied.at; words = copied.words ++ word ∷ [] }
 
--- the place of the word that is copied next, where one is
+-- the index of the word that is copied next, if any
 abbrev pub asked_word : Spelled → Option ℕ
 asked_word (Text text) = None
 asked_word (Fault errno) = None
 asked_word (More place) = Some place
 
--- the fault that words came to, where they did
+-- the fault of words, if they have one
 abbrev pub fault_of : Spelled → Option Errno
 fault_of (Text text) = None
 fault_of (Fault errno) = Some errno
 fault_of (More place) = None
 
--- the words are all there
+-- the words are complete
 abbrev pub IsDone : Spelled → Type 0
 IsDone (Text text) = Unit {0}
 IsDone (Fault errno) = ⊥

@@ -1,4 +1,4 @@
--- How far a part is copied, and what its words have spelled so far.
+-- How far a part was copied, and what its words have spelled so far.
 use Rattle.std.specs.Prelude.{ℕ, ◌≡◌, ◌+◌, ◌/◌, ◌%◌, ◌<◌, ◌≤◌, ◌==◌, ◌||◌, if◌then◌else◌, true, List, [], ◌∷◌, ◌++◌, length, take, IsSome}
 use Rattle.std.specs.List.{concat, join_with_byte, prefix_len}
 use Rattle.std.specs.Int.{w64, to_le_bytes}
@@ -15,7 +15,7 @@ use Rattle.st_translate.specs.declared.stage.Vector.{Vector}
 use Rattle.st_translate.specs.declared.stage.Stage.{Stage}
 use Rattle.st_translate.specs.declared.stage.Stage.TheVariants.{Text, Address, Pointer, Part, Fault, Done}
 
--- what is spelled at a stage where this text was read
+-- what is spelled at a stage with this text
 abbrev pub spelled_at : Stage → List ℕ → Spelled
 spelled_at (Text next read longest) text = spelling.More (next / 8)
 spelled_at (Address next) text = spelling.More (next / 8)
@@ -24,7 +24,7 @@ spelled_at (Part next vector) text = spelling.More (next / 8)
 spelled_at (Fault errno) text = spelling.Fault errno
 spelled_at Done text = spelling.Text text
 
--- what a word adds to the text
+-- what a word adds to the text at a stage
 abbrev pub text_added : Stage → ℕ → List ℕ
 text_added (Text next read longest) word = letters_at next word
 text_added (Address next) word = address_text (to_le_bytes w64 word)
@@ -33,7 +33,7 @@ text_added (Part next vector) word = letters_at next word
 text_added (Fault errno) word = []
 text_added Done word = []
 
--- how many bytes that is at most
+-- how many bytes a word adds at most
 abbrev pub most_added : Stage → ℕ
 most_added (Text next read longest) = 8
 most_added (Address next) = 28
@@ -42,12 +42,12 @@ most_added (Part next vector) = 8
 most_added (Fault errno) = 0
 most_added Done = 0
 
--- how many words a part of a kind takes at most
+-- the most words that a part of a kind takes
 abbrev pub most_words : PartKind → ℕ
 most_words part_kind.Argv = VECTOR_WORDS
 most_words kind = NAME_WORDS
 
--- the room that its text fits in, with what one more word may add to it
+-- the capacity that its text fits in, with what one more word may add to it
 abbrev pub most_text : PartKind → ℕ
 most_text part_kind.Argv = VECTOR_ROOM
 most_text kind = NAME_ROOM
@@ -61,7 +61,7 @@ IsWithin (Part next vector) = (vector.parts < ARGV_PARTS) × (vector.pointer / 8
 IsWithin (Fault errno) = Unit {0}
 IsWithin Done = Unit {0}
 
--- a further word is needed, and lies in memory
+-- another word is needed, and it is in memory
 abbrev pub AsksWord : Stage → Type 0
 AsksWord (Text next read longest) = (next / 8 < SPACE_WORDS) × IsWithin (Text next read longest)
 AsksWord (Address next) = next / 8 < SPACE_WORDS
@@ -70,7 +70,7 @@ AsksWord (Part next vector) = (next / 8 < SPACE_WORDS) × IsWithin (Part next ve
 AsksWord (Fault errno) = ⊥
 AsksWord Done = ⊥
 
--- words have spelled the front of a text, up to this byte of memory, and no byte of it is zero
+-- words have spelled a prefix of a text, up to this byte of memory, and no byte of the prefix is zero
 pub record ReadsText (kind : PartKind) (at : ℕ) (words text : List ℕ) (next read longest : ℕ) : Type 0 where
   pub is_text : (all : List ℕ) → spell kind at all ≡ spell_text longest at all
   pub bytes : (rest : List ℕ) → bytes_of_words at (words ++ rest) ≡ text ++ bytes_of_words next rest
@@ -78,7 +78,7 @@ pub record ReadsText (kind : PartKind) (at : ℕ) (words text : List ℕ) (next 
   pub letters : prefix_len is_letter text ≡ length text
   pub count : read ≡ length text
 
--- no word of an address was read
+-- no word of an address has been read
 pub record ReadsAddress (kind : PartKind) (at : ℕ) (words text : List ℕ) (next : ℕ) : Type 0 where
   pub is_address : kind ≡ part_kind.Addr
   pub place : next ≡ at
@@ -96,7 +96,7 @@ pub record ReadsPointer (kind : PartKind) (at : ℕ) (words text : List ℕ) (ve
   pub count : vector.parts ≡ length parts
   pub bytes : vector.bytes ≡ length (concat parts)
 
--- words have spelled parts of an argument vector and the front of one more, up to this byte of memory
+-- words have spelled parts of an argument vector and a prefix of one more, up to this byte of memory
 pub record ReadsPart (kind : PartKind) (at : ℕ) (words text : List ℕ) (next : ℕ) (vector : Vector) : Type 0 where
   pub is_vector : kind ≡ part_kind.Argv
   pub parts : List (List ℕ)
@@ -120,7 +120,7 @@ Reads kind at words text (Part next vector) = ReadsPart kind at words text next 
 Reads kind at words text (Fault errno) = spell kind at words ≡ spelling.Fault errno
 Reads kind at words text Done = spell kind at words ≡ spelling.Text text
 
--- the same, and where a further word is needed it lies in memory
+-- the same, and if another word is needed, it is in memory
 abbrev pub Reaches : PartKind → ℕ → List ℕ → List ℕ → Stage → Type 0
 Reaches kind at words text (Text next read longest) = AsksWord (Text next read longest) × Reads kind at words text (Text next read longest)
 Reaches kind at words text (Address next) = AsksWord (Address next) × Reads kind at words text (Address next)
@@ -129,11 +129,11 @@ Reaches kind at words text (Part next vector) = AsksWord (Part next vector) × R
 Reaches kind at words text (Fault errno) = Reads kind at words text (Fault errno)
 Reaches kind at words text Done = Reads kind at words text Done
 
--- each word was asked for by those before it
+-- each word was asked for by the words before it
 abbrev pub AreAsked : PartKind → ℕ → List ℕ → Type 0
 AreAsked kind at words = (count : ℕ) → count < length words → IsSome (asked_word (spell kind at (take count words)))
 
--- what the copying of a part keeps: its text so far and its stage, and room for every word and byte
+-- the invariant of copying a part: its text so far, its stage, and capacity for every word and byte
 pub record IsCopied (kind : PartKind) (at : ℕ) (words text : List ℕ) (stage : Stage) (room text_room : ℕ) : Type 0 where
   pub lies : lies_in_memory kind ≡ true
   pub asked : AreAsked kind at words

@@ -1,9 +1,9 @@
--- What a further word makes of a part.
+-- What one more word of a part leads to.
 use Rattle.st_model.specs.Spelling.{Spelled, Text, Fault, More}
 use Rattle.st_translate.specs.declared.copying.Took.{Took}
 use Rattle.st_translate.specs.declared.copying.Took.TheVariants as took
 
--- whether more words are needed, or the part or a fault is there
+-- whether more words are needed, the part is complete, or there is a fault
 abbrev pub took_of : Spelled → Took
 took_of (Text text) = took.Part
 took_of (Fault errno) = took.Fault errno

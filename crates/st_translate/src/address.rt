@@ -7,14 +7,14 @@ use crate::buffer::{push_all, push_number};
 /// The family of internet addresses.
 const INTERNET: u8 = 2;
 
-/// Whether the family of the address that a word has is that of internet addresses.
+/// Whether the address in a word is of the family of internet addresses.
 pub fn is_internet(word: u64) -> bool
     ensures { result ≡ (slice_index (to_le_bytes w64 word) 1 == internet) }
 {
     word.to_le_bytes()[1] == INTERNET
 }
 
-// Adds a byte of an address, which takes three digits at most.
+// Appends a byte of an address, which takes at most three digits.
 fn push_octet(text: &mut Vec<u8>, octet: u8)
     requires { vec_len text.old + 3 ≤ vec_capacity text.old }
     ensures bytes { text.new.items ≡ text.old.items ++ decimal octet }
@@ -24,7 +24,7 @@ fn push_octet(text: &mut Vec<u8>, octet: u8)
     push_number(text, u64::from(octet));
 }
 
-// Adds a port, which takes five digits at most.
+// Appends a port, which takes at most five digits.
 fn push_port(text: &mut Vec<u8>, port: u16)
     requires { vec_len text.old + 5 ≤ vec_capacity text.old }
     ensures bytes { text.new.items ≡ text.old.items ++ decimal port }
@@ -33,8 +33,9 @@ fn push_port(text: &mut Vec<u8>, port: u16)
     push_number(text, u64::from(port));
 }
 
-/// Adds the text of the address that a word has, which takes 28 bytes of the room at most.
-// Apart, since it is rare and long: the words of texts are taken without the room and the registers that it needs.
+/// Appends the text of the address in a word, which takes at most 28 bytes.
+// A function of its own, since addresses are rare and their code is long: the words of texts are taken without the space and the
+// registers that it needs.
 #[inline(never)]
 pub fn push_address(text: &mut Vec<u8>, word: u64)
     requires { vec_len text.old + 28 ≤ vec_capacity text.old }

@@ -1,9 +1,9 @@
-// Adding to a text for which the room is there already.
+// Appending to a text that has enough capacity already.
 ghost use Rattle.std.specs.Prelude.{◌≡◌, ◌+◌, ◌≤◌, ◌++◌, decimal, length, vec_capacity, vec_len};
 
 use itoa::Buffer;
 
-/// Adds bytes.
+/// Appends bytes.
 pub fn push_all(text: &mut Vec<u8>, bytes: &[u8])
     requires { vec_len text.old + length bytes.now ≤ vec_capacity text.old }
     ensures bytes { text.new.items ≡ text.old.items ++ bytes.now }
@@ -15,7 +15,7 @@ pub fn push_all(text: &mut Vec<u8>, bytes: &[u8])
     }
 }
 
-/// Adds a number in decimal digits.
+/// Appends a number in decimal digits.
 pub fn push_number(text: &mut Vec<u8>, number: u64)
     requires { vec_len text.old + length (decimal number) ≤ vec_capacity text.old }
     ensures bytes { text.new.items ≡ text.old.items ++ decimal number }

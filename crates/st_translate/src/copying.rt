@@ -12,25 +12,25 @@ use st_calls::PartKind;
 use std::alloc::{AllocError, Global};
 use std::marker::Model;
 
-/// What a copied word led to.
+/// What taking a word led to.
 #[derive(Clone, Copy, Debug, PartialEq, Eq)]
 pub enum Took {
-    /// A further word is needed.
+    /// Another word is needed.
     More,
-    /// The part is all there.
+    /// The part is complete.
     Part,
     Fault(Errno),
 }
 
-/// A part of a call that is copied from memory word by word. A further word costs only itself, and takes no memory; the text is there
-/// with the last one.
+/// A part of a call that is copied from memory word by word. The cost of taking a word doesn't grow with the words before it, and
+/// no memory is taken. With the last word the text is complete.
 #[derive(Debug, Drop)]
 pub struct Copying {
     kind: PartKind,
     at: u64,
-    // With room for every word of the part.
+    // With capacity for every word of the part.
     words: Vec<u64>,
-    // What the words spell so far, with room for every byte.
+    // What the words spell so far, with capacity for every byte.
     text: Vec<u8>,
     stage: Stage,
 }
@@ -47,7 +47,7 @@ impl Model for Copying {
     ghost invariant = { λ c. IsCopied c.kind c.at c.words.items c.text.items c.stage (vec_capacity c.words) (vec_capacity c.text) };
 }
 
-// What the word led to behind which a part stands so.
+// What the last word led to, by the stage after it.
 fn took_at(stage: Stage) -> Took
     ensures { (text : List ℕ) → result ≡ took_of (spelled_at stage text) }
 {
@@ -58,7 +58,7 @@ fn took_at(stage: Stage) -> Took
     }
 }
 
-// Reads a part again from its first word on: its text, and where it stands then.
+// Reads a part again from its first word on, and gives its text and its stage.
 fn read_again(kind: PartKind, at: u64, words: &[u64], text: &mut Vec<u8>) -> Stage
     requires kind { lies_in_memory kind ≡ true }
     requires asked { AreAsked kind at words.now }
@@ -75,7 +75,8 @@ fn read_again(kind: PartKind, at: u64, words: &[u64], text: &mut Vec<u8>) -> Sta
 }
 
 impl Copying {
-    /// A part that lies in memory from this byte on, before its first word. It takes the room for every word and for the text at once.
+    /// A part that begins at this byte of memory, before its first word. The memory for all its words and its text is allocated at
+    /// once.
     pub fn begin(alloc: Global, kind: PartKind, at: u64) -> Result<Self, AllocError>
         requires { lies_in_memory kind ≡ true }
         ensures { IfOk result (λ copying. copying ≡ record { kind = kind; at = at; words = [] }) }
@@ -89,7 +90,7 @@ impl Copying {
         })
     }
 
-    /// The place of the word that is copied next; none where the part is all there or came to a fault.
+    /// The index of the word that is copied next; `None` if the part is complete or has a fault.
     pub fn next_word(&self) -> Option<u32>
         ensures value { result ≡ asked_word (spelled self.now) }
         ensures inside { IfSome result (λ place. place < SPACE_WORDS) }
@@ -97,21 +98,21 @@ impl Copying {
         self.stage.place()
     }
 
-    /// Whether a word is copied.
+    /// Whether a word was copied.
     pub fn is_begun(&self) -> bool
         ensures { result ≡ nat_lt 0 (length self.now.words) }
     {
         !self.words.is_empty()
     }
 
-    /// The fault that the words came to, or the place of the part already.
+    /// The fault of the words, or that the part begins outside memory.
     pub fn fault(&self) -> Option<Errno>
         ensures { result ≡ fault_of (spelled self.now) }
     {
         self.stage.fault()
     }
 
-    /// Takes the word at the place that `next_word` gives.
+    /// Takes the word at the index that `next_word` gives.
     pub fn take(&mut self, word: u64) -> Took
         requires { IsSome (asked_word (spelled self.old)) }
         ensures words { self.new ≡ with_word self.old word }
@@ -122,7 +123,7 @@ impl Copying {
         took_at(self.stage)
     }
 
-    /// Undoes the last `take`, at the cost of the words before it.
+    /// Undoes the last `take`, by reading the words before it again.
     pub fn take_back(&mut self)
         requires { 0 < length self.old.words }
         ensures { (before : Copied) (word : ℕ) → self.old ≡ with_word before word → self.new ≡ before }
@@ -131,7 +132,7 @@ impl Copying {
         self.stage = read_again(self.kind, self.at, self.words.as_slice(), &mut self.text);
     }
 
-    /// Begins the part again, in the room that it has.
+    /// Starts the part again, with the capacity that it has.
     pub fn restart(&mut self)
         ensures { self.new ≡ record { kind = self.old.kind; at = self.old.at; words = [] } }
     {
@@ -140,7 +141,7 @@ impl Copying {
         self.stage = Stage::start(self.kind, self.at);
     }
 
-    /// The text of a part that is all there.
+    /// The text of a complete part.
     pub fn text(&self) -> &[u8]
         requires { IsDone (spelled self.now) }
         ensures { spelled self.now ≡ spelling.Text result.now }

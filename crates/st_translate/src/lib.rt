@@ -1,5 +1,5 @@
-//! The texts of a call's arguments: names, texts, addresses and argument vectors, which are copied word by word from a process's memory,
-//! and the arguments that lie in a register.
+//! How the arguments of a call become texts: names, texts, addresses and argument vectors, which are copied word by word from a
+//! process's memory, and the arguments whose value is in a register.
 #![tactic(auto)]
 
 mod address;

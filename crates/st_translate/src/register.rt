@@ -25,7 +25,7 @@ fn mode_text(alloc: Global, mode: u64) -> Result<Text, AllocError>
     Text::of(alloc, digits.as_bytes())
 }
 
-// A domain of sockets by its name, where it has one.
+// A domain of sockets by its name, otherwise in decimal.
 fn domain_text(alloc: Global, domain: u64) -> Result<Text, AllocError>
     ensures { IfOk result (λ text. text ≡ domain_text domain) }
 {
@@ -36,7 +36,7 @@ fn domain_text(alloc: Global, domain: u64) -> Result<Text, AllocError>
     }
 }
 
-// A type of sockets by its name, where it has one.
+// A type of sockets by its name, otherwise in decimal.
 fn type_text(alloc: Global, number: u64) -> Result<Text, AllocError>
     ensures { IfOk result (λ text. text ≡ type_text number) }
 {
@@ -47,7 +47,7 @@ fn type_text(alloc: Global, number: u64) -> Result<Text, AllocError>
     }
 }
 
-/// The text of an argument that lies in its register.
+/// The text of an argument whose value is in its register.
 pub fn plain_text(alloc: Global, kind: PartKind, register: u64) -> Result<Text, AllocError>
     requires { lies_in_memory kind ≡ false }
     ensures { IfOk result (λ text. spell kind register [] ≡ spelling.Text text) }

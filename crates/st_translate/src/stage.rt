@@ -13,20 +13,20 @@ use st_calls::PartKind;
 use st_model::{ARGV_BYTES, ARGV_PARTS, LONGEST_TEXT, SPACE_BYTES, SPACE_WORDS};
 use st_names::LONGEST_NAME;
 
-/// No name, no plain text and no address takes more words.
+/// The most words that a name, a plain text or an address takes.
 pub const NAME_WORDS: usize = 129;
 
-/// No argument vector takes more words.
+/// The most words that an argument vector takes.
 pub const VECTOR_WORDS: usize = 193;
 
-/// The room that every name, plain text and address fits in, with what one more word may add to it.
+/// The capacity that every name, plain text and address fits in, with what one more word may add to it.
 pub const NAME_ROOM: usize = 1_032;
 
-/// The room that the text of every argument vector fits in, with what one more word may add to it.
+/// The capacity that the text of every argument vector fits in, with what one more word may add to it.
 pub const VECTOR_ROOM: usize = 1_072;
 
-// An allocator has a fast path for what is small, and the words of the common kinds are small enough for it; so is their text.
-/// How many words a part of this kind takes at most.
+// An allocator has a fast path for small sizes. The words of the common kinds are small enough for it, and so is their text.
+/// The most words that a part of this kind takes.
 pub fn most_words(kind: PartKind) -> usize
     ensures { result ≡ most_words kind }
 {
@@ -36,7 +36,7 @@ pub fn most_words(kind: PartKind) -> usize
     }
 }
 
-/// The room that every text of a part of this kind fits in, with what one more word may add to it.
+/// The capacity that every text of a part of this kind fits in, with what one more word may add to it.
 pub fn most_text(kind: PartKind) -> usize
     ensures { result ≡ most_text kind }
 {
@@ -46,27 +46,27 @@ pub fn most_text(kind: PartKind) -> usize
     }
 }
 
-/// How far an argument vector is read.
+/// How far an argument vector has been read.
 #[derive(Clone, Copy, Debug, PartialEq, Eq)]
 pub struct Vector {
-    /// The byte of memory where its next pointer stands.
+    /// The byte of memory where its next pointer is.
     pub pointer: u32,
-    /// How many of its parts are wholly read.
+    /// How many of its parts have been read to their end.
     pub parts: usize,
-    /// How many bytes were read of all its parts.
+    /// How many bytes of all its parts have been read.
     pub bytes: usize,
 }
 
-/// What the next word of a part is needed for, or how the part ended. Its `next` is the byte of memory that is read next.
+/// What the next word of a part is needed for, or how the part ended. `next` is the byte of memory that is read next.
 #[derive(Clone, Copy, Debug, PartialEq, Eq)]
 pub enum Stage {
-    /// The next bytes of a text, of which so many were read, and which may have so many.
+    /// The next bytes of a text, of which `read` bytes have been read and at most `longest` may be.
     Text {
         next: u32,
         read: usize,
         longest: usize,
     },
-    /// An address.
+    /// The word of an address.
     Address {
         next: u32,
     },
@@ -83,7 +83,7 @@ pub enum Stage {
     Done,
 }
 
-// The first byte of the word behind the one that has this byte.
+// The first byte of the word after the word with this byte.
 fn next_word_byte(next: u32) -> u32
     requires { next / 8 < SPACE_WORDS }
     ensures { result ≡ next_word_byte next }
@@ -91,7 +91,7 @@ fn next_word_byte(next: u32) -> u32
     8 * (next / 8 + 1)
 }
 
-// Adds the bytes before the first zero one. Gives their count, and whether one is zero.
+// Appends the bytes before the first zero byte. Returns their count, and whether a byte is zero.
 #[inline]
 fn push_until_zero(text: &mut Vec<u8>, bytes: &[u8]) -> (usize, bool)
     requires { vec_len text.old + length bytes.now ≤ vec_capacity text.old }
@@ -109,8 +109,8 @@ fn push_until_zero(text: &mut Vec<u8>, bytes: &[u8]) -> (usize, bool)
     (bytes.len(), false)
 }
 
-// Adds the bytes of a word, from this byte of memory on, that stand before the first zero one. Gives their count, and whether one is
-// zero.
+// Appends the bytes of a word, from this byte of memory on, that come before the first zero byte. Returns their count, and whether
+// a byte is zero.
 fn push_letters(text: &mut Vec<u8>, next: u32, word: u64) -> (usize, bool)
     requires { vec_len text.old + 8 ≤ vec_capacity text.old }
     ensures bytes { text.new.items ≡ text.old.items ++ letters_at next word }
@@ -121,14 +121,14 @@ fn push_letters(text: &mut Vec<u8>, next: u32, word: u64) -> (usize, bool)
     let bytes = word.to_le_bytes();
     let skipped = (next % 8) as usize;
     if skipped == 0 {
-        // The common word. That it has eight bytes is known here, so that their loop is unrolled.
+        // The common word. Here its slice is known to have eight bytes, so that the loop over them is unrolled.
         push_until_zero(text, &bytes)
     } else {
         push_until_zero(text, &bytes[skipped..])
     }
 }
 
-// Adds the blank between two parts of an argument vector, where this pointer is of a part behind others.
+// Appends the blank between two parts of an argument vector, if this is the pointer of a part after the first.
 fn push_blank(text: &mut Vec<u8>, vector: Vector, word: u64)
     requires { vec_len text.old < vec_capacity text.old }
     ensures bytes { text.new.items ≡ text.old.items ++ text_added (Stage.Pointer vector) word }
@@ -139,7 +139,7 @@ fn push_blank(text: &mut Vec<u8>, vector: Vector, word: u64)
     }
 }
 
-// The stage of a text after one more word, which has so many letters, and ends it or not.
+// The stage of a text after one more word, which has this many letters and may end the text.
 fn after_text(next: u32, read: usize, longest: usize, letters: usize, ended: bool) -> Stage
     requires asks { AsksWord (Stage.Text next read longest) }
     requires few { letters ≤ 8 }
@@ -193,7 +193,7 @@ fn after_pointer(vector: Vector, word: u64) -> Stage
     }
 }
 
-// The stage of an argument vector after one more word of a part, which has so many letters, and ends it or not.
+// The stage of an argument vector after one more word of a part, which has this many letters and may end the part.
 fn after_part(next: u32, vector: Vector, letters: usize, ended: bool) -> Stage
     requires asks { AsksWord (Stage.Part next vector) }
     requires few { letters ≤ 8 }
@@ -218,7 +218,7 @@ fn after_part(next: u32, vector: Vector, letters: usize, ended: bool) -> Stage
 }
 
 impl Stage {
-    /// Where a part stands before its first word, which lies in memory from this byte on.
+    /// The stage of a part before its first word. The part begins at this byte of memory.
     pub fn start(kind: PartKind, at: u64) -> Self
         requires { lies_in_memory kind ≡ true }
         ensures { Reaches kind at [] [] result }
@@ -250,7 +250,7 @@ impl Stage {
         }
     }
 
-    /// The place of the word that is needed next.
+    /// The index of the word that is needed next.
     pub fn place(self) -> Option<u32>
         ensures { (text : List ℕ) → result ≡ asked_word (spelled_at self text) }
     {
@@ -263,7 +263,7 @@ impl Stage {
         }
     }
 
-    /// The fault that the part came to.
+    /// The fault of the part, if it has one.
     pub fn fault(self) -> Option<Errno>
         ensures { (text : List ℕ) → result ≡ fault_of (spelled_at self text) }
     {
@@ -274,7 +274,7 @@ impl Stage {
         }
     }
 
-    // The stage itself, or a fault where the next word lies past the end of memory.
+    // The stage itself, or a fault if the next word is past the end of memory.
     fn inside(self) -> Self
         requires { IsWithin self }
         ensures { (kind : PartKind) (at : ℕ) (words text : List ℕ) → Reads kind at words text self → Reaches kind at words text result }
@@ -289,7 +289,7 @@ impl Stage {
         }
     }
 
-    /// Goes on by one more word, and adds to a text what it adds to it.
+    /// Takes one more word, and appends to a text what the word adds to it.
     #[inline]
     pub fn take(&mut self, text: &mut Vec<u8>, word: u64)
         requires room { vec_len text.old + most_added self.old ≤ vec_capacity text.old }
