@@ -1,4 +1,4 @@
--- A duplication that is refused.
+-- When dup(2) is refused.
 use Rattle.std.proofs.Common.{◌≡◌, ℕ, [], Option, Some, None, refl, ap, sym, ◌∙◌}
 use Rattle.std.specs.declared.result.Result.TheVariants.{Err}
 use Rattle.st_base.specs.declared.errno.Errno.{Errno}
@@ -24,6 +24,6 @@ pub failed : (system : effects.System) (errno : Errno) (outcome : Outcome) (desc
     → outcome.result ≡ Failed errno → outcome.changes ≡ [] → descriptors ≡ system.descriptors → outcome_of outcome descriptors ≡ effects.failure system errno
 failed system errno outcome descriptors result changes kept = λ i. record { result = result i; changes = changes i; descriptors = kept i }
 
--- it is refused for the reason that is answered, and changes nothing
+-- dup(2) is refused with the error that it returns, and changes nothing
 pub refused : (t : Table) (pid fd : ℕ) (fault : FdFault) (errno : Errno) → Err fault ≡ dup_result t pid fd → fault ≡ Os errno → (dup_refused t pid fd ≡ Some errno) × (table_after_dup t pid fd ≡ t)
 refused t pid fd fault errno answer is = refused_by t pid (file_number_at t pid fd) (file_at t pid fd) (least_free t pid) errno (ap Err (sym is) ∙ answer)

@@ -1,4 +1,4 @@
--- A file that isn't too long is written.
+-- Writing to a file that doesn't get too long.
 use Rattle.std.proofs.Common.{◌≡◌, ◌∙◌, ℕ, ◌+◌, ◌≤◌, ◌&&◌, Bool, true, false, List, if◌then◌else◌, length, Some, None, refl, ap}
 use Rattle.std.specs.Prelude.{nat_lt}
 use Rattle.st_base.specs.declared.errno.Errno.TheVariants.{ENOSPC}

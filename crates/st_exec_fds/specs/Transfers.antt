@@ -1,4 +1,4 @@
--- Bytes between an open file and memory: where they can be moved, why they can't, and which they are.
+-- Moving bytes between an open file and memory: when it is possible, why it fails, and which bytes are moved.
 use Rattle.std.specs.Prelude.{ℕ, not, List, [], ◌∷◌, Option, Some, None}
 use Rattle.st_base.specs.Errno.{error_if, first_error}
 use Rattle.st_base.specs.declared.errno.Errno.{Errno}
@@ -18,7 +18,7 @@ IsPlainFile tree Console = Unit {0}
 IsPlainFile tree (Node obj) = IsFile tree obj
 IsPlainFile tree (Socket port connected) = ⊥
 
--- so many bytes can't be read to this byte of memory from what a descriptor leads to
+-- why `count` bytes can't be read to byte `at` of memory from the open file that a descriptor refers to
 abbrev pub read_refused : Tree → Option OpenFile → ℕ → ℕ → Option Errno
 read_refused tree None at count = Some EBADF
 read_refused tree (Some file) at count = first_error (
@@ -27,7 +27,7 @@ read_refused tree (Some file) at count = first_error (
     error_if (is_open_directory tree file.kind) EISDIR ∷
     buffer_fault at count ∷ [])
 
--- so many bytes can't be written from this byte of memory to what a descriptor leads to
+-- why `count` bytes can't be written from byte `at` of memory to the open file that a descriptor refers to
 abbrev pub write_refused : Option OpenFile → ℕ → ℕ → Option Errno
 write_refused None at count = Some EBADF
 write_refused (Some file) at count = first_error (

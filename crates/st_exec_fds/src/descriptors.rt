@@ -15,7 +15,7 @@ use st_request::{Outcome, Request};
 use st_tree::{Kind, Tree};
 use std::alloc::Global;
 
-/// close(fd): frees a descriptor. It takes no memory.
+/// close(fd): closes a descriptor. Takes no memory.
 pub fn close(fds: &mut Fds, alloc: Global, request: &Request<'_>) -> Outcome
     requires { has_table fds.old request.now.pid ≡ true }
     ensures outcome { (system : effects.System) → outcome_of result fds.new ≡ close_outcome (with_descriptors system fds.old) request.now }
@@ -28,7 +28,7 @@ pub fn close(fds: &mut Fds, alloc: Global, request: &Request<'_>) -> Outcome
     }
 }
 
-/// dup(fd): leads one more descriptor to the same open file. It takes no memory.
+/// dup(fd): makes one more descriptor refer to the same open file. Takes no memory.
 pub fn dup(fds: &mut Fds, alloc: Global, request: &Request<'_>) -> Outcome
     requires { has_table fds.old request.now.pid ≡ true }
     ensures outcome { (system : effects.System) → outcome_of result fds.new ≡ dup_outcome (with_descriptors system fds.old) request.now }
@@ -42,7 +42,7 @@ pub fn dup(fds: &mut Fds, alloc: Global, request: &Request<'_>) -> Outcome
     }
 }
 
-// A number and a signed offset of 64 bits, where that is a place in a file.
+// The sum of a number and a signed offset of 64 bits, if it is an offset in a file.
 fn place_in_file(base: u64, offset: u64) -> Option<u64>
     ensures { result ≡ offset_in_file (signed_sum base offset) }
 {
@@ -57,7 +57,7 @@ fn place_in_file(base: u64, offset: u64) -> Option<u64>
     Some(place)
 }
 
-// Where lseek leads to; only a file has places.
+// The offset that lseek(2) moves to; `None` if there is no such offset, or if the open file isn't that of a file.
 fn seek_offset(tree: &Tree, request: &Request<'_>, file: &OpenFile) -> Option<u64>
     requires { IsRealFile tree.now file.now }
     ensures { result ≡ seek_offset tree.now request.now file.now file.now.kind }
@@ -78,7 +78,7 @@ fn seek_offset(tree: &Tree, request: &Request<'_>, file: &OpenFile) -> Option<u6
     place_in_file(base, request.register(1))
 }
 
-/// lseek(fd, offset, whence): moves the offset of a descriptor's open file. It takes no memory.
+/// lseek(fd, offset, whence): moves the offset of a descriptor's open file. Takes no memory.
 pub fn lseek(tree: &Tree, fds: &mut Fds, alloc: Global, request: &Request<'_>) -> Outcome
     requires table { has_table fds.old request.now.pid ≡ true }
     requires real { IsReal tree.now fds.old }

@@ -1,4 +1,4 @@
-//! The calls on descriptors, and those that move bytes between open files and memory: each as its definition says.
+//! The calls on file descriptors, and those that move bytes between open files and memory: each as its definition says.
 #![tactic(auto)]
 
 mod descriptors;

@@ -27,7 +27,7 @@ use st_trace::{CallResult, Change};
 use st_tree::{Kind, Tree};
 use std::alloc::{AllocError, Global};
 
-// So many bytes of a memory, from this one on.
+// `count` bytes of a memory, from byte `at` on.
 #[derive(Clone, Copy)]
 struct Buffer {
     space: Space,
@@ -56,7 +56,7 @@ fn is_open_directory(tree: &Tree, file: &OpenFile) -> bool
     }
 }
 
-// Lets bytes lie in memory, or says that they don't.
+// Checks that `count` bytes from byte `at` on are in memory; EFAULT if not.
 fn test_buffer(at: u64, count: u64) -> Result<(), Errno>
     ensures refused { result_err result ≡ buffer_fault at count }
     ensures inside { OnOk result (at + count ≤ SPACE_BYTES) }
@@ -67,7 +67,7 @@ fn test_buffer(at: u64, count: u64) -> Result<(), Errno>
     Ok(())
 }
 
-// The open file that so many bytes may be read from, to this byte of memory.
+// The open file, if `count` bytes can be read from it to byte `at` of memory; otherwise the error of the call.
 fn file_to_read(tree: &Tree, file: Option<OpenFile>, at: u64, count: u64) -> Result<OpenFile, Errno>
     requires { IfSome file (IsRealFile tree.now) }
     ensures file { IfOk result (λ found. file ≡ Some found) }
@@ -89,7 +89,7 @@ fn file_to_read(tree: &Tree, file: Option<OpenFile>, at: u64, count: u64) -> Res
     Ok(file)
 }
 
-// The open file that so many bytes may be written to, from this byte of memory.
+// The open file, if `count` bytes can be written to it from byte `at` of memory; otherwise the error of the call.
 fn file_to_write(file: Option<OpenFile>, at: u64, count: u64) -> Result<OpenFile, Errno>
     ensures file { IfOk result (λ found. file ≡ Some found) }
     ensures plain { (tree : model.Tree) → IfSome file (IsRealFile tree) → IfOk result (λ found. IsPlainFile tree found.kind) }
@@ -108,7 +108,7 @@ fn file_to_write(file: Option<OpenFile>, at: u64, count: u64) -> Result<OpenFile
     Ok(file)
 }
 
-// What an open file has from its offset on; the console has nothing.
+// At most `count` bytes of an open file, from its offset on; the console has none.
 fn bytes_read(tree: &Tree, alloc: Global, file: &OpenFile, count: u64) -> Result<Text, AllocError>
     requires { IsPlainFile tree.now file.now.kind }
     ensures bytes { IfOk result (λ text. text ≡ bytes_read tree.now file.now count) }
@@ -131,7 +131,7 @@ fn bytes_moved(outcome: &Outcome) -> &[u8]
     }
 }
 
-// Puts bytes into memory that they lie in; none change nothing.
+// Puts bytes into memory, which contains their place. If there are none, nothing changes.
 fn put(
     spaces: &mut Spaces,
     alloc: Global,
@@ -154,8 +154,8 @@ fn put(
     put_bytes(spaces, alloc, space, at, bytes.bytes(), count)
 }
 
-/// read(fd, at, count): reads bytes of an open file into memory, from its offset on, which moves behind them. Without memory
-/// nothing changes.
+/// read(fd, at, count): reads bytes of an open file into memory, from the file's offset on, and moves the offset past them. If
+/// memory runs out, nothing changes.
 pub fn read(
     tree: &Tree,
     fds: &mut Fds,
@@ -192,7 +192,7 @@ pub fn read(
     Ok(outcome)
 }
 
-// The byte that a write begins at: with append the size, else the offset.
+// The offset that a write begins at: with append the size of the file, otherwise the offset of the open file.
 fn write_offset(tree: &Tree, obj: Obj, file: &OpenFile) -> u64
     requires { IsMade tree.now obj }
     ensures { result ≡ write_offset tree.now obj file.now }
@@ -204,7 +204,7 @@ fn write_offset(tree: &Tree, obj: Obj, file: &OpenFile) -> u64
     }
 }
 
-// Writes bytes that lie in memory into a file, from this byte of the file on.
+// Writes bytes of memory into a file, from byte `start` of the file on.
 fn write_object(
     tree: &mut Tree,
     spaces: &Spaces,
@@ -238,8 +238,8 @@ fn write_object(
     Ok(outcome)
 }
 
-/// write(fd, at, count): writes bytes of memory to an open file, from its offset on or, with append, from its end, and moves
-/// the offset behind them. Without memory nothing changes.
+/// write(fd, at, count): writes bytes of memory to an open file, from its offset on or, with append, from its end, and moves the
+/// offset past them. If memory runs out, nothing changes.
 pub fn write(
     tree: &mut Tree,
     fds: &mut Fds,

@@ -1,4 +1,4 @@
--- What the changes of a call leave alone: those of calls on names change the tree alone, those of looks memory alone.
+-- What the changes of a call leave alone: calls on names change only the tree, looks change only memory.
 use Rattle.std.proofs.Common.{◌≡◌, ◌∙◌, ap, refl, ℕ, Bool, true, false, cond, ◌==◌, List, [], ◌∷◌, Option, Some, None}
 use Rattle.std.specs.List.{fold}
 use Rattle.st_base.specs.Errno.{first_error}
@@ -26,12 +26,12 @@ use Rattle.st_trace.specs.declared.entry.Change.{Change}
 use Rattle.st_trace.specs.declared.entry.Change.TheVariants.{Made, Linked, Removed, Renamed, Written, Cut, Moded, Owned, Put, Forked, Execed, SetIds, Cwd, Dying, Renewed, Policy}
 use Rattle.st_exec_fs.specs.Execution.{IsLook, IsOnDescriptors, IsOnNames}
 
--- each of some changes
+-- P holds of each of some changes
 abbrev pub Each : (Change → Type 0) → List Change → Type 0
 Each P [] = Unit {0}
 Each P (change ∷ changes) = P change × Each P changes
 
--- what each of some changes leaves, all of them leave
+-- what each of some changes leaves as it is, all of them do
 fold_same : {A : Type 0} (f : A → Change → A) (P : Change → Type 0) → ((a : A) (c : Change) → P c → f a c ≡ a) → (a : A) (changes : List Change) → Each P changes → fold f a changes ≡ a
 fold_same f P same a [] each = refl
 fold_same f P same a (c ∷ changes) each = ap (λ b. fold f b changes) (same a c each.0) ∙ fold_same f P same a changes each.1
@@ -73,17 +73,17 @@ LeavesMemory c = (own : ℕ) (memory : ℕ → ℕ → ℕ) → memory_after_cha
 abbrev LeavesProcesses : Change → Type 0
 LeavesProcesses c = (processes : ℕ → Process) (m p : ℕ) (before : Process) → process_after_change processes m p before c ≡ before
 
--- what a change of the tree leaves
+-- what a change of the tree leaves as it is
 record LeavesAllButTree (c : Change) : Type 0 where
   memory : LeavesMemory c
   processes : LeavesProcesses c
 
--- what one of memory leaves
+-- what a change of memory leaves as it is
 record LeavesAllButMemory (c : Change) : Type 0 where
   tree : LeavesTree c
   processes : LeavesProcesses c
 
--- what one of a directory leaves
+-- what a change of a directory leaves as it is
 record LeavesAllButDirectory (c : Change) : Type 0 where
   tree : LeavesTree c
   memory : LeavesMemory c
@@ -178,7 +178,7 @@ none_left (c ∷ changes) each = absurd each.0
 
 -- ---- outcomes by their cases
 
--- each change of an outcome is such a change
+-- P holds of each change of an outcome
 pub record Makes (P : Change → Type 0) (outcome : Outcome) : Type 0 where
   pub changes : Each P outcome.changes
 
@@ -195,7 +195,7 @@ module _ (P : Change → Type 0) (system : System) where
   found outcome makes None = record { changes = tt }
   found outcome makes (Some object) = makes object
 
-  -- nor does one whose name has nothing
+  -- a call whose name has no object changes nothing
   on : (name : Components) (outcome : Object → Outcome) → ((object : Object) → Makes P (outcome object)) → Makes P (on_object system name outcome)
   on name outcome makes = found outcome makes (object_at system.tree name)
 
@@ -343,7 +343,7 @@ module _ (system : System) (request : Request) where
   looks_change Bind is = absurd is
   looks_change Connect is = absurd is
 
-  -- ---- what changes neither
+  -- ---- calls that change neither the tree nor memory
 
   pub chdir_changes : Makes IsOfDirectory (effect system Chdir request)
   chdir_changes = search (unless, on, one)
@@ -359,7 +359,7 @@ module _ (system : System) (request : Request) where
   seeks None = record { changes = tt }
   seeks (Some file) = sought (seek_offset system.tree request file file.kind)
 
-  -- calls on descriptors change these alone
+  -- calls on descriptors have no changes but of these
   pub descriptors_change : (call : SysCall) → IsOnDescriptors call → Makes IsNone (effect system call request)
   descriptors_change Close is = search (unless, none)
   descriptors_change Lseek is = seeks (file_at system.descriptors request.pid (register request 0))

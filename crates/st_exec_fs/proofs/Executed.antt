@@ -1,4 +1,4 @@
--- What is left after a call on names and files, by the part that it changes.
+-- The system after a call on names and files, by the part that the call changes.
 use Rattle.std.proofs.Common.{◌≡◌, ◌<◌, ◌∙◌, ap, refl, subst, sym, ℕ, List, [], Result, Ok, Err, IfOk, OnErr}
 use Rattle.st_calls.specs.declared.call.SysCall.{SysCall}
 use Rattle.st_calls.specs.declared.call.SysCall.TheVariants.{Open, Read, Write, Access, Chdir}
@@ -23,7 +23,7 @@ use Rattle.st_exec_fs.proofs.Changed.{access_changes, chdir_changes, descriptors
 use Rattle.st_request.proofs.Stay.{stay_real}
 
 module _ (request : Request) (tree : Tree) (table : Table) (processes : Processes) (memories : Memories) where
-  -- the system of these parts, where no call is held
+  -- the system with these parts and without held calls
   abbrev parts : System
   parts = record {
     tree = tree;
@@ -37,11 +37,11 @@ module _ (request : Request) (tree : Tree) (table : Table) (processes : Processe
     held = [];
   }
 
-  -- the changes of a call, by those of its outcome
+  -- the changes of a call are those of its outcome
   changed : (P : Change → Type 0) (call : SysCall) (given : Outcome) (left : Table) → outcome_of given left ≡ effect parts call request → Makes P (effect parts call request) → Each P given.changes
   changed P call given left is makes = let same : given.changes ≡ (effect parts call request).changes = ap (λ (o : effects.Outcome). o.changes) is in subst (Each P) (sym same) makes.changes
 
-  -- a call that changes the tree alone, and descriptors
+  -- a call that changes only the tree and descriptors
   of_tree : (call : SysCall) (given : Outcome) (new : Tree) (left : Table) → ((system : System) → outcome_of given left ≡ effect (system_of system tree table processes memories) call request)
       → new ≡ tree_after tree given.changes → Makes IsOfTree (effect parts call request) → IsExecuted call request given tree table processes memories new left processes memories
   of_tree call given new left is tree_is makes =
@@ -52,7 +52,7 @@ module _ (request : Request) (tree : Tree) (table : Table) (processes : Processe
         memory = λ s b. ap (λ (m : ℕ → ℕ → ℕ). m s b) (sym (memory_left (process_at processes request.pid).space (byte_in memories) given.changes all));
       }
 
-  -- one that changes memory alone, and descriptors
+  -- a call that changes only memory and descriptors
   of_memory : (call : SysCall) (given : Outcome) (left : Table) (new : Memories) → ((system : System) → outcome_of given left ≡ effect (system_of system tree table processes memories) call request)
       → ((s b : ℕ) → byte_in new s b ≡ memory_after (process_at processes request.pid).space (byte_in memories) given.changes s b)
       → Makes IsOfMemory (effect parts call request) → IsExecuted call request given tree table processes memories tree left processes new
@@ -64,7 +64,7 @@ module _ (request : Request) (tree : Tree) (table : Table) (processes : Processe
         memory = memory_is;
       }
 
-  -- ---- the calls, each with what its own function gives
+  -- ---- the calls, each by the result of its own function
 
   pub names_executed : {E : Type 0} (call : SysCall) (result : Result Outcome E) (new : Tree) → IsOnNames call
       → IfOk result (λ given. (system : System) → outcome_of given system.descriptors ≡ effect (with_tree system tree) call request) → IfOk result (λ given. new ≡ tree_after tree given.changes)
@@ -129,10 +129,10 @@ module _ (request : Request) (tree : Tree) (table : Table) (processes : Processe
       subst (λ (c : SysCall). IsExecuted c request given tree table processes memories tree table new memories) (sym named) done
   chdir_executed call (Err error) new named is after = tt
 
-  -- ---- calls can be made for the process still
+  -- ---- calls can still be made for the process
 
   module _ (ready : IsReady tree table processes memories request.pid) where
-    -- with what is real now, and the same tables and spaces
+    -- if open files are real and the same tables and spaces exist
     pub still_ready : (new_tree : Tree) (left : Table) (new : Memories) → KeepsTables table left → KeepsSpaces memories new → IsReal new_tree left → IsReady new_tree left processes new request.pid
     still_ready new_tree left new tables spaces real = record {
       table = tables request.pid ∙ ready.table;
@@ -141,12 +141,12 @@ module _ (request : Request) (tree : Tree) (table : Table) (processes : Processe
       real = real;
     }
 
-    -- a tree that was changed
+    -- after a change of the tree
     pub ready_with_tree : {E : Type 0} (result : Result Outcome E) (new : Tree) → IfOk result (λ given. new ≡ tree_after tree given.changes) → OnErr result (new ≡ tree) → IsReady new table processes memories request.pid
     ready_with_tree (Ok given) new is err = still_ready new table memories (λ pid. refl) (refl, λ s. refl) (subst (λ (t : Tree). IsReal t table) (sym is) (stay_real tree table given.changes ready.real))
     ready_with_tree (Err error) new is err = subst (λ (t : Tree). IsReady t table processes memories request.pid) (sym err) ready
 
-    -- a process that was moved
+    -- after a change of the process's directory
     pub ready_with_processes : {E : Type 0} (result : Result Outcome E) (new : Processes)
         → IfOk result (λ given. (system : System) → outcome_of given system.descriptors ≡ effect (with_tree system tree) Chdir request)
         → IfOk result (λ given. AreProcessesAfter processes request.pid given.changes new) → OnErr result (new ≡ processes) → IsReady tree table new memories request.pid
@@ -161,7 +161,7 @@ module _ (request : Request) (tree : Tree) (table : Table) (processes : Processe
         }
     ready_with_processes (Err error) new is after err = subst (λ (p : Processes). IsReady tree table p memories request.pid) (sym err) ready
 
--- ---- access(2) alone among the looks changes nothing, and looks at no process
+-- ---- of the looks only access(2) changes nothing, and it needs no process
 
 no_table : Table
 no_table = record { processes = []; files = [] }

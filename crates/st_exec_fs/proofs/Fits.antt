@@ -1,4 +1,4 @@
--- A file that isn't too long is cut.
+-- Truncating a file to a length that isn't too great.
 use Rattle.std.proofs.Common.{◌≡◌, ℕ, ◌≤◌, Bool, if◌then◌else◌, Some, None, ap}
 use Rattle.st_base.specs.declared.errno.Errno.TheVariants.{ENOSPC}
 use Rattle.st_tree.specs.Refusals.{cut_refused}

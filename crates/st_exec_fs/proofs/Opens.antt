@@ -1,4 +1,4 @@
--- What open gives, test by test.
+-- What open(2) returns, test by test.
 use Rattle.std.proofs.Common.{◌≡◌, ◌∙◌, ap, refl, sym, subst, ℕ, ◌==◌, ◌&&◌, false, not, List, [], ◌∷◌, Option, Some, None, IfSome}
 use Rattle.std.specs.Option.{option_map, unwrap_or}
 use Rattle.std.specs.Prelude.{IfOk, OnOk, Result, Ok, Err}
@@ -32,7 +32,7 @@ pub found_at : (tree : Tree) (name : Components) (found : Option ℕ) → found 
 found_at tree name None is made = ap (object_numbered tree) (sym is)
 found_at tree name (Some obj) is made = ap (object_numbered tree) (sym is) ∙ ap (object_with obj) (numbered tree obj made)
 
--- the flags ask for an access, a descriptor is free, and the name is walked to
+-- the flags ask for an access, a descriptor is free, and a walk reaches the name
 pub passed : (system : effects.System) (request : effects.Request) (found : Option Object) → (access_of (effects.register request 1) == 3) ≡ false → open_refused system.descriptors request.pid ≡ None
     → walk_error system.tree request.ids (effects.arg_name_at request 0) ≡ None → object_at system.tree (effects.arg_name_at request 0) ≡ found → open_outcome system request ≡ open_node_outcome system request found
 passed system request found flags free walks is = rw (flags, free, walks, is) refl
@@ -45,20 +45,20 @@ module _ (system : effects.System) (request : effects.Request) (object : Object)
       error_if (is_directory object.node.kind && is_changing flags) EISDIR ∷
       error_if (not (may_open object.node request.ids flags)) EACCES ∷ []
 
-  -- an object isn't opened, or is
+  -- an object isn't opened, and then one that is
   pub not_opened : (errno : Errno) → Some errno ≡ first_error reasons → open_node_outcome system request (Some object) ≡ effects.failure system errno
   not_opened errno reason = ap (λ reason. effects.unless_error system reason (open_object_outcome system request object.number (truncation object.number (effects.register request 1)))) (sym reason)
 
   pub opened : None ≡ first_error reasons → open_node_outcome system request (Some object) ≡ open_object_outcome system request object.number (truncation object.number (effects.register request 1))
   opened reason = ap (λ reason. effects.unless_error system reason (open_object_outcome system request object.number (truncation object.number (effects.register request 1)))) (sym reason)
 
--- an object whose name is no link's
+-- an object whose name isn't that of a link
 pub no_link_at : (tree : Tree) (name : Components) (obj : ℕ) → Some obj ≡ object_of tree name → IsMade tree obj → IsNoLink tree name → is_link (node_with_number tree obj).kind ≡ false
 no_link_at tree name obj is made no_link =
     let P : Option Node → Type 0 = λ found. IfSome found (λ node. is_link node.kind ≡ false) in
     subst P (ap (node_at tree) (sym is) ∙ numbered tree obj made) no_link
 
--- ---- what is known once the descriptor is given and the tree is changed
+-- ---- what is known after the descriptor is given and the tree is changed
 
 module _ (tree : Tree) (table : Table) (request : effects.Request) (found : Option ℕ) (fd : ℕ) (after : Table) where
   given_by : (outcome : Outcome) → ((system : effects.System) → let before = with_descriptors (with_tree system tree) table in open_outcome before request ≡ opened_outcome before request found) → least_free table request.pid ≡ Some fd
@@ -77,12 +77,12 @@ module _ (tree : Tree) (table : Table) (request : effects.Request) (found : Opti
   given (Ok outcome) is free now value changes = given_by outcome is free now value changes
   given (Err error) is free now value changes = tt
 
--- the open files are real then
+-- the open files are real afterwards
 pub real_then : (old new : Tree) (table after : Table) (pid obj flags : ℕ) → KeepsObjects old new → after ≡ table_after_open table pid (open_file_of obj flags) → IsOpenable new (is_for_writing flags) obj → IsReal old table → IsReal new after
 real_then old new table after pid obj flags keeps now is real =
     subst (λ (t : Table). IsReal new t) (sym now) (more new table pid (open_file_of obj flags) (kept_objects old new table keeps real) is)
 
--- a call that had memory
+-- a call that didn't run out of memory
 pub had_memory : (result : Result Outcome AllocError) (P : Type 0) → is_err result ≡ false → OnOk result P → P
 had_memory (Ok outcome) P is holds = holds
 had_memory (Err error) P is holds = absurd (cc)

@@ -1,4 +1,4 @@
--- The calls on names and files, by what they are made over, and what making one leaves.
+-- The calls on names and files, by the parts of the system that they are made over, and the system after a call.
 use Rattle.std.specs.Prelude.{◌≡◌, ℕ}
 use Rattle.st_calls.specs.declared.call.SysCall.{SysCall}
 use Rattle.st_calls.specs.declared.call.SysCall.TheVariants.{Open, Close, Read, Write, Lseek, Dup, Stat, Lstat, Access, Readlink, Unlink, Link, Symlink, Rename, Mkdir, Rmdir, Chdir, Chmod, Chown, Truncate}
@@ -13,7 +13,7 @@ use Rattle.st_request.specs.Outcome.{outcome_of, system_of}
 use Rattle.st_request.specs.Processes.{AreProcessesAfter}
 use Rattle.st_request.specs.declared.outcome.Outcome.{Outcome}
 
--- a call that changes where descriptors lead to, and nothing else
+-- a call that changes descriptors or their offsets, and nothing else
 abbrev pub IsOnDescriptors : SysCall → Type 0
 IsOnDescriptors Close = Unit {0}
 IsOnDescriptors Lseek = Unit {0}
@@ -28,7 +28,7 @@ IsLook Access = Unit {0}
 IsLook Readlink = Unit {0}
 IsLook _ = ⊥
 
--- a call that changes what a name has, or whether it has something
+-- a call that changes what a name has, or whether it has an object
 abbrev pub IsOnNames : SysCall → Type 0
 IsOnNames Unlink = Unit {0}
 IsOnNames Link = Unit {0}
@@ -65,7 +65,7 @@ IsOnFiles Chown = Unit {0}
 IsOnFiles Truncate = Unit {0}
 IsOnFiles _ = ⊥
 
--- a call had its outcome over these parts of the system, and left those after its changes
+-- a call had its outcome over these parts of the system, and left the parts as its changes say
 pub record IsExecuted (call : SysCall) (request : effects.Request) (given : Outcome) (old_tree : Tree) (old_descriptors : Table) (old_processes : Processes) (old_memories : Memories) (new_tree : Tree) (new_descriptors : Table) (new_processes : Processes) (new_memories : Memories) : Type 0 where
   pub outcome : (system : effects.System) → outcome_of given new_descriptors ≡ effect (system_of system old_tree old_descriptors old_processes old_memories) call request
   pub tree : new_tree ≡ tree_after old_tree given.changes

@@ -1,4 +1,4 @@
-// Any call on names and files, made as its own function makes it.
+// Any call on names and files, made by its own function.
 ghost use Rattle.std.specs.Prelude.{◌≡◌, ℕ, true, IfOk, OnErr};
 ghost use Rattle.st_calls.specs.Call.{follows};
 ghost use Rattle.st_effects.specs.System as effects;
@@ -25,7 +25,7 @@ use st_request::{Outcome, Request};
 use st_tree::Tree;
 use std::alloc::{AllocError, Global};
 
-// A call that looks at what a name has.
+// Makes a call that looks at what a name has.
 fn look(
     tree: &Tree,
     procs: &Procs,
@@ -50,7 +50,7 @@ fn look(
     }
 }
 
-// A call that changes what a name has, or whether it has something.
+// Makes a call that changes what a name has, or whether it has an object.
 fn change_names(
     tree: &mut Tree,
     alloc: Global,
@@ -77,7 +77,7 @@ fn change_names(
     }
 }
 
-// A call that changes where descriptors lead to, and nothing else.
+// Makes a call that changes descriptors or their offsets, and nothing else.
 fn move_descriptors(
     tree: &Tree,
     fds: &mut Fds,
@@ -100,8 +100,8 @@ fn move_descriptors(
     }
 }
 
-/// Makes any call on names and files, as its own function makes it. Where the call follows a link at the end of its first name, the
-/// name was resolved before, and is no link's. Without memory nothing changes.
+/// Makes any call on names and files, by the call's own function. If the call follows a link at the end of its first name, the name
+/// was resolved before and isn't that of a link. If memory runs out, nothing changes.
 pub fn execute_fs(
     tree: &mut Tree,
     fds: &mut Fds,

@@ -1,5 +1,5 @@
-//! The calls on names and files, made over the real tree, descriptors, processes and memories: opening and cutting, and any call by the
-//! one function.
+//! Any call on names and files, made over the real tree, descriptors, processes and memories: opening and truncating files here,
+//! and each other call by its own function.
 #![tactic(auto)]
 
 mod execution;

@@ -1,4 +1,4 @@
-// The calls that open files and cut them.
+// The calls that open and truncate files.
 ghost use Rattle.std.specs.Prelude.{◌≡◌, ◌∷◌, ◌+◌, ◌<◌, ◌≤◌, ◌&&◌, [], length, not, true, false, Some, None, IfOk, IfSome, OnOk, OnErr};
 ghost use Rattle.std.specs.Result.{result_err};
 ghost use Rattle.st_base.specs.Errno.{error_if, first_error};
@@ -43,14 +43,14 @@ fn is_for_reading(flags: u64) -> bool
     flags % 4 != 1
 }
 
-// Whether they ask for writing.
+// Whether the flags of an open ask for writing.
 fn is_for_writing(flags: u64) -> bool
     ensures { result ≡ is_for_writing flags }
 {
     flags % 4 != 0
 }
 
-// Whether they ask for writing, or for the file to be cut.
+// Whether the flags of an open ask for writing or truncation.
 fn is_changing(flags: u64) -> bool
     ensures { result ≡ is_changing flags }
 {
@@ -70,7 +70,7 @@ fn open_file(obj: Obj, flags: u64) -> OpenFile
     }
 }
 
-// The file that truncate(2) cuts, or why it fails.
+// The file that truncate(2) truncates, or the error of the call.
 fn may_truncate(tree: &Tree, request: &Request<'_>, name: &AbsName) -> Result<Obj, Errno>
     requires name { name.now ≡ effects.arg_name_at request.now 0 }
     requires no_link { IsNoLink tree.now name.now }
@@ -91,7 +91,7 @@ fn may_truncate(tree: &Tree, request: &Request<'_>, name: &AbsName) -> Result<Ob
     Ok(obj)
 }
 
-// Cuts a file: the outcome of a call that gives this number. Without memory nothing is changed.
+// Sets the length of a file, and returns the outcome of a call whose result is this number. If memory runs out, nothing changes.
 fn cut(
     tree: &mut Tree,
     alloc: Global,
@@ -112,7 +112,7 @@ fn cut(
     Ok(outcome)
 }
 
-/// truncate(name, len): gives a file a length; what is new in it is zeros. Without memory nothing changes.
+/// truncate(name, len): sets the length of a file; new bytes are zeros. If memory runs out, nothing changes.
 pub fn truncate(
     tree: &mut Tree,
     alloc: Global,
@@ -131,7 +131,7 @@ pub fn truncate(
     }
 }
 
-// Lets a file be made under a name that nothing has, or says why it can't.
+// Checks that a file may be made under a name that no object has; otherwise gives the error of the call.
 fn may_make(tree: &Tree, request: &Request<'_>, place: Place) -> Result<(), Errno>
     requires { IfSome place.holder (IsMade tree.now) }
     ensures room { OnOk result (length tree.now.objects < MOST_OBJECTS) }
@@ -147,7 +147,7 @@ fn may_make(tree: &Tree, request: &Request<'_>, place: Place) -> Result<(), Errn
     Ok(())
 }
 
-// Whether the ids may have the access that the flags of an open ask for; to cut a file is to write it.
+// Whether the ids have the access that the flags of an open ask for; truncation needs write access.
 fn may_access(tree: &Tree, ids: Ids, obj: Obj, flags: u64) -> bool
     requires { IsMade tree.now obj }
     ensures { result ≡ may_open (node_with_number tree.now obj) ids flags }
@@ -156,7 +156,7 @@ fn may_access(tree: &Tree, ids: Ids, obj: Obj, flags: u64) -> bool
     (!is_for_reading(flags) || may(Want::Read)) && (!is_changing(flags) || may(Want::Write))
 }
 
-// Lets an object be opened that has a name, or says why it can't.
+// Checks that an object that exists may be opened; otherwise gives the error of the call.
 fn may_open_object(tree: &Tree, request: &Request<'_>, obj: Obj) -> Result<(), Errno>
     requires { IsMade tree.now obj }
     ensures exclusive { OnOk result (follows Open request.now.regs 0 ≡ true) }
@@ -176,7 +176,7 @@ fn may_open_object(tree: &Tree, request: &Request<'_>, obj: Obj) -> Result<(), E
     Ok(())
 }
 
-// The object that open(2) opens, none where it makes one, or why it fails.
+// The object that open(2) opens, `None` if it makes one, or the error of the call.
 fn may_open(
     tree: &Tree,
     fds: &Fds,
@@ -205,8 +205,8 @@ fn may_open(
     Ok(place.object)
 }
 
-// Makes an empty file, under the ids of a request: the outcome of a call that gives this number. Without memory nothing is
-// changed.
+// Makes an empty file under the ids of a request, and returns the outcome of a call whose result is this number. If memory runs
+// out, nothing changes.
 fn make_file(
     tree: &mut Tree,
     alloc: Global,
@@ -226,8 +226,8 @@ fn make_file(
     make_object(tree, alloc, request.ids, name, kind, request.mode(2), value)
 }
 
-// What open(2) changes in the tree: a file is made, or one that is there is cut where the flags ask for it. The call gives this
-// number. Without memory nothing is changed.
+// Changes the tree as open(2) does: makes a file, or truncates one that exists if the flags ask for it. Returns the outcome of a
+// call whose result is this number. If memory runs out, nothing changes.
 fn change_tree(
     tree: &mut Tree,
     alloc: Global,
@@ -255,7 +255,7 @@ fn change_tree(
     cut(tree, alloc, obj, 0, value)
 }
 
-// The object that open(2) opens: where there is none, the one that it makes.
+// The object that open(2) opens: the one that was found, otherwise the one that it makes.
 fn opened_object(tree: &Tree, found: Option<Obj>) -> Obj
     ensures { result ≡ opened_object tree.now found }
 {
@@ -265,8 +265,8 @@ fn opened_object(tree: &Tree, found: Option<Obj>) -> Obj
     }
 }
 
-/// open(name, flags, mode): leads the least free descriptor to what a name has, or to a file that is made there, and gives its
-/// number. Without memory nothing changes.
+/// open(name, flags, mode): makes the least free descriptor refer to the object of a name, or to a new file, and returns the
+/// descriptor. If memory runs out, nothing changes.
 pub fn open(
     tree: &mut Tree,
     fds: &mut Fds,
@@ -288,7 +288,7 @@ pub fn open(
         Err(errno) => return Ok(Outcome::failure(alloc, errno)),
     };
     let file = open_file(opened_object(tree, found), request.register(1));
-    // The descriptor first: unlike a new object it can be taken back.
+    // The descriptor comes first: unlike a new object it can be taken back.
     let Ok(fd) = fds.open(request.pid, file) else {
         return Err(AllocError);
     };

@@ -1,4 +1,4 @@
--- What is seen of names that a walk leads to.
+-- What is seen of names that a walk reaches.
 use Rattle.std.proofs.Common.{◌≡◌, ◌∙◌, ap, refl, sym, ℕ, suc, ◌-◌, Bool, true, false, if◌then◌else◌, List, [], ◌∷◌, ◌++◌, length, take, Option, Some, None, arith}
 use Rattle.std.proofs.lemmas.List.{append-nil, append_assoc}
 use Rattle.st_base.specs.declared.errno.Errno.{Errno}
@@ -14,7 +14,7 @@ use Rattle.st_model.specs.declared.permission.Want.TheVariants.{Search}
 use Rattle.st_model.specs.Tree.{Tree, Node, is_directory, look, look_along, node_of, seen_of, seen_of_kind, seen_through}
 use Rattle.st_effects.specs.NameTests.{search_error, walk_error, walk_error_from}
 
--- a walk leads on from a directory, and has no error behind it
+-- a walk goes on from a directory, and has no error afterwards
 record IsPassed (found : Option Node) (rest : Option Errno) : Type 0 where
   seen : seen_of found ≡ Dir
   through : (behind : SeenText) → seen_through found behind ≡ behind
@@ -38,7 +38,7 @@ passed : (found : Option Node) (ids : Ids) (rest : Option Errno) → search_erro
 passed None ids rest none = cc
 passed (Some node) ids rest none = passed_by node (is_directory node.kind) (allowed node ids.euid ids.egid Search) rest refl none
 
--- what a name has is seen of it
+-- what is seen of a name is what the name has
 looked_from : (tree : Tree) (ids : Ids) (done rest : Components) → walk_error_from tree ids done rest ≡ None → look_along tree done rest ≡ seen_of (node_of tree (done ++ rest))
 looked_from tree ids done [] none = ap (λ name. seen_of (node_of tree name)) (sym (append-nil done))
 looked_from tree ids done (part ∷ rest) none =
@@ -54,7 +54,7 @@ parent-more part next rest =
     let less : length (part ∷ next ∷ rest) - 1 ≡ suc (length (next ∷ rest) - 1) = omega arith in
     ap (λ n. take n (part ∷ next ∷ rest)) less
 
--- of its directory a directory
+-- what is seen of the directory of a name is a directory
 holder_looked_from : (tree : Tree) (ids : Ids) (done : Components) (part : List ℕ) (rest : Components) → walk_error_from tree ids done (part ∷ rest) ≡ None → look_along tree done (parent (part ∷ rest)) ≡ Dir
 holder_looked_from tree ids done part [] none = (passed (node_of tree done) ids _ none).seen
 holder_looked_from tree ids done part (next ∷ rest) none =

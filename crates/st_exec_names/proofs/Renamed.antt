@@ -1,4 +1,4 @@
--- Renamings that the tree doesn't refuse, and what they make of it.
+-- Renamings that the tree doesn't refuse, and how they change it.
 use Rattle.std.proofs.Common.{◌≡◌, ◌≢◌, ◌∙◌, ap, refl, sym, ℕ, Bool, true, false, cond, if◌then◌else◌, List, [], ◌∷◌, Option, Some, None, not, ◌&&◌, ◌||◌, ◌==◌, nat_eq, nat_lt}
 use Rattle.std.proofs.lemmas.Bool.{eq-eqb, eqb-true, ne_eqb, true≢false}
 use Rattle.std.specs.Map.{lookup, remove_entry}
@@ -22,7 +22,7 @@ use Rattle.st_exec_objects.specs.Walking.{object_made}
 use Rattle.st_exec_objects.proofs.Objects.{found_made, numbered}
 use Rattle.st_exec_names.proofs.Allowed.{directory_there, object_there}
 
--- three tests of which none is met
+-- three tests that are false
 record AreFalse (a b c : Bool) : Type 0 where
   first : a ≡ false
   second : b ≡ false
@@ -33,11 +33,11 @@ are_false true b c is = cc
 are_false false true c is = cc
 are_false false false c is = record { first = refl; second = refl; third = is }
 
--- why an object can't take what another has, if another has it
+-- why an object can't take a name that another object may have
 abbrev pub taken_refused : Tree → ℕ → Option ℕ → Option Errno
 taken_refused tree number other = if is_same_object (Some number) other then None else replace_refused tree (Some number) other
 
--- two numbers are one, whichever stands first
+-- two numbers are compared in either order with the same result
 pub swapped : (a b : ℕ) (same : Bool) → same ≡ (a == b) → nat_eq b a ≡ same
 swapped a b true is = eq-eqb b a (sym (eqb-true a b (sym is)))
 swapped a b false is = ne_eqb b a (λ one. true≢false (sym (eq-eqb a b (sym one)) ∙ sym is))
@@ -66,7 +66,7 @@ free_taken tree number = by (is_directory (node_with_number tree number).kind) w
   by true = refl
   by false = refl
 
--- both names have one object
+-- both names have the same object
 pub same_taken : (tree : Tree) (number other : ℕ) → nat_eq other number ≡ true → taken_refused tree number (Some other) ≡ None
 same_taken tree number other same = ap (λ (b : Bool). if b then None else replace_refused tree (Some number) (Some other)) same
 
@@ -74,7 +74,7 @@ same_taken tree number other same = ap (λ (b : Bool). if b then None else repla
 pub other_taken : (tree : Tree) (number other : ℕ) → nat_eq other number ≡ false → replace_refused tree (Some number) (Some other) ≡ None → taken_refused tree number (Some other) ≡ None
 other_taken tree number other differs may = ap (λ (b : Bool). if b then None else replace_refused tree (Some number) (Some other)) differs ∙ may
 
--- an object takes the place of one like it that has no entries
+-- an object replaces another, if neither or both are directories and the replaced one has no entries
 pub replaceable : (tree : Tree) (number other : ℕ) → (is_directory (node_with_number tree number).kind && not (is_directory (node_with_number tree other).kind)) ≡ false
     → (is_directory (node_with_number tree other).kind && not (is_directory (node_with_number tree number).kind)) ≡ false → entry_count tree other ≡ 0 → replace_refused tree (Some number) (Some other) ≡ None
 replaceable tree number other no_file no_dir bare =
@@ -86,9 +86,9 @@ replaceable tree number other no_file no_dir bare =
       by false true x y = cc
       by false false x y = refl
 
--- ---- what they make of a tree
+-- ---- how they change a tree
 
--- a name that nothing has isn't taken away
+-- removing a name that no object has changes nothing
 remove_absent : (test : Components → Bool) (names : List (Components × ℕ)) → lookup test names ≡ None → remove_entry test names ≡ names
 remove_absent test [] none = refl
 remove_absent test (entry ∷ names) none = by (test entry.0) none (remove_absent test names) where
@@ -100,7 +100,7 @@ absent_name : (tree : Tree) (name : Components) → object_of tree name ≡ None
 absent_name tree [] none = cc
 absent_name tree (part ∷ rest) none = remove_absent (λ other. is_same_name other (part ∷ rest)) tree.names none
 
--- the tree after a renaming, by whether both names have one object
+-- the tree after a renaming, by whether both names have the same object
 abbrev after : Tree → Components → Components → Bool → Tree
 after tree old new same = record { names = if same then tree.names else (rename (remove_name tree new) old new).names; objects = tree.objects }
 
@@ -124,7 +124,7 @@ other_after tree old new number other found held differs =
 
 -- ---- outcomes
 
--- why an object can't take the place of another
+-- why an object can't replace another
 abbrev pub replace_errors : Tree → ℕ → ℕ → List (Option Errno)
 replace_errors tree number other =
     error_if (is_directory (node_with_number tree number).kind && not (is_directory (node_with_number tree other).kind)) ENOTDIR ∷
@@ -144,7 +144,7 @@ renamed system request old new =
 object_found : (tree : Tree) (name : Components) (number : ℕ) → object_of tree name ≡ Some number → IsMade tree number → object_at tree name ≡ Some (object_made tree number)
 object_found tree name number found made = ap (object_numbered tree) found ∙ ap (object_with number) (numbered tree number made)
 
--- where another object may have the new name
+-- rename(2) if another object has the new name
 pub replacing : (system : System) (request : Request) (tree : Tree) (ids : Ids) (old new : Components) (number other : ℕ) (same : Bool)
     → old ≡ arg_name_at request 0 → new ≡ arg_name_at request 1 → ids ≡ request.ids → walk_error tree ids old ≡ None → object_of tree old ≡ Some number → IsMade tree number → walk_error tree ids new ≡ None
     → (is_root old || (is_root new || is_proper_prefix old new)) ≡ false → object_of tree new ≡ Some other → IsMade tree other → (number == other) ≡ same
@@ -179,19 +179,19 @@ pub found_movable : (tree : Tree) (ids : Ids) (old new : Components) (both : Bot
 found_movable tree ids old new both other found held may =
     movable tree ids old new both.obj other found.free found.walked (sym found.from.object ∙ found.object) found.made found.walked_new (sym found.to.object ∙ held) may
 
--- the first two tests refuse
+-- one of the first two tests refuses the call
 pub refused_before : (system : System) (a b : Option Errno) (rest : List (Option Errno)) (outcome : Outcome) (errno : Errno) → Some errno ≡ first_error (a ∷ b ∷ []) → unless_refused system (a ∷ b ∷ rest) outcome ≡ failure system errno
 refused_before system (Some first) b rest outcome errno is = let same : errno ≡ first = cc in ap (failure system) (sym same)
 refused_before system None (Some second) rest outcome errno is = let same : errno ≡ second = cc in ap (failure system) (sym same)
 refused_before system None None rest outcome errno is = cc
 
--- they let the call on
+-- the first two tests don't refuse the call
 pub passed_before : (system : System) (a b : Option Errno) (rest : List (Option Errno)) (outcome : Outcome) → None ≡ first_error (a ∷ b ∷ []) → unless_refused system (a ∷ b ∷ rest) outcome ≡ unless_refused system rest outcome
 passed_before system (Some first) b rest outcome is = cc
 passed_before system None (Some second) rest outcome is = cc
 passed_before system None None rest outcome is = refl
 
--- an option that has no number has none
+-- an option without a number is `None`
 pub none_left : (object : Option ℕ) → ((number : ℕ) → object ≢ Some number) → object ≡ None
 none_left None never = refl
 none_left (Some number) never = absurd (never number refl)

@@ -1,4 +1,4 @@
--- What a renaming changes.
+-- The changes of a renaming.
 use Rattle.std.specs.Prelude.{◌≡◌, false, ◌||◌, List, [], ◌∷◌, Some, None}
 use Rattle.st_base.specs.declared.ids.Ids.{Ids}
 use Rattle.st_names.specs.Name.{Components, is_root}
@@ -12,13 +12,13 @@ use Rattle.st_exec_names.specs.declared.renaming.Both.{Both}
 use Rattle.st_exec_names.specs.declared.renaming.Move.{Move}
 use Rattle.st_exec_names.specs.declared.renaming.Move.TheVariants.{Stays, Free, Replaces}
 
--- the changes of a renaming, in their order: what has the new name goes first
+-- the changes of a renaming, in their order: a new name that another object has is removed first
 abbrev pub changes_of_move : Move → Components → Components → List Change
 changes_of_move Stays old new = []
 changes_of_move Free old new = Renamed old new ∷ []
 changes_of_move Replaces old new = Removed new ∷ Renamed old new ∷ []
 
--- what both names have, where an object can go from one to the other
+-- what both names have, if the object can be renamed from one to the other
 pub record AreFound (tree : Tree) (ids : Ids) (old new : Components) (both : Both) : Type 0 where
   pub walked : walk_error tree ids old ≡ None
   pub from : IsPlace tree old both.from

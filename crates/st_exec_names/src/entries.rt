@@ -1,4 +1,4 @@
-// Calls that take entries out of directories.
+// Calls that remove entries from directories.
 ghost use Rattle.std.specs.Prelude.{◌≡◌, [], ◌∷◌, None, IfOk, OnOk, OnErr};
 ghost use Rattle.std.specs.Result.{result_err};
 ghost use Rattle.st_effects.specs.Changes.{tree_after};
@@ -18,7 +18,7 @@ use st_trace::Change;
 use st_tree::Tree;
 use std::alloc::{AllocError, Global};
 
-// Lets unlink(2) take a name away, or says why it fails.
+// Checks that unlink(2) may remove a name; otherwise gives the error of the call.
 fn may_unlink(tree: &Tree, request: &Request<'_>, name: &AbsName) -> Result<(), Errno>
     requires { name.now ≡ arg_name_at request.now 0 }
     ensures outcome { (system : System) → unlink_outcome (with_tree system tree.now) request.now ≡ unless_err system result (λ _. success system 0 (Change.Removed name.now ∷ [])) }
@@ -35,7 +35,7 @@ fn may_unlink(tree: &Tree, request: &Request<'_>, name: &AbsName) -> Result<(), 
     Ok(())
 }
 
-// Takes away a name that may be taken away.
+// Removes a name that may be removed. If memory runs out, nothing changes.
 fn remove(tree: &mut Tree, alloc: Global, name: &AbsName) -> Result<Outcome, AllocError>
     requires { remove_refused tree.old name.now ≡ None }
     ensures result { IfOk result (λ outcome. outcome.result ≡ Value 0) }
@@ -49,7 +49,7 @@ fn remove(tree: &mut Tree, alloc: Global, name: &AbsName) -> Result<Outcome, All
     Ok(outcome)
 }
 
-/// unlink(name): takes a name away from an object that is no directory.
+/// unlink(name): removes a name of an object that isn't a directory.
 pub fn unlink(tree: &mut Tree, alloc: Global, request: &Request<'_>) -> Result<Outcome, AllocError>
     ensures outcome { IfOk result (λ outcome. (system : System) → outcome_of outcome system.descriptors ≡ unlink_outcome (with_tree system tree.old) request.now) }
     ensures tree { IfOk result (λ outcome. tree.new ≡ tree_after tree.old outcome.changes) }
@@ -62,7 +62,7 @@ pub fn unlink(tree: &mut Tree, alloc: Global, request: &Request<'_>) -> Result<O
     }
 }
 
-// Lets a call take an object away, or says that it is a directory with entries.
+// Checks that an object isn't a directory with entries, and so may be removed; otherwise ENOTEMPTY.
 pub(crate) fn may_take_away(tree: &Tree, obj: Obj) -> Result<(), Errno>
     requires { IsMade tree.now obj }
     ensures refused { result_err result ≡ directory_not_empty tree.now (object_made tree.now obj) }
@@ -74,7 +74,7 @@ pub(crate) fn may_take_away(tree: &Tree, obj: Obj) -> Result<(), Errno>
     Ok(())
 }
 
-// Lets rmdir(2) take a name away, or says why it fails.
+// Checks that rmdir(2) may remove a name; otherwise gives the error of the call.
 fn may_remove_directory(tree: &Tree, request: &Request<'_>, name: &AbsName) -> Result<(), Errno>
     requires { name.now ≡ arg_name_at request.now 0 }
     ensures outcome { (system : System) → rmdir_outcome (with_tree system tree.now) request.now ≡ unless_err system result (λ _. success system 0 (Change.Removed name.now ∷ [])) }
@@ -95,7 +95,7 @@ fn may_remove_directory(tree: &Tree, request: &Request<'_>, name: &AbsName) -> R
     Ok(())
 }
 
-/// rmdir(name): takes away the name of a directory without entries.
+/// rmdir(name): removes the name of a directory without entries.
 pub fn rmdir(tree: &mut Tree, alloc: Global, request: &Request<'_>) -> Result<Outcome, AllocError>
     ensures outcome { IfOk result (λ outcome. (system : System) → outcome_of outcome system.descriptors ≡ rmdir_outcome (with_tree system tree.old) request.now) }
     ensures tree { IfOk result (λ outcome. tree.new ≡ tree_after tree.old outcome.changes) }

@@ -1,4 +1,4 @@
-//! The calls that give, move and take away names, made over the real tree: each as its definition says.
+//! The calls that add, move and remove names, made over the real tree: each as its definition says.
 #![tactic(auto)]
 
 mod entries;

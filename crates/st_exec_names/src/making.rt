@@ -1,4 +1,4 @@
-// Calls that give new names: to new objects, and to those that are there.
+// Calls that add names: of new objects, and of objects that exist.
 ghost use Rattle.std.specs.Prelude.{◌≡◌, ◌+◌, [], ◌∷◌, length, ℕ, None, IfOk, OnOk, OnErr};
 ghost use Rattle.std.specs.Result.{result_err};
 ghost use Rattle.st_base.specs.Errno.{first_error};
@@ -20,10 +20,10 @@ use st_trace::{CallResult, Change};
 use st_tree::{NewKind, NewNode, Tree};
 use std::alloc::{AllocError, Global};
 
-// A link may be read, written and executed by all.
+// The mode of a link: everyone may read, write and execute it.
 const LINK_MODE: u32 = 0o777;
 
-// Lets a call give a new name, or says why it fails.
+// Checks that a call may add a name; otherwise gives the error of the call.
 fn may_name(tree: &Tree, ids: Ids, name: &AbsName) -> Result<(), Errno>
     ensures refused { result_err result ≡ first_error (walk_error tree.now ids name.now ∷ already_exists tree.now name.now ∷ parent_not_writable tree.now ids name.now ∷ []) }
     ensures free { OnOk result (place_refused tree.now name.now ≡ None) }
@@ -36,7 +36,7 @@ fn may_name(tree: &Tree, ids: Ids, name: &AbsName) -> Result<(), Errno>
     Ok(())
 }
 
-// Lets an object of this name be made, or says why it can't.
+// Checks that an object may be made under this name; otherwise gives the error of the call.
 fn may_make(tree: &Tree, request: &Request<'_>, name: &AbsName) -> Result<(), Errno>
     ensures outcome { (system : System) (kind : NewKind) (mode : ℕ) → make_outcome (with_tree system tree.now) request.now name.now kind mode ≡ unless_err system result (λ _. success system 0 (Change.Made name.now (length tree.now.objects + 1) kind request.now.ids.euid request.now.ids.egid mode ∷ [])) }
     ensures may { OnOk result (add_refused tree.now name.now ≡ None) }
@@ -48,7 +48,7 @@ fn may_make(tree: &Tree, request: &Request<'_>, name: &AbsName) -> Result<(), Er
     Ok(())
 }
 
-// An equal kind of its own.
+// A copy of the kind of a new object, with its own memory.
 fn copy_of(alloc: Global, kind: &NewKind) -> Result<NewKind, AllocError>
     ensures { IfOk result (λ copied. copied ≡ kind.now) }
 {
@@ -59,8 +59,8 @@ fn copy_of(alloc: Global, kind: &NewKind) -> Result<NewKind, AllocError>
     })
 }
 
-/// Makes an object that may be made, which belongs to the effective ids: the outcome of a call that gives this number. Without memory
-/// nothing is changed.
+/// Makes an object that may be made and belongs to the effective ids, and returns the outcome of a call whose result is this
+/// number. If memory runs out, nothing changes.
 pub fn make_object(
     tree: &mut Tree,
     alloc: Global,
@@ -98,7 +98,7 @@ pub fn make_object(
     Ok(outcome)
 }
 
-// Makes an object, where nothing refuses it.
+// Makes an object, unless that is refused.
 fn make(
     tree: &mut Tree,
     alloc: Global,
@@ -143,7 +143,7 @@ pub fn symlink(tree: &mut Tree, alloc: Global, request: &Request<'_>) -> Result<
     make(tree, alloc, request, name, kind, LINK_MODE)
 }
 
-// The object that link(2) gives a new name, or why it fails.
+// The object that gets one more name by link(2), or the error of the call.
 fn may_link(tree: &Tree, request: &Request<'_>, old: &AbsName, new: &AbsName) -> Result<Obj, Errno>
     requires old { old.now ≡ arg_name_at request.now 0 }
     requires new { new.now ≡ arg_name_at request.now 1 }
@@ -159,7 +159,7 @@ fn may_link(tree: &Tree, request: &Request<'_>, old: &AbsName, new: &AbsName) ->
     Ok(obj)
 }
 
-/// link(old, new): gives an object that is no directory one more name.
+/// link(old, new): gives one more name to an object that isn't a directory.
 pub fn link(tree: &mut Tree, alloc: Global, request: &Request<'_>) -> Result<Outcome, AllocError>
     ensures outcome { IfOk result (λ outcome. (system : System) → outcome_of outcome system.descriptors ≡ link_outcome (with_tree system tree.old) request.now) }
     ensures tree { IfOk result (λ outcome. tree.new ≡ tree_after tree.old outcome.changes) }

@@ -1,4 +1,4 @@
-// The call that gives an object a name in the place of another.
+// The call that renames an object.
 ghost use Rattle.std.specs.Prelude.{◌≡◌, ◌==◌, ◌&&◌, ◌||◌, not, [], ◌∷◌, None, Some, IfErr, IfOk, IfSome, OnOk, OnErr};
 ghost use Rattle.std.specs.Result.{result_err};
 ghost use Rattle.st_base.specs.Errno.{error_if, first_error};
@@ -23,18 +23,18 @@ use st_trace::{CallResult, Change};
 use st_tree::{Tree, is_proper_prefix};
 use std::alloc::{AllocError, Global};
 
-// What becomes of the new name.
+// What rename(2) does with the new name.
 #[derive(Clone, Copy)]
 enum Move {
-    // Both names have one object, and keep it.
+    // Both names have the same object, which keeps them.
     Stays,
-    // Nothing has it yet.
+    // No object has the new name yet.
     Free,
-    // Another object has it, which goes first.
+    // Another object has the new name, which is removed first.
     Replaces,
 }
 
-// Where both names lead, and the object that is to go from one to the other.
+// What both names have, and the object to be renamed.
 #[derive(Clone, Copy)]
 struct Both {
     from: Place,
@@ -42,28 +42,29 @@ struct Both {
     to: Place,
 }
 
-// Whether a name is the root's.
+// Whether a name is that of the root.
 fn is_root(name: &AbsName) -> bool
     ensures { result ≡ is_root name.now }
 {
     name.is_root()
 }
 
-// Whether two numbers are one object's.
+// Whether two numbers are those of the same object.
 fn is_same(obj: Obj, other: Obj) -> bool
     ensures { result ≡ (obj == other) }
 {
     obj == other
 }
 
-// Whether an object can't go from one name to the other: one is the root's, or the new name leads on from the old one.
+// Whether an object can't be renamed from one name to the other: one is the root's, or the old name is a proper prefix of the new
+// one.
 fn is_fixed(old: &AbsName, new: &AbsName) -> bool
     ensures { result ≡ (is_root old.now || (is_root new.now || is_proper_prefix old.now new.now)) }
 {
     is_root(old) || is_root(new) || is_proper_prefix(old, new)
 }
 
-// Lets an object take the place of another, or says why it can't.
+// Checks that an object may replace another; otherwise gives the error of the call.
 fn may_replace(tree: &Tree, obj: Obj, other: Obj) -> Result<(), Errno>
     requires object { IsMade tree.now obj }
     requires other { IsMade tree.now other }
@@ -82,7 +83,7 @@ fn may_replace(tree: &Tree, obj: Obj, other: Obj) -> Result<(), Errno>
     Ok(())
 }
 
-// Where both names lead, or why rename(2) fails at once.
+// What both names have, or an error of rename(2) that is known at once.
 fn find_both(
     tree: &Tree,
     request: &Request<'_>,
@@ -105,7 +106,8 @@ fn find_both(
     Ok(Both { from, obj, to })
 }
 
-// Lets a call change what stands in the directories of both names, or says that the ids may not write one.
+// Checks that a call may change the entries of the directories of both names; EACCES if the ids may not write one of these
+// directories.
 fn may_write_holders(tree: &Tree, ids: Ids, both: Both) -> Result<(), Errno>
     requires from { IfSome both.from.holder (IsMade tree.now) }
     requires to { IfSome both.to.holder (IsMade tree.now) }
@@ -116,7 +118,7 @@ fn may_write_holders(tree: &Tree, ids: Ids, both: Both) -> Result<(), Errno>
     Ok(())
 }
 
-// What rename(2) does, or why it fails.
+// What rename(2) does with the new name, or the error of the call.
 fn may_move(tree: &Tree, request: &Request<'_>, old: &AbsName, new: &AbsName) -> Result<Move, Errno>
     requires old { old.now ≡ arg_name_at request.now 0 }
     requires new { new.now ≡ arg_name_at request.now 1 }
@@ -137,7 +139,7 @@ fn may_move(tree: &Tree, request: &Request<'_>, old: &AbsName, new: &AbsName) ->
     Ok(Move::Replaces)
 }
 
-// The changes that a renaming makes.
+// The changes of a renaming.
 fn changes_of(
     alloc: Global,
     way: Move,
@@ -159,8 +161,8 @@ fn changes_of(
     Ok(changes)
 }
 
-/// rename(old, new): gives the object of a name another name, in the place of what has that one; where both have one object, it keeps
-/// both.
+/// rename(old, new): gives the object of the old name the new one instead, and replaces the object that has the new name. If both
+/// names have the same object, it keeps both.
 pub fn rename(tree: &mut Tree, alloc: Global, request: &Request<'_>) -> Result<Outcome, AllocError>
     ensures outcome { IfOk result (λ outcome. (system : System) → outcome_of outcome system.descriptors ≡ rename_outcome (with_tree system tree.old) request.now) }
     ensures tree { IfOk result (λ outcome. tree.new ≡ tree_after tree.old outcome.changes) }

@@ -1,4 +1,4 @@
--- What executing a binary leaves of memory: every space but the one that is given up.
+-- Executing a binary changes no byte of memory but those of the space that is given up.
 use Rattle.std.proofs.Common.{◌≡◌, ◌≢◌, ◌∙◌, refl, sym, ap, ℕ, Bool, true, false, cond, ◌==◌, List, ◌∷◌, Result, Ok, Err, IfOk}
 use Rattle.std.proofs.lemmas.Bool.{ne_eqb}
 use Rattle.st_memory.specs.Memory.{Memories, byte_in}
@@ -12,7 +12,7 @@ no_byte_moves : (own : ℕ) (before : ℕ → ℕ → ℕ) (binary : List ℕ) (
 no_byte_moves own before binary number true = refl
 no_byte_moves own before binary number false = refl
 
--- a new space was made, and the process's own given up
+-- after a new space was made, and the process's own given up
 pub memory_left : {E : Type 0} (result : Result Outcome E) (own space number : ℕ) (binary : List ℕ) (inherit : Bool) (old mid new : Memories) → space ≡ own
     → ((s b : ℕ) → byte_in new s b ≡ cond (s == space) 0 (byte_in mid s b)) → ((s b : ℕ) → byte_in mid s b ≡ byte_in old s b)
     → IfOk result (λ given. given.changes ≡ Execed binary number ∷ policy_changes inherit binary)

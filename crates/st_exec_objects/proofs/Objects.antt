@@ -10,14 +10,14 @@ use Rattle.st_model.specs.declared.permission.Want.TheVariants.{Search}
 use Rattle.st_tree.specs.Refusals.{IsMade}
 use Rattle.st_effects.specs.NameTests.{search_error}
 
--- a number that was given has an object
+-- the number of an object that was made has an object
 pub numbered : (tree : Tree) (number : ℕ) → IsMade tree number → node_of_number tree number ≡ Some (node_with_number tree number)
 numbered tree zero made = absurd (omega (arith, made.0))
 numbered tree (suc before) made =
     let at : suc before - 1 ≡ before = omega arith in
     rw at (slice_get-get_or tree.objects before root_node (omega (arith, made.1)))
 
--- what a walk meets at an object
+-- the error of a walk at an object
 pub searched : (tree : Tree) (ids : Ids) (number : ℕ) (directory may : Bool) (rest : Option Errno) → IsMade tree number
     → directory ≡ is_directory (node_with_number tree number).kind → may ≡ allowed (node_with_number tree number) ids.euid ids.egid Search
     → search_error (node_of_number tree number) ids rest ≡ (if directory then (if may then rest else Some EACCES) else Some ENOTDIR)
@@ -26,6 +26,6 @@ searched tree ids number directory may rest made dir can =
     ∙ ap (λ (d : Bool). if d then (if allowed (node_with_number tree number) ids.euid ids.egid Search then rest else Some EACCES) else Some ENOTDIR) (sym dir)
     ∙ ap (λ (m : Bool). if directory then (if m then rest else Some EACCES) else Some ENOTDIR) (sym can)
 
--- an object that a walk found
+-- an object that a walk found was made
 pub found_made : (tree : Tree) (object : Option ℕ) (number : ℕ) → object ≡ Some number → IfSome object (IsMade tree) → IsMade tree number
 found_made tree object number is made = let P : Option ℕ → Type 0 = λ found. IfSome found (IsMade tree) in subst P is made

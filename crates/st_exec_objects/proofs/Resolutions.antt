@@ -1,4 +1,4 @@
--- A resolution, look by look: what a walk comes to over a tree, and how many looks it still makes.
+-- A resolution, look by look: where a walk over a tree ends, and how many looks it still makes.
 use Rattle.std.proofs.Common.{◌≡◌, ◌<◌, ℕ, zero, suc, Bool, true, false, List, [], ◌∷◌, ◌++◌, refl, sym, ap, ◌∙◌, arith, Some, append_assoc, append-nil}
 use Rattle.st_base.specs.declared.errno.Errno.{Errno}
 use Rattle.st_names.specs.Name.{Components}
@@ -9,15 +9,15 @@ use Rattle.st_model.proofs.Endings.{resolve_ends}
 use Rattle.st_resolve.specs.Walk.{asked_name, step_of}
 use Rattle.st_resolve.specs.declared.walk.WalkStep.TheVariants as step
 
--- what a walk comes to by what is seen
+-- the state of a walk, as a function of what is seen
 abbrev pub Course : Type 0
 Course = List SeenText → WalkState
 
--- the course behind a look at a name
+-- the course after a look at a name
 abbrev behind : Tree → Course → Components → Course
 behind tree course name more = course (look tree name ∷ more)
 
--- where a course ends, over that many looks at the tree for as long as it asks
+-- where a course ends after at most that many looks at the tree
 abbrev pub end_of : ℕ → Tree → Course → WalkState
 end_of zero tree course = course []
 end_of (suc looks) tree course = walk_through (λ name. end_of looks tree (behind tree course name)) (course [])
@@ -27,7 +27,7 @@ counted further (Name name) = 0
 counted further (Next name) = suc (further name)
 counted further (Fault errno) = 0
 
--- how many looks it makes, that many at most
+-- how many looks a course makes, of at most that many
 abbrev pub looks_of : ℕ → Tree → Course → ℕ
 looks_of zero tree course = 0
 looks_of (suc looks) tree course = counted (λ name. looks_of looks tree (behind tree course name)) (course [])
@@ -54,7 +54,7 @@ looks_same zero tree f g h = refl
 looks_same (suc looks) tree f g h =
     counted_same _ _ (f []) (g []) (h []) (λ name. looks_same looks tree (behind tree f name) (behind tree g name) (λ more. h (look tree name ∷ more)))
 
--- ---- one more look changes nothing where the course has ended
+-- ---- one more look changes nothing after the course has ended
 
 end_more_at : (looks : ℕ) (tree : Tree) (course : Course) (w : WalkState) → course [] ≡ w →
     ((name : Components) → needs_lookup (end_of looks tree (behind tree course name)) ≡ false → end_of (suc looks) tree (behind tree course name) ≡ end_of looks tree (behind tree course name)) →
@@ -94,7 +94,7 @@ looks_more (suc looks) tree course quiet =
 
 -- ---- a look that is made
 
--- the course goes on behind a look at the name that it asks for
+-- the course goes on after a look at the name that it asks for
 pub record IsOnward (tree : Tree) (name : Components) (old new : Course) : Type 0 where
   pub asks : old [] ≡ Next name
   pub goes_on : (more : List SeenText) → new more ≡ old (look tree name ∷ more)
@@ -113,14 +113,14 @@ module _ (tree : Tree) (name : Components) (old new : Course) (onward : IsOnward
   asks_still : needs_lookup (old []) ≡ true
   asks_still = ap needs_lookup onward.asks
 
-  -- it ends where it ended
+  -- the new course ends where the old one does
   pub same_end : (looks : ℕ) → needs_lookup (end_of looks tree old) ≡ false → end_of looks tree new ≡ end_of looks tree old
   same_end zero quiet = let a = asks_still in cc
   same_end (suc looks) quiet =
       let e = end_behind looks in
       end_more looks tree new (ap needs_lookup (sym e) ∙ quiet) ∙ sym e
 
-  -- and makes one look fewer
+  -- the new course makes fewer looks
   pub fewer_looks : (looks : ℕ) → needs_lookup (end_of looks tree old) ≡ false → looks_of looks tree new < looks_of looks tree old
   fewer_looks zero quiet = let a = asks_still in cc
   fewer_looks (suc looks) quiet =
@@ -156,12 +156,12 @@ end_is tree cwd text follow course h = end_same (most_lookups tree text) tree co
 pub quiet_end : (tree : Tree) (cwd : Components) (text : List ℕ) (follow : Bool) (w : WalkState) → w ≡ resolve tree cwd text follow → needs_lookup w ≡ false
 quiet_end tree cwd text follow w e = ap needs_lookup e ∙ resolve_ends tree cwd text follow
 
--- a walk that has ended before any look
+-- a walk that has failed before any look
 pub end_at_start : (tree : Tree) (cwd : Components) (text : List ℕ) (follow : Bool) {errno : Errno} → start_walk text cwd follow [] ≡ Fault errno → resolve tree cwd text follow ≡ Fault errno
 end_at_start tree cwd text follow e =
     sym (within_is (most_lookups tree text) tree cwd text follow []) ∙ end_now (most_lookups tree text) tree (from_start text cwd follow []) (ap needs_lookup e) ∙ e
 
--- ---- what a walk's answers say of it
+-- ---- what the answers of a walk say about it
 
 pub asks_name : (w : WalkState) (name : Components) → Some name ≡ asked_name w → w ≡ Next name
 asks_name (Name other) name e = cc
@@ -173,7 +173,7 @@ fault_if (Name name) errno e = cc
 fault_if (Next name) errno e = cc
 fault_if (Fault other) errno e = cc
 
--- a walk that is told what is seen of the name that it asks for
+-- a walk that goes on by what is seen of the name that it asks for
 pub goes_onward : (tree : Tree) (name : Components) (seen : SeenText) (old new : Course) → Some name ≡ asked_name (old []) → seen ≡ look tree name →
     ((more : List SeenText) → new more ≡ old (seen ∷ more)) → IsOnward tree name old new
 goes_onward tree name seen old new asked is told = record {

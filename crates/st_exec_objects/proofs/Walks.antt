@@ -1,4 +1,4 @@
--- Walks over the front of a name.
+-- Walks over a prefix of a name.
 use Rattle.std.proofs.Common.{◌≡◌, ◌∙◌, ap, refl, sym, subst, ℕ, Bool, true, false, if◌then◌else◌, List, [], ◌∷◌, ◌++◌, Option, Some, None, IfSome}
 use Rattle.std.proofs.lemmas.List.{append_assoc}
 use Rattle.st_base.specs.declared.errno.Errno.{Errno}
@@ -14,11 +14,11 @@ use Rattle.st_effects.specs.NameTests.{search_error, walk_error, walk_error_from
 use Rattle.st_exec_objects.specs.Walking.{holder_of, IsWalked}
 use Rattle.st_exec_objects.specs.declared.walking.Place.{Place}
 
--- the object that was reached, if one was
+-- the node of the object that was reached, if any
 object_behind : (tree : Tree) (name : Components) (held : Option ℕ) → held ≡ object_of tree name → node_of tree name ≡ node_at tree held
 object_behind tree name held is = ap (node_at tree) (sym is)
 
--- the directory of a name with one component more
+-- the directory of a name with one more component
 pub holder-push : (tree : Tree) (name : Components) (part : List ℕ) → holder_of tree (name ++ part ∷ []) ≡ object_of tree name
 holder-push tree [] part = refl
 holder-push tree (first ∷ rest) part = ap (object_of tree) (parent_push (first ∷ rest) part)
@@ -27,21 +27,21 @@ longer_no_root : (name : Components) (part : List ℕ) → is_root (name ++ part
 longer_no_root [] part = refl
 longer_no_root (first ∷ rest) part = refl
 
--- the error of what is left, by what was reached
+-- the error of the components that are left, by the object that was reached
 pub walk_left : (tree : Tree) (ids : Ids) (name done left rest : Components) (part : List ℕ) (place : Place) → IsWalked tree ids name done left place → left ≡ part ∷ rest
     → search_error (node_at tree place.object) ids (walk_error_from tree ids (done ++ part ∷ []) rest) ≡ walk_error tree ids name
 walk_left tree ids name done left rest part place walked is =
     ap (λ found. search_error found ids (walk_error_from tree ids (done ++ part ∷ []) rest)) (sym (object_behind tree done place.object walked.place.object))
     ∙ ap (walk_error_from tree ids done) (sym is) ∙ walked.error
 
--- nothing has the name so far
+-- no object has the name so far
 pub walk_missing : (tree : Tree) (ids : Ids) (name done left rest : Components) (part : List ℕ) (place : Place) → IsWalked tree ids name done left place → left ≡ part ∷ rest → place.object ≡ None
     → Some ENOENT ≡ walk_error tree ids name
 walk_missing tree ids name done left rest part place walked is none =
     ap (λ object. search_error (node_at tree object) ids (walk_error_from tree ids (done ++ part ∷ []) rest)) (sym none)
     ∙ walk_left tree ids name done left rest part place walked is
 
--- ---- what is met at an object decides, and else what is left
+-- ---- the error at an object decides, otherwise the components that are left
 
 goes_by : (directory may : Bool) (rest : Option Errno) → None ≡ (if directory then (if may then None else Some EACCES) else Some ENOTDIR) → (if directory then (if may then rest else Some EACCES) else Some ENOTDIR) ≡ rest
 goes_by true true rest is = refl
@@ -61,7 +61,7 @@ stops_at : (found : Option Node) (ids : Ids) (rest : Option Errno) (errno : Errn
 stops_at None ids rest errno is = is
 stops_at (Some node) ids rest errno is = stops_by (is_directory node.kind) (allowed node ids.euid ids.egid Search) rest errno is
 
--- an object is reached that leads no further
+-- an object is reached from which the walk can't go on
 pub walk_stops : (tree : Tree) (ids : Ids) (name done left rest : Components) (part : List ℕ) (place : Place) (number : ℕ) (errno : Errno) → IsWalked tree ids name done left place → left ≡ part ∷ rest → place.object ≡ Some number
     → Some errno ≡ search_error (node_of_number tree number) ids None → Some errno ≡ walk_error tree ids name
 walk_stops tree ids name done left rest part place number errno walked is found stops =
@@ -69,7 +69,7 @@ walk_stops tree ids name done left rest part place number errno walked is found 
     ∙ ap (λ object. search_error (node_at tree object) ids (walk_error_from tree ids (done ++ part ∷ []) rest)) (sym found)
     ∙ walk_left tree ids name done left rest part place walked is
 
--- an object is reached that leads on
+-- an object is reached from which the walk goes on
 pub walk_on : (tree : Tree) (ids : Ids) (name done left rest : Components) (part : List ℕ) (place : Place) (number : ℕ) (child : Option ℕ) → IsWalked tree ids name done left place → left ≡ part ∷ rest → place.object ≡ Some number
     → None ≡ search_error (node_of_number tree number) ids None → ((name : Components) → object_of tree name ≡ Some number → child ≡ object_of tree (name ++ part ∷ [])) → IfSome child (IsMade tree)
     → IsWalked tree ids name (done ++ part ∷ []) rest (record { holder = Some number; object = child })

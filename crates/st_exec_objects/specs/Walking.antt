@@ -1,4 +1,4 @@
--- What a name has, as a walk to it finds it.
+-- What a name has, as a walk to it finds.
 use Rattle.std.specs.Prelude.{◌≡◌, ℕ, true, [], ◌∷◌, ◌++◌, Option, None, is_none, IfSome}
 use Rattle.st_base.specs.declared.ids.Ids.{Ids}
 use Rattle.st_names.specs.Name.{Components, is_root, parent}
@@ -8,20 +8,20 @@ use Rattle.st_effects.specs.NameTests.{Object, on_object, walk_error, walk_error
 use Rattle.st_effects.specs.System.{System, Outcome, unless_refused}
 use Rattle.st_exec_objects.specs.declared.walking.Place.{Place}
 
--- the directory that a name stands in; the root stands in none
+-- the directory that contains a name; none for the root
 abbrev pub holder_of : Tree → Components → Option ℕ
 holder_of tree [] = None
 holder_of tree (part ∷ rest) = object_of tree (parent (part ∷ rest))
 
--- the outcome for an object, where walking to its name has no error
+-- the outcome for the object of a name, if walking to the name has no error
 abbrev pub outcome_at : System → Ids → Components → (Object → Outcome) → Outcome
 outcome_at system ids name outcome = unless_refused system (walk_error system.tree ids name ∷ []) (on_object system name outcome)
 
--- an object of this number, which was made
+-- the object with this number, which was made
 abbrev pub object_made : Tree → ℕ → Object
 object_made tree number = record { number = number; node = node_with_number tree number }
 
--- what a name has: its object and the directory that it stands in, of which the root alone has none
+-- what a name has: its object and the directory that contains the name, which only the root lacks
 pub record IsPlace (tree : Tree) (name : Components) (place : Place) : Type 0 where
   pub object : place.object ≡ object_of tree name
   pub holder : place.holder ≡ holder_of tree name
@@ -30,7 +30,7 @@ pub record IsPlace (tree : Tree) (name : Components) (place : Place) : Type 0 wh
   pub object_made : IfSome place.object (IsMade tree)
   pub holder_made : IfSome place.holder (IsMade tree)
 
--- a walk that has come over the front of a name
+-- a walk that has passed a prefix of a name
 pub record IsWalked (tree : Tree) (ids : Ids) (name done rest : Components) (at : Place) : Type 0 where
   pub split : done ++ rest ≡ name
   pub place : IsPlace tree done at

@@ -1,4 +1,4 @@
-// The calls that change a process's directory.
+// The call that changes a process's directory.
 ghost use Rattle.std.specs.Prelude.{◌≡◌, [], ◌∷◌, IfOk, OnErr};
 ghost use Rattle.st_effects.specs.Names.{chdir_outcome};
 ghost use Rattle.st_effects.specs.System.{arg_name_at, success, System};
@@ -15,7 +15,7 @@ use st_trace::Change;
 use st_tree::{Tree, Want};
 use std::alloc::{AllocError, Global};
 
-// Lets chdir(2) go to a directory, or says why it fails.
+// Checks that chdir(2) may enter a directory; otherwise gives the error of the call.
 fn may_enter(tree: &Tree, request: &Request<'_>, name: &AbsName) -> Result<(), Errno>
     requires { name.now ≡ arg_name_at request.now 0 }
     ensures { (system : System) → chdir_outcome (with_tree system tree.now) request.now ≡ unless_err system result (λ _. success system 0 (Change.Cwd name.now ∷ [])) }
@@ -31,7 +31,7 @@ fn may_enter(tree: &Tree, request: &Request<'_>, name: &AbsName) -> Result<(), E
     Ok(())
 }
 
-/// chdir(name): gives the process another directory.
+/// chdir(name): sets the directory of the process. If memory runs out, nothing changes.
 pub fn chdir(
     tree: &Tree,
     procs: &mut Procs,

@@ -21,7 +21,7 @@ use st_trace::{CallResult, Change};
 use st_tree::{Kind, Tree, Want};
 use std::alloc::{AllocError, Global};
 
-// Lets execve(2) execute a binary, or says why it fails.
+// Checks that execve(2) may execute a binary; otherwise gives the error of the call.
 fn may_execute(tree: &Tree, request: &Request<'_>, name: &AbsName) -> Result<(), Errno>
     requires { name.now ≡ arg_name_at request.now 0 }
     ensures { (system : System) → execve_outcome (with_tree system tree.now) request.now ≡ unless_err system result (λ _. success system 0 (Change.Execed (printed_name name.now) system.next_space ∷ policy_changes request.now.inherit (printed_name name.now))) }
@@ -60,7 +60,7 @@ fn executed(
     })
 }
 
-// Gives the process new memory, and the policy of the binary unless it keeps its own. Without memory nothing changes.
+// Gives the process a new memory space, and the policy of the binary unless it keeps its own. If memory runs out, nothing changes.
 fn execute(
     procs: &mut Procs,
     spaces: &mut Spaces,
@@ -93,9 +93,9 @@ fn execute(
     made
 }
 
-/// execve(name, argv): the process goes on with new memory of zeros, its own being given up, and under the policy of the binary unless
-/// it keeps its own. The errors of the walk; EACCES where the name has no file or the ids may not execute it, ENOEXEC where it is empty.
-/// Without memory nothing changes.
+/// execve(name, argv): the process goes on with a new memory of zeros, and under the policy of the binary unless it keeps its own.
+/// Its old memory is given up. Fails with an error of the walk, with EACCES if the object isn't a file or the ids may not execute
+/// it, or with ENOEXEC if the file is empty. If memory runs out, nothing changes.
 pub fn execve(
     tree: &Tree,
     procs: &mut Procs,

@@ -1,4 +1,4 @@
-//! Walks to names, resolution over the tree, and the calls on the object that a name has: each as its definition says.
+//! Walks to names, name resolution over the tree, and the calls on the object of a name: each as its definition says.
 #![tactic(auto)]
 
 mod directory;

@@ -1,4 +1,4 @@
-// Calls that tell what an object is.
+// Calls that report what an object is.
 ghost use Rattle.std.specs.Prelude.{◌≡◌, ◌+◌, ◌≤◌, ℕ, [], ◌∷◌, length, nat_lt, take, true, IfOk, OnOk, OnErr};
 ghost use Rattle.std.specs.List.{flat_map};
 ghost use Rattle.std.specs.Int.{w64, to_le_bytes};
@@ -23,14 +23,14 @@ use st_trace::Change;
 use st_tree::{Kind, Tree};
 use std::alloc::{AllocError, Global};
 
-// Whether so many bytes, from this one on, don't lie in memory.
+// Whether `count` bytes from byte `at` on go past the end of memory.
 fn is_outside(at: u64, count: u64) -> bool
     ensures { result ≡ nat_lt SPACE_BYTES (at + count) }
 {
     at.saturating_add(count) > SPACE_BYTES
 }
 
-// How stat(2) numbers kinds of objects.
+// The number of a kind of objects in stat(2).
 fn number_of_kind(kind: Kind) -> u64
     ensures { result ≡ number_of_kind kind }
 {
@@ -41,7 +41,7 @@ fn number_of_kind(kind: Kind) -> u64
     }
 }
 
-// Words as bytes, the lowest first.
+// The bytes of words, the lowest byte first.
 fn bytes_of_words(alloc: Global, words: &[u64]) -> Result<Text, AllocError>
     ensures { IfOk result (λ text. text ≡ flat_map (to_le_bytes w64) words.now) }
 {
@@ -52,7 +52,7 @@ fn bytes_of_words(alloc: Global, words: &[u64]) -> Result<Text, AllocError>
     Ok(text)
 }
 
-// What stat(2) tells of an object.
+// The bytes that stat(2) reports of an object.
 fn stat_words(tree: &Tree, alloc: Global, obj: Obj) -> Result<Text, AllocError>
     requires { IsMade tree.now obj }
     ensures words { IfOk result (λ text. text ≡ stat_words tree.now (object_made tree.now obj)) }
@@ -69,7 +69,7 @@ fn stat_words(tree: &Tree, alloc: Global, obj: Obj) -> Result<Text, AllocError>
     bytes_of_words(alloc, &words)
 }
 
-// The object that stat(2) looks at, or why it fails.
+// The object that stat(2) reports, or the error of the call.
 fn may_stat(tree: &Tree, request: &Request<'_>, name: &AbsName) -> Result<Obj, Errno>
     requires { name.now ≡ arg_name_at request.now 0 }
     ensures made { IfOk result (IsMade tree.now) }
@@ -85,7 +85,7 @@ fn may_stat(tree: &Tree, request: &Request<'_>, name: &AbsName) -> Result<Obj, E
 }
 
 /// stat(name, at): puts five words into memory, which are the kind of the name's object, its mode, owner, group and size. It is
-/// lstat(name, at) too, where the name wasn't resolved through a link at its end.
+/// lstat(name, at) too, whose name wasn't resolved through a link at its end.
 pub fn stat(
     tree: &Tree,
     procs: &Procs,
@@ -110,7 +110,7 @@ pub fn stat(
     put_bytes(spaces, alloc, space, request.register(1), words.bytes(), 0)
 }
 
-// So many bytes at the front; fewer where there are fewer.
+// The first `count` bytes, or all if there are fewer.
 fn front(bytes: &[u8], count: u64) -> &[u8]
     ensures { result.now ≡ take count bytes.now }
 {
@@ -118,7 +118,7 @@ fn front(bytes: &[u8], count: u64) -> &[u8]
     &bytes[..end]
 }
 
-// The link that readlink(2) reads, or why it fails.
+// The link that readlink(2) reads, or the error of the call.
 fn may_read_link(tree: &Tree, request: &Request<'_>, name: &AbsName) -> Result<Obj, Errno>
     requires { name.now ≡ arg_name_at request.now 0 }
     ensures made { IfOk result (IsMade tree.now) }
@@ -136,7 +136,7 @@ fn may_read_link(tree: &Tree, request: &Request<'_>, name: &AbsName) -> Result<O
     Ok(obj)
 }
 
-/// readlink(name, at, count): puts so many of the first bytes of a link's target into memory, and gives their number.
+/// readlink(name, at, count): puts at most `count` of the first bytes of a link's target into memory, and returns how many it put.
 pub fn readlink(
     tree: &Tree,
     procs: &Procs,

@@ -1,4 +1,4 @@
-// Who may do what with an object: the calls that ask for it and that change it.
+// Who may do what with an object: the call that asks for it and the calls that change it.
 ghost use Rattle.std.specs.Prelude.{◌≡◌, ◌||◌, [], ◌∷◌, IfOk, OnErr};
 ghost use Rattle.std.specs.Result.{result_err};
 ghost use Rattle.st_base.specs.Errno.{error_if};
@@ -19,7 +19,7 @@ use st_trace::Change;
 use st_tree::{Tree, Want};
 use std::alloc::{AllocError, Global};
 
-// What chown(2) gives to which object.
+// The object of chown(2), and its new owner and group.
 #[derive(Clone, Copy)]
 struct NewOwner {
     obj: Obj,
@@ -27,7 +27,7 @@ struct NewOwner {
     gid: u32,
 }
 
-// The real ids in the place of the effective ones.
+// The ids with the real ones in place of the effective ones.
 fn with_real_ids(ids: Ids) -> Ids
     ensures { result ≡ with_real_ids ids }
 {
@@ -38,7 +38,7 @@ fn with_real_ids(ids: Ids) -> Ids
     }
 }
 
-// Whether an access isn't asked for by this bit of a mode, or the ids may.
+// Whether this bit of a mode doesn't ask for an access, or the ids have that access.
 fn has_access(tree: &Tree, ids: Ids, obj: Obj, mode: u64, bit: u64, want: Want) -> bool
     requires { IsMade tree.now obj }
     ensures { result ≡ has_access ids (node_with_number tree.now obj) mode bit want }
@@ -46,7 +46,7 @@ fn has_access(tree: &Tree, ids: Ids, obj: Obj, mode: u64, bit: u64, want: Want) 
     mode & bit == 0 || tree.allowed(obj, ids.euid, ids.egid, want)
 }
 
-// Whether each access that a mode asks for is one that the ids may.
+// Whether the ids have each access that a mode asks for.
 fn has_all_access(tree: &Tree, ids: Ids, obj: Obj, mode: u64) -> bool
     requires { IsMade tree.now obj }
     ensures { result ≡ has_all_access ids (node_with_number tree.now obj) mode }
@@ -61,7 +61,7 @@ fn has_all_access(tree: &Tree, ids: Ids, obj: Obj, mode: u64) -> bool
         && has_access(tree, ids, obj, mode, 1, last)
 }
 
-// Lets access(2) succeed, or says why it fails.
+// Checks that access(2) succeeds; otherwise gives the error of the call.
 fn may_access(tree: &Tree, request: &Request<'_>, name: &AbsName) -> Result<(), Errno>
     requires { name.now ≡ arg_name_at request.now 0 }
     ensures { (system : System) → access_outcome (with_tree system tree.now) request.now ≡ unless_err system result (λ _. success system 0 []) }
@@ -78,8 +78,8 @@ fn may_access(tree: &Tree, request: &Request<'_>, name: &AbsName) -> Result<(), 
     Ok(())
 }
 
-/// access(name, mode): whether the real ids may do with an object what the bits of a mode ask for: 4 to read it, 2 to write it, 1 to
-/// search or execute it.
+/// access(name, mode): whether the real ids have the access to an object that the bits of a mode ask for: 4 to read it, 2 to write
+/// it, 1 to search or execute it.
 pub fn access(tree: &Tree, alloc: Global, request: &Request<'_>) -> Result<Outcome, AllocError>
     ensures { IfOk result (λ outcome. (system : System) → outcome_of outcome system.descriptors ≡ access_outcome (with_tree system tree.now) request.now) }
 {
@@ -90,7 +90,7 @@ pub fn access(tree: &Tree, alloc: Global, request: &Request<'_>) -> Result<Outco
     })
 }
 
-// The object whose mode chmod(2) changes, or why it fails.
+// The object whose mode chmod(2) changes, or the error of the call.
 fn may_set_mode(tree: &Tree, request: &Request<'_>, name: &AbsName) -> Result<Obj, Errno>
     requires { name.now ≡ arg_name_at request.now 0 }
     ensures made { IfOk result (IsMade tree.now) }
@@ -104,7 +104,7 @@ fn may_set_mode(tree: &Tree, request: &Request<'_>, name: &AbsName) -> Result<Ob
     Ok(obj)
 }
 
-/// chmod(name, mode): gives an object the low nine bits of a mode.
+/// chmod(name, mode): sets the mode of an object to the low nine bits of a mode.
 pub fn chmod(tree: &mut Tree, alloc: Global, request: &Request<'_>) -> Result<Outcome, AllocError>
     ensures outcome { IfOk result (λ outcome. (system : System) → outcome_of outcome system.descriptors ≡ chmod_outcome (with_tree system tree.old) request.now) }
     ensures tree { IfOk result (λ outcome. tree.new ≡ tree_after tree.old outcome.changes) }
@@ -121,7 +121,7 @@ pub fn chmod(tree: &mut Tree, alloc: Global, request: &Request<'_>) -> Result<Ou
     Ok(outcome)
 }
 
-// The ids that chown(2) gives, where both numbers are ids.
+// The ids that chown(2) sets, or EINVAL if one of the numbers isn't an id.
 fn new_owner(request: &Request<'_>) -> Result<(u32, u32), Errno>
     ensures ids { IfOk result (λ owner. (owner.0 ≡ register request.now 1) × (owner.1 ≡ register request.now 2)) }
     ensures refused { result_err result ≡ error_if (is_no_id (register request.now 1) || is_no_id (register request.now 2)) EINVAL }
@@ -135,7 +135,7 @@ fn new_owner(request: &Request<'_>) -> Result<(u32, u32), Errno>
     }
 }
 
-// The object whose owner chown(2) changes, or why it fails.
+// The object that chown(2) changes with its new ids, or the error of the call.
 fn may_set_owner(tree: &Tree, request: &Request<'_>, name: &AbsName) -> Result<NewOwner, Errno>
     requires { name.now ≡ arg_name_at request.now 0 }
     ensures made { IfOk result (λ new. IsMade tree.now new.obj) }
@@ -149,7 +149,7 @@ fn may_set_owner(tree: &Tree, request: &Request<'_>, name: &AbsName) -> Result<N
     Ok(NewOwner { obj, uid, gid })
 }
 
-/// chown(name, uid, gid): gives an object another owner and another group.
+/// chown(name, uid, gid): sets the owner and the group of an object.
 pub fn chown(tree: &mut Tree, alloc: Global, request: &Request<'_>) -> Result<Outcome, AllocError>
     ensures outcome { IfOk result (λ outcome. (system : System) → outcome_of outcome system.descriptors ≡ chown_outcome (with_tree system tree.old) request.now) }
     ensures tree { IfOk result (λ outcome. tree.new ≡ tree_after tree.old outcome.changes) }

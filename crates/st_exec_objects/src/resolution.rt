@@ -9,7 +9,7 @@ use st_tree::Tree;
 use std::alloc::Global;
 
 /// The name that a text means, from this directory on, over the tree as it is; `follow` says whether a link that is last is
-/// followed. Its faults are those of the walk.
+/// followed. The errors are those of the walk.
 pub fn resolve(
     alloc: Global,
     tree: &Tree,

@@ -1,4 +1,4 @@
-// Walks to names, one look-up for each component.
+// Walks to names, one lookup for each component.
 ghost use Rattle.std.specs.Prelude.{◌≡◌, false, Some, None, IfOk, IfSome};
 ghost use Rattle.std.specs.Result.{result_err};
 ghost use Rattle.st_effects.specs.NameTests.{parent_not_writable, search_error, walk_error, Object};
@@ -13,10 +13,10 @@ use st_base::{Errno, Ids, Obj};
 use st_names::AbsName;
 use st_tree::{Kind, Tree, Want};
 
-/// What a name has.
+/// What a name has: its object, and the directory that contains the name.
 #[derive(Clone, Copy)]
 pub struct Place {
-    /// The directory that the name stands in; the root stands in none.
+    /// The directory that contains the name; `None` for the root.
     pub holder: Option<Obj>,
     pub object: Option<Obj>,
 }
@@ -33,7 +33,7 @@ pub fn is_directory(tree: &Tree, obj: Obj) -> bool
     }
 }
 
-// Lets a walk lead on from an object, or says why it can't.
+// Checks that a walk can go on from an object; otherwise gives the error of the walk.
 fn search(tree: &Tree, ids: Ids, obj: Obj) -> Result<(), Errno>
     requires { IsMade tree.now obj }
     ensures { result_err result ≡ search_error (node_of_number tree.now obj) ids None }
@@ -47,8 +47,8 @@ fn search(tree: &Tree, ids: Ids, obj: Obj) -> Result<(), Errno>
     Ok(())
 }
 
-/// What a name has, or the error of walking to it: the first of a missing name (ENOENT), of no directory (ENOTDIR) and of one that
-/// the ids may not search (EACCES), component by component.
+/// What a name has, or the error of walking to it. The first component that can't be passed decides: ENOENT if there is no object,
+/// ENOTDIR if it isn't a directory, EACCES if the ids may not search it.
 pub fn walk(tree: &Tree, ids: Ids, name: &AbsName) -> Result<Place, Errno>
     ensures refused { result_err result ≡ walk_error tree.now ids name.now }
     ensures place { IfOk result (IsPlace tree.now name.now) }
@@ -70,7 +70,7 @@ pub fn walk(tree: &Tree, ids: Ids, name: &AbsName) -> Result<Place, Errno>
     Ok(place)
 }
 
-/// The object of a name, or why a call on it fails: the error of walking to it, or ENOENT where nothing has it.
+/// The object of a name, or why a call on it fails: the error of walking to it, or ENOENT if no object has the name.
 pub fn find(tree: &Tree, ids: Ids, name: &AbsName) -> Result<Obj, Errno>
     ensures made { IfOk result (IsMade tree.now) }
     ensures object { IfOk result (λ obj. object_of tree.now name.now ≡ Some obj) }
@@ -80,7 +80,8 @@ pub fn find(tree: &Tree, ids: Ids, name: &AbsName) -> Result<Obj, Errno>
     place.object.ok_or(Errno::ENOENT)
 }
 
-/// Lets a call change what stands in a name's directory, or says that the ids may not write it (EACCES). The root stands in none.
+/// Checks that a call may change the entries of the directory that contains a name; EACCES if the ids may not write that directory.
+/// No directory contains the root.
 pub fn may_write_holder(tree: &Tree, ids: Ids, place: Place) -> Result<(), Errno>
     requires { IfSome place.holder (IsMade tree.now) }
     ensures { (name : Components) → IsPlace tree.now name place → result_err result ≡ parent_not_writable tree.now ids name }

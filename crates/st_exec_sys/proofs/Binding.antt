@@ -1,4 +1,4 @@
--- Sockets that are bound: why they aren't, in order, and that what is open stays real.
+-- Binding sockets: the errors in their order, and that what is open stays real.
 use Rattle.std.proofs.Common.{◌≡◌, ◌∙◌, refl, sym, ap, ℕ, Bool, [], ◌∷◌, Option, Some, None, Err, IfSome}
 use Rattle.std.proofs.lemmas.List.Elements.{All-set}
 use Rattle.st_base.specs.Errno.{first_error}
@@ -21,7 +21,7 @@ use Rattle.st_request.proofs.Real.{of_descriptor}
 use Rattle.st_exec_sys.specs.Sockets.{low_bind_refused}
 use Rattle.st_effects.specs.Sockets.{port_in}
 
--- ---- the reasons in their order
+-- ---- the errors in their order
 
 low_first : (a b c : Option Errno) (errno : Errno) → Some errno ≡ first_error (a ∷ b ∷ []) → first_error (a ∷ b ∷ c ∷ []) ≡ Some errno
 low_first (Some e) b c errno is = sym is
@@ -42,22 +42,22 @@ refused_by None errno e = cc
 refused_by (Some other) errno e = cc
 
 module _ (system : System) (request : Request) (table : Table) (port : ℕ) (port_is : port ≡ port_in (arg_text_at request 0)) where
-  -- what is given and left, unless there is a reason
+  -- the outcome of bind(2), unless there is an error
   abbrev unless : Option Errno → Outcome
   unless reason = unless_error (with_descriptors system table) reason (success_with_table 0 [] (table_after_bind table request.pid (register request 0) (port_in (arg_text_at request 0))))
 
-  -- one that isn't tried
+  -- a bind that isn't tried
   pub not_bound : (errno : Errno) → Some errno ≡ low_bind_refused table request port → bind_outcome (with_descriptors system table) request ≡ failure (with_descriptors system table) errno
   not_bound errno is = ap unless (low_first _ _ (bind_refused table request.pid (register request 0) (port_in (arg_text_at request 0))) errno (is ∙ ap (low_bind_refused table request) port_is))
 
-  -- one that is tried
+  -- a bind that is tried
   pub tried : None ≡ low_bind_refused table request port → bind_outcome (with_descriptors system table) request
       ≡ unless_error (with_descriptors system table) (bind_refused table request.pid (register request 0) port) (success_with_table 0 [] (table_after_bind table request.pid (register request 0) port))
   tried is =
       ap unless (taken_last _ _ (bind_refused table request.pid (register request 0) (port_in (arg_text_at request 0))) (is ∙ ap (low_bind_refused table request) port_is))
       ∙ ap (λ (p : ℕ). unless_error (with_descriptors system table) (bind_refused table request.pid (register request 0) p) (success_with_table 0 [] (table_after_bind table request.pid (register request 0) p))) (sym port_is)
 
-  -- one that fails
+  -- a bind that is tried and fails
   pub bind_failed : (given : given.Outcome) (new : Table) (pid fd : ℕ) (errno : Errno) → pid ≡ request.pid → fd ≡ register request 0 → None ≡ low_bind_refused table request port
       → Err errno ≡ result_of_refusal (bind_refused table pid fd port) → new ≡ table_after_bind table pid fd port → given.result ≡ Failed errno → given.changes ≡ []
       → outcome_of given new ≡ bind_outcome (with_descriptors system table) request

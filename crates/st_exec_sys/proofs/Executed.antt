@@ -1,4 +1,4 @@
--- What is left after a call on processes, ids and sockets, by the part that it changes.
+-- The system after a call on processes, ids and sockets, by the part that the call changes.
 use Rattle.std.proofs.Common.{◌≡◌, ◌<◌, ◌∙◌, ap, refl, subst, sym, ℕ, List, [], Result, Ok, Err, IfOk, OnErr}
 use Rattle.st_calls.specs.declared.call.SysCall.{SysCall}
 use Rattle.st_calls.specs.declared.call.SysCall.TheVariants.{SetUid, SetEuid, SetGid, SetEgid}
@@ -25,7 +25,7 @@ module _ (request : Request) (table : Table) (processes : Processes) (memories :
   abbrev pub with_parts : System → System
   with_parts system = with_descriptors (with_processes (with_memories system memories) processes) table
 
-  -- a call that leaves the processes and memories, by what it did to descriptors
+  -- a call that leaves processes and memories as they are, by how it changes descriptors
   pub ended : (call : SysCall) (given : Outcome) (left : Table) → ((system : System) → system.held ≡ [] → outcome_of given left ≡ effect (with_parts system) call request)
       → AreEndings given.changes → KeepsTables table left → IsExecuted call request given table processes memories left processes memories
   ended call given left is quiet keeps = record {
@@ -38,12 +38,12 @@ module _ (request : Request) (table : Table) (processes : Processes) (memories :
   no_endings : (changes : List Change) → changes ≡ [] → AreEndings changes
   no_endings changes none = subst AreEndings (sym none) tt
 
-  -- one that tells something
+  -- a call that reports something
   pub told : (call : SysCall) (given : Outcome) → ((system : System) → outcome_of given system.descriptors ≡ effect system call request) → given.changes ≡ []
       → IsExecuted call request given table processes memories table processes memories
   told call given is none = ended call given table (λ system held. is (with_parts system)) (no_endings given.changes none) (λ p. refl)
 
-  -- one that ends threads, or asks whether it could
+  -- a call that ends threads, or asks whether it could
   pub ended_if_ok : {E : Type 0} (call same : SysCall) (result : Result Outcome E) → call ≡ same
       → IfOk result (λ given. (system : System) → outcome_of given system.descriptors ≡ effect (with_processes system processes) same request) → IfOk result (λ given. AreEndings given.changes)
       → IfOk result (λ given. IsExecuted call request given table processes memories table processes memories)
@@ -52,7 +52,7 @@ module _ (request : Request) (table : Table) (processes : Processes) (memories :
       (ended same given table (λ system held. is (with_descriptors (with_memories system memories) table)) quiet (λ p. refl))
   ended_if_ok call same (Err error) named is quiet = tt
 
-  -- one that changes descriptors alone
+  -- a call that changes only descriptors
   pub moved : (call same : SysCall) (given : Outcome) (left : Table) → call ≡ same
       → ((system : System) → outcome_of given left ≡ effect (with_descriptors system table) same request) → given.changes ≡ [] → KeepsTables table left
       → IsExecuted call request given table processes memories left processes memories
@@ -76,7 +76,7 @@ module _ (request : Request) (table : Table) (processes : Processes) (memories :
   ids_outcome SetEgid result sets is = is
   ids_outcome call result sets is = absurd sets
 
-  -- one that sets ids
+  -- a call that sets ids
   pub ids_set : {E : Type 0} (call : SysCall) (result : Result Outcome E) (new : Processes)
       → IfOk result (λ given. (system : System) → system.held ≡ [] → outcome_of given system.descriptors ≡ effect system call request)
       → IfOk result (λ given. AreProcessesAfter processes request.pid given.changes new) → IfOk result (λ given. AreOfProcesses given.changes)
@@ -89,7 +89,7 @@ module _ (request : Request) (table : Table) (processes : Processes) (memories :
   }
   ids_set call (Err error) new is after own = tt
 
-  -- ---- calls can be made for each process still
+  -- ---- calls can still be made for each process
 
   -- with other descriptors in the same tables
   pub ready_with_table : (left : Table) → KeepsTables table left → ((tree : Tree) → IsReal tree table → IsReal tree left) → (tree : Tree) (pid : ℕ) → IsReady tree table processes memories pid → IsReady tree left processes memories pid

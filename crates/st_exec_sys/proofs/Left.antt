@@ -1,4 +1,4 @@
--- What the changes of a call leave alone: threads that end leave all, and ids that are set all but the ids.
+-- What the changes of a call leave alone: threads that end leave everything, and ids that are set leave everything but the ids.
 use Rattle.std.proofs.Common.{◌≡◌, ◌∙◌, refl, sym, ap, ℕ, Bool, true, false, cond, ◌==◌, List, [], ◌∷◌, Option}
 use Rattle.std.specs.List.{fold}
 use Rattle.st_base.specs.declared.ids.Ids.{Ids}
@@ -12,7 +12,7 @@ use Rattle.st_trace.specs.declared.entry.Change.{Change}
 use Rattle.st_trace.specs.declared.entry.Change.TheVariants.{Dying, SetIds}
 use Rattle.st_exec_sys.specs.Changes.{has_table_after, is_live_after, owner_of, thread_after, AreEndings, AreMemoriesAfter, AreOfProcesses, AreProcessesAfter}
 
--- changes leave all but the rows of processes
+-- changes leave everything but the rows of processes
 pub record LeaveRest (changes : List Change) : Type 0 where
   pub next : (n : ℕ) → next_process_after n changes ≡ n
   pub threads : (t : ℕ) (before : Option StartedThread) → thread_after t before changes ≡ before
@@ -82,7 +82,7 @@ space_left all m p changes e = space_left_from all m p (all p) changes e
 -- ---- the parts that stay
 
 module _ (changes : List Change) where
-  -- processes
+  -- the processes, after changes that only end threads
   pub processes_stay : (processes : Processes) (pid : ℕ) → AreEndings changes → AreProcessesAfter processes pid changes processes
   processes_stay processes pid e = let rest : LeaveRest changes = endings_leave changes e in record {
     processes = λ p. sym (rows_left (process_at processes) pid p (process_at processes p) changes e);
@@ -91,7 +91,7 @@ module _ (changes : List Change) where
     owners = λ t. sym (rest.owners t (owner_of processes t));
   }
 
-  -- memories
+  -- the memories, after changes that leave them alone
   pub memories_stay : (memories : Memories) (own : ℕ) → LeaveRest changes → AreMemoriesAfter memories own changes memories
   memories_stay memories own rest = record {
     bytes = λ s b. sym (ap (λ (m : ℕ → ℕ → ℕ). m s b) (rest.bytes own (byte_in memories)));
@@ -99,6 +99,6 @@ module _ (changes : List Change) where
     live = λ s. sym (rest.live s (is_live memories s));
   }
 
-  -- tables
+  -- the tables, after changes that leave them alone
   pub tables_stay : (old new : Table) → LeaveRest changes → KeepsTables old new → (p : ℕ) → has_table new p ≡ has_table_after p (has_table old p) changes
   tables_stay old new rest keeps p = keeps p ∙ sym (rest.tables p (has_table old p))

@@ -1,4 +1,4 @@
--- Threads stay in the order of their numbers where one starts by a fork.
+-- Threads stay in the order of their numbers when one starts by a fork.
 use Rattle.std.proofs.Common.{◌≡◌, ℕ, false, subst, sym}
 use Rattle.std.proofs.lemmas.Cmp.{nat_cmp_total}
 use Rattle.std.specs.Ordering.{nat_cmp}

@@ -1,4 +1,4 @@
--- The port of an address is the number that its text ends in.
+-- The port of an address is the number that its text ends with.
 use Rattle.std.proofs.Common.{◌≡◌, ◌<◌, ℕ, ◌+◌, ◌-◌, ◌*◌, ◌^◌, ◌==◌, cond, List, [], ◌∷◌, ◌++◌, refl, ap, ◌∙◌, arith, codes, decimal}
 use Rattle.std.proofs.lemmas.Bool.{ne_eqb}
 use Rattle.std.proofs.lemmas.Fmt.{decimal_is_IsNumeral}
@@ -13,7 +13,7 @@ use Rattle.std.specs.Str.Parse.{AllDigits, digits_value_after}
 use Rattle.st_effects.specs.Sockets.{colon, port_in}
 use Rattle.st_model.specs.Spelling.{address_text}
 
--- the number behind one more byte
+-- the number after one more byte
 abbrev behind : ℕ → ℕ → ℕ
 behind n byte = cond (byte == colon) 0 (10 * n + (byte - 48))
 
@@ -27,7 +27,7 @@ behind_digits : (ds : List ℕ) (n : ℕ) → AllDigits 10 ds → fold behind n 
 behind_digits [] n all = refl
 behind_digits (d ∷ ds) n all = ap (λ (m : ℕ). fold behind m ds) (behind_digit n d all.0) ∙ behind_digits ds (n * 10 + digit_value d) all.1
 
--- what stands in front of a port
+-- what comes before a port
 abbrev front : List ℕ → List ℕ
 front bytes =
     codes "inet-[" ++ decimal (slice_index bytes 4) ++ codes "." ++ decimal (slice_index bytes 5) ++ codes "." ++

@@ -1,4 +1,4 @@
--- What the changes of a call make of processes, threads, memories and tables of descriptors.
+-- How the changes of a call change processes, threads, memories and tables of descriptors.
 use Rattle.std.specs.Prelude.{◌≡◌, ℕ, Bool, true, false, ◌==◌, if◌then◌else◌, List, [], ◌∷◌, Option, Some, unwrap_or}
 use Rattle.std.specs.List.{fold}
 use Rattle.st_model.specs.Processes.{Processes, StartedThread, next_pid, pid_of, process_at, thread_at}
@@ -7,13 +7,13 @@ use Rattle.st_effects.specs.Changes.{memory_after, next_process_after, next_spac
 use Rattle.st_trace.specs.declared.entry.Change.{Change}
 use Rattle.st_trace.specs.declared.entry.Change.TheVariants.{Dying, Forked, SetIds}
 
--- threads that have nothing left but to end, and no other change
+-- processes whose threads can only end, and no other change
 abbrev pub AreEndings : List Change → Type 0
 AreEndings [] = Unit {0}
 AreEndings (Dying pid ∷ changes) = AreEndings changes
 AreEndings (change ∷ changes) = ⊥
 
--- ids that are set, and no other change
+-- changes of ids, and no other change
 abbrev pub AreOfProcesses : List Change → Type 0
 AreOfProcesses [] = Unit {0}
 AreOfProcesses (SetIds ids ∷ changes) = AreOfProcesses changes
@@ -21,7 +21,7 @@ AreOfProcesses (change ∷ changes) = ⊥
 
 -- ---- processes
 
--- thread t after a change: one that is started runs in the new process
+-- thread t after a change: a thread that is started runs in the new process
 abbrev pub thread_after_change : ℕ → Option StartedThread → Change → Option StartedThread
 thread_after_change t before (Forked pid space tid) = if t == tid then Some (record { pid = pid; ended = false }) else before
 thread_after_change t before _ = before
@@ -30,11 +30,11 @@ thread_after_change t before _ = before
 abbrev pub thread_after : ℕ → Option StartedThread → List Change → Option StartedThread
 thread_after t before changes = fold (thread_after_change t) before changes
 
--- the process of a thread, 0 before it starts
+-- the process of a thread; 0 before it starts
 abbrev pub owner_of : Processes → ℕ → ℕ
 owner_of processes t = unwrap_or (pid_of processes t) 0
 
--- the processes are those after changes that one of them makes, and so are the threads
+-- the processes are as the changes that one of them makes leave them, and so are the threads
 pub record AreProcessesAfter (old : Processes) (pid : ℕ) (changes : List Change) (new : Processes) : Type 0 where
   pub processes : (p : ℕ) → process_at new p ≡ process_after (process_at old) pid p changes
   pub next : next_pid new ≡ next_process_after (next_pid old) changes
@@ -43,16 +43,16 @@ pub record AreProcessesAfter (old : Processes) (pid : ℕ) (changes : List Chang
 
 -- ---- memories
 
--- whether space s is there after a change
+-- whether space s exists after a change
 abbrev pub is_live_after_change : ℕ → Bool → Change → Bool
 is_live_after_change s before (Forked pid space tid) = if s == space then true else before
 is_live_after_change s before _ = before
 
--- whether space s is there after changes
+-- whether space s exists after changes
 abbrev pub is_live_after : ℕ → Bool → List Change → Bool
 is_live_after s before changes = fold (is_live_after_change s) before changes
 
--- the memories are those after changes that a process with this space makes
+-- the memories are as the changes that a process with this space makes leave them
 pub record AreMemoriesAfter (old : Memories) (own : ℕ) (changes : List Change) (new : Memories) : Type 0 where
   pub bytes : (s b : ℕ) → byte_in new s b ≡ memory_after own (byte_in old) changes s b
   pub next : next_space new ≡ next_space_after (next_space old) changes

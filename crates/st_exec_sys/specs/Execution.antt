@@ -1,4 +1,4 @@
--- The calls on processes, ids and sockets: what each needs, and what making one leaves.
+-- The calls on processes, ids and sockets: what each needs, and the system after a call.
 use Rattle.std.specs.Prelude.{◌≡◌, ℕ, suc, ◌^◌, ◌-◌, ◌<◌, ◌==◌, if◌then◌else◌, true, false, [], None}
 use Rattle.st_calls.specs.declared.call.SysCall.{SysCall}
 use Rattle.st_calls.specs.declared.call.SysCall.TheVariants.{Fork, Exit, Kill, GetPid, GetUid, GetEuid, SetUid, SetEuid, SetGid, SetEgid, Socket, Bind, Connect}
@@ -18,18 +18,18 @@ pub record CanCall (descriptors : Table) (processes : Processes) (memories : Mem
   pub process : IsPid processes pid
   pub space : is_live memories (process_at processes pid).space ≡ true
 
--- the thread of the child hasn't started, the next process has no descriptors, and there are numbers left
+-- the thread of the child hasn't started, the next process has no descriptors, and numbers are left for processes and spaces
 pub record CanFork (descriptors : Table) (processes : Processes) (memories : Memories) (request : effects.Request) : Type 0 where
   pub thread : pid_of processes request.child ≡ None
   pub table : has_table descriptors (next_pid processes) ≡ false
   pub pids : next_pid processes < 2 ^ 32 - 1
   pub spaces : next_space memories < 2 ^ 32
 
--- a call sets the ids of its process under its own
+-- a call is made under the ids of its process
 abbrev pub HasOwnIds : Processes → effects.Request → Type 0
 HasOwnIds processes request = request.ids ≡ (process_at processes request.pid).ids
 
--- the call is one of these, and has what it needs besides
+-- the call is one of these, and has what else it needs
 abbrev pub Allows : SysCall → Table → Processes → Memories → effects.Request → Type 0
 Allows Fork descriptors processes memories request = CanFork descriptors processes memories request
 Allows Exit descriptors processes memories request = Unit {0}
@@ -46,20 +46,20 @@ Allows Bind descriptors processes memories request = HasPort request
 Allows Connect descriptors processes memories request = HasPort request
 Allows _ descriptors processes memories request = ⊥
 
--- a call that tells who the process is
+-- a call that reports who the process is
 abbrev pub IsQuestion : SysCall → Type 0
 IsQuestion GetPid = Unit {0}
 IsQuestion GetUid = Unit {0}
 IsQuestion GetEuid = Unit {0}
 IsQuestion _ = ⊥
 
--- one more space is there, with the bytes of this one
+-- one more space exists, with the bytes of this space
 pub record IsCopied (old : Memories) (from : ℕ) (new : Memories) : Type 0 where
   pub next : next_space new ≡ suc (next_space old)
   pub live : ChangesLive old (next_space old) true new
   pub bytes : (s b : ℕ) → byte_in new s b ≡ (if s == next_space old then byte_in old from b else byte_in old s b)
 
--- a call had its outcome over these parts of a system where no call is held, and left those after its changes
+-- a call had its outcome over these parts of a system without held calls, and left the parts as its changes say
 pub record IsExecuted (call : SysCall) (request : effects.Request) (given : Outcome) (old_descriptors : Table) (old_processes : Processes) (old_memories : Memories) (new_descriptors : Table) (new_processes : Processes) (new_memories : Memories) : Type 0 where
   pub outcome : (system : effects.System) → system.held ≡ [] → outcome_of given new_descriptors ≡ effect (with_descriptors (with_processes (with_memories system old_memories) old_processes) old_descriptors) call request
   pub tables : (p : ℕ) → has_table new_descriptors p ≡ has_table_after p (has_table old_descriptors p) given.changes

@@ -2,6 +2,6 @@
 use Rattle.std.specs.Prelude.{ℕ, Option, Some, None, if◌then◌else◌}
 use Rattle.st_model.specs.Processes.{Processes, is_live}
 
--- the process of a number that is there and hasn't ended
+-- the process with a number, if it exists and hasn't ended
 abbrev pub number_of_live : Processes → ℕ → Option ℕ
 number_of_live processes number = if is_live processes number then Some number else None

@@ -12,7 +12,7 @@ use Rattle.st_effects.specs.System.{Request, arg_text_at, register}
 abbrev pub HasPort : Request → Type 0
 HasPort request = port_in (arg_text_at request 0) < 2 ^ 16
 
--- why a descriptor isn't bound to a port, whether the port is free or not
+-- why a descriptor can't be bound to a port, whether the port is free or not
 abbrev pub low_bind_refused : Table → Request → ℕ → Option Errno
 low_bind_refused table request port = first_error (
     bind_refused_at (file_at table request.pid (register request 0)) port false ∷

@@ -1,4 +1,4 @@
-// Any call on processes, ids and sockets, made as its own function makes it.
+// Any call on processes, ids and sockets, made by its own function.
 ghost use Rattle.std.specs.Prelude.{◌≡◌, ℕ, [], IfOk, OnOk, OnErr};
 ghost use Rattle.st_calls.specs.declared.call.SysCall.TheVariants.{Fork};
 ghost use Rattle.st_effects.specs.Effect.{effect};
@@ -21,7 +21,7 @@ use st_procs::Procs;
 use st_request::{Outcome, Request};
 use std::alloc::{AllocError, Global};
 
-// A call that tells who the process is.
+// Makes a call that reports who the process is.
 fn tell(alloc: Global, call: SysCall, request: &Request<'_>) -> Outcome
     requires { IsQuestion call }
     ensures outcome { (system : effects.System) → outcome_of result system.descriptors ≡ effect system call request.now }
@@ -35,8 +35,8 @@ fn tell(alloc: Global, call: SysCall, request: &Request<'_>) -> Outcome
     }
 }
 
-/// Makes any call on processes, ids and sockets, as its own function makes it. It changes what the changes say, and nothing else; that
-/// calls which are held draw new numbers, and that threads end, is not done here. Without memory nothing changes.
+/// Makes any call on processes, ids and sockets, by the call's own function. It changes what the changes of the outcome say, and
+/// nothing else. That held calls get new numbers, and that threads end, is not done here. If memory runs out, nothing changes.
 pub fn execute_sys(
     fds: &mut Fds,
     procs: &mut Procs,

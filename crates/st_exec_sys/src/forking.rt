@@ -18,7 +18,7 @@ use st_request::{Outcome, Request};
 use st_trace::Change;
 use std::alloc::{AllocError, Global};
 
-// Starts a child of the calling process with this memory. Without memory nothing changes.
+// Starts a child of the calling process with this memory space. If memory runs out, nothing changes.
 fn start_child(
     procs: &mut Procs,
     alloc: Global,
@@ -46,7 +46,7 @@ fn start_child(
     Ok(outcome)
 }
 
-// Starts a child of the calling process with a copy of its memory. Without memory nothing changes.
+// Starts a child of the calling process with a copy of its memory. If memory runs out, nothing changes.
 fn start_copy(
     procs: &mut Procs,
     spaces: &mut Spaces,
@@ -74,8 +74,8 @@ fn start_copy(
     started
 }
 
-/// fork(): starts a process that is like this one and shares its open files, with a copy of its memory and one thread, and gives its
-/// number. Without memory nothing changes.
+/// fork(): starts a process that equals this one and shares its open files, with a copy of its memory and one thread, and returns
+/// its number. If memory runs out, nothing changes.
 pub fn fork(
     fds: &mut Fds,
     procs: &mut Procs,

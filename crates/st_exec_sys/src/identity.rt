@@ -1,4 +1,4 @@
-// The calls that tell and set who a process is.
+// The calls that report and set who a process is.
 ghost use Rattle.std.specs.Prelude.{◌≡◌, [], IfOk, OnErr};
 ghost use Rattle.st_calls.specs.declared.call.SysCall.TheVariants.{GetEuid, GetPid, GetUid};
 ghost use Rattle.st_effects.specs.Effect.{effect};
@@ -39,8 +39,8 @@ pub fn geteuid(alloc: Global, request: &Request<'_>) -> Outcome
     Outcome::value(alloc, u64::from(request.ids.euid))
 }
 
-/// setuid(uid), seteuid(uid), setgid(gid) and setegid(gid): set ids of the process, which makes the call under its own. That held calls
-/// draw new numbers then is not done here. Without memory nothing changes.
+/// setuid(uid), seteuid(uid), setgid(gid) and setegid(gid): set ids of the process, which makes the call under its own ids. That
+/// held calls get new numbers is not done here. If memory runs out, nothing changes.
 pub fn set_ids(
     procs: &mut Procs,
     alloc: Global,

@@ -1,4 +1,4 @@
-// The calls that end processes. Their threads end later, each by itself.
+// The calls that end processes. The threads of a process end later, each by itself.
 ghost use Rattle.std.specs.Prelude.{◌≡◌, ◌==◌, if◌then◌else◌, [], ◌∷◌, IfOk};
 ghost use Rattle.st_effects.specs.Processes.{exit_outcome, kill_outcome, may_signal};
 ghost use Rattle.st_effects.specs.System as effects;
@@ -18,7 +18,7 @@ use std::alloc::{AllocError, Global};
 // The signal that ends a process.
 const KILL: u64 = 9;
 
-/// exit(code): the process has nothing left but to end. Its error is want of memory.
+/// exit(code): from now on the threads of the process can only end. The only error is out of memory.
 pub fn exit(alloc: Global, request: &Request<'_>) -> Result<Outcome, AllocError>
     ensures outcome { IfOk result (λ outcome. (system : effects.System) → outcome_of outcome system.descriptors ≡ exit_outcome system request.now) }
     ensures changes { IfOk result (λ outcome. AreEndings outcome.changes) }
@@ -26,7 +26,7 @@ pub fn exit(alloc: Global, request: &Request<'_>) -> Result<Outcome, AllocError>
     Outcome::change(alloc, 0, Change::Dying(request.pid))
 }
 
-// The process of a number that is there and hasn't ended.
+// The process with a number, if it exists and hasn't ended.
 fn live_process(procs: &Procs, number: u64) -> Option<Pid>
     ensures { result ≡ number_of_live procs.now number }
 {
@@ -44,7 +44,7 @@ fn may_signal(ids: Ids, target: u32) -> bool
     ids.euid == 0 || ids.ruid == target || ids.euid == target
 }
 
-// The process that kill(2) sends a signal to, or why it fails.
+// The process that kill(2) sends a signal to, or the error of the call.
 fn may_kill(procs: &Procs, request: &Request<'_>) -> Result<Pid, Errno>
     ensures { (system : effects.System) → kill_outcome (with_processes system procs.now) request.now ≡ unless_err system result (λ pid. success system 0 (if register request.now 1 == 0 then [] else Dying pid ∷ [])) }
 {
@@ -61,8 +61,8 @@ fn may_kill(procs: &Procs, request: &Request<'_>) -> Result<Pid, Errno>
     Ok(pid)
 }
 
-/// kill(pid, signal): signal 9 leaves a process nothing but to end, and signal 0 asks whether that would be allowed. Its error is want
-/// of memory.
+/// kill(pid, signal): after signal 9 the threads of a process can only end. Signal 0 only checks whether that would be allowed.
+/// `Err` only if memory runs out.
 pub fn kill(procs: &Procs, alloc: Global, request: &Request<'_>) -> Result<Outcome, AllocError>
     ensures outcome { IfOk result (λ outcome. (system : effects.System) → outcome_of outcome system.descriptors ≡ kill_outcome (with_processes system procs.now) request.now) }
     ensures changes { IfOk result (λ outcome. AreEndings outcome.changes) }

@@ -17,7 +17,7 @@ use st_model::{FileKind, OpenFile};
 use st_request::{Outcome, Request};
 use std::alloc::{AllocError, Global};
 
-// The least port that is open to every user.
+// The least port that every user may bind.
 const FIRST_FREE_PORT: u16 = 1_024;
 
 // A socket without a port.
@@ -32,7 +32,8 @@ const SOCKET: OpenFile = OpenFile {
     offset: 0,
 };
 
-/// socket(domain, type): opens a socket, which isn't bound. EMFILE where all descriptors are open. Without memory nothing changes.
+/// socket(domain, type): opens a socket, which isn't bound. EMFILE if all descriptors are open. If memory runs out, nothing
+/// changes.
 pub fn socket(fds: &mut Fds, alloc: Global, request: &Request<'_>) -> Result<Outcome, AllocError>
     requires { has_table fds.old request.now.pid ≡ true }
     ensures outcome { IfOk result (λ outcome. (system : effects.System) → outcome_of outcome fds.new ≡ socket_outcome (with_descriptors system fds.old) request.now) }
@@ -50,7 +51,7 @@ pub fn socket(fds: &mut Fds, alloc: Global, request: &Request<'_>) -> Result<Out
     Ok(Outcome::value(alloc, u64::from(fd)))
 }
 
-/// The number behind the last colon of an address, or 2^64 - 1 where it is greater. One above 65,535 is no port.
+/// The number after the last colon of an address, or 2^64 - 1 if the number is greater. A number above 65,535 isn't a port.
 pub fn port_in(address: &[u8]) -> u64
     ensures { result ≡ min (port_in address.now) (2 ^ 64 - 1) }
 {
@@ -74,7 +75,7 @@ fn port_of(request: &Request<'_>) -> u16
     port_in(request.text(0)) as u16
 }
 
-// Lets a process bind a descriptor to a port that may be free, or says why it fails.
+// Checks that a process may bind a descriptor to a port, whether the port is free or not; otherwise gives the error of the call.
 fn may_bind(fds: &Fds, request: &Request<'_>, port: u16) -> Result<(), Errno>
     requires { has_table fds.now request.now.pid ≡ true }
     ensures { result_err result ≡ low_bind_refused fds.now request.now port }
@@ -94,8 +95,9 @@ fn may_bind(fds: &Fds, request: &Request<'_>, port: u16) -> Result<(), Errno>
     Ok(())
 }
 
-/// bind(fd, addr): gives a socket a port. EBADF where the descriptor isn't open, EINVAL where it is no socket, has a port or the port is
-/// 0, EACCES where the port is below 1,024 and the effective user isn't 0, EADDRINUSE where an open socket has it. It takes no memory.
+/// bind(fd, addr): gives a socket a port. EBADF if the descriptor isn't open. Otherwise EINVAL if its file isn't a socket, if the
+/// socket has a port, or if the port is 0. Otherwise EACCES if the port is below 1,024 and the effective user isn't 0. Otherwise
+/// EADDRINUSE if an open socket has the port. Takes no memory.
 pub fn bind(fds: &mut Fds, alloc: Global, request: &Request<'_>) -> Outcome
     requires table { has_table fds.old request.now.pid ≡ true }
     requires port { HasPort request.now }
@@ -114,8 +116,8 @@ pub fn bind(fds: &mut Fds, alloc: Global, request: &Request<'_>) -> Outcome
     }
 }
 
-/// connect(fd, addr): connects a socket to a port. EBADF where the descriptor isn't open, EINVAL where it is no socket or is connected,
-/// ECONNREFUSED where no open socket has the port. It takes no memory.
+/// connect(fd, addr): connects a socket to a port. EBADF if the descriptor isn't open. Otherwise EINVAL if its file isn't a socket
+/// or is connected. Otherwise ECONNREFUSED if no open socket has the port. Takes no memory.
 pub fn connect(fds: &mut Fds, alloc: Global, request: &Request<'_>) -> Outcome
     requires table { has_table fds.old request.now.pid ≡ true }
     requires port { HasPort request.now }

@@ -70,7 +70,7 @@ begins : (text : List ℕ) (cwd : Components) (follow : Bool) → None ≡ fault
     start_walk text cwd follow [] ≡ walk_on (name_after_ups (start_of_name text cwd) (components_of text)) (rest_after_ups (components_of text)) 0 [] follow
 begins text cwd follow none = goes_by (nat_eq (length text) 0) (has_long_part text) _ none
 
--- a text whose only components are `..` means its name before any look
+-- a text that has no component but `..` means its name before any look
 pub name_first : (text : List ℕ) (cwd : Components) (follow : Bool) → length (printed_name cwd) ≤ LONGEST_NAME → None ≡ fault_before_lookups text → is_last (rest_after_ups (components_of text)) ≡ true →
     step.Name ≡ step_of (start_walk text cwd follow [])
 name_first text cwd follow short none up =

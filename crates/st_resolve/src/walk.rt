@@ -102,7 +102,7 @@ fn first_fault(text: &[u8]) -> Option<Errno>
     }
 }
 
-// Whether `..` is a text's only component, once or several times, so that no look is needed.
+// Whether a text has no component but `..`, so that no look is needed.
 fn is_way_up(text: &[u8]) -> bool
     ensures { result ≡ is_last (rest_after_ups (components_of text.now)) }
 {

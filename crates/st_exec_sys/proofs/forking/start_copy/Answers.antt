@@ -4,7 +4,7 @@ use Rattle.st_effects.specs.System.{Request}
 use Rattle.st_exec_sys.specs.Execution.{IsCopied}
 use Rattle.st_exec_sys.proofs.forking.start_copy.Goals as goal
 
--- what holds, holds where a call went well
+-- what holds anyway holds if a call succeeded
 on_ok : {T E : Type 0} {P : Type 0} (result : Result T E) → P → OnOk result P
 on_ok (Ok value) p = p
 on_ok (Err error) p = tt
