@@ -1,4 +1,4 @@
--- The arguments of a call one after another, and the first link that one of them meets.
+-- The arguments of a call one after another, and the first link on the way to one of them.
 use Rattle.std.proofs.Common.{◌≡◌, ◌<◌, ℕ, suc, ◌+◌, List, [], ◌∷◌, length, drop, get_or, refl, sym, ap, ◌∙◌, add-one, drop-cons, Option, Some, None}
 use Rattle.std.specs.List.{zip}
 use Rattle.st_calls.specs.Call.{follows}
@@ -10,11 +10,11 @@ use Rattle.st_names.specs.Name.{Components}
 use Rattle.st_law.specs.Arguments.{first_of_two, link_among, link_of_part}
 
 module _ (tree : Tree) (call : SysCall) (regs : List ℕ) where
-  -- what one of them meets
+  -- the first link on the way to one of the arguments
   abbrev pub link_of : ArgSpec × ArgText → Option Components
   link_of pair = link_of_part pair.0.kind tree (follows call regs pair.0.register) pair.1.text
 
-  -- what the first that meets one does
+  -- the link of the first argument that has one
   abbrev pub first_met : List (ArgSpec × ArgText) → Option Components
   first_met [] = None
   first_met (pair ∷ pairs) = first_of_two (link_of pair) (first_met pairs)
@@ -30,15 +30,15 @@ module _ (tree : Tree) (call : SysCall) (regs : List ℕ) where
       ∙ ap (λ (p : ArgSpec × ArgText). first_of_two (link_of p) (first_met (drop (suc n) pairs))) (sym is)
       ∙ ap (λ (m : ℕ). first_of_two (link_of pair) (first_met (drop m pairs))) (sym (add-one n))
 
-  -- one that meets none
+  -- an argument without a link
   pub met_on : (pairs : List (ArgSpec × ArgText)) (n : ℕ) (pair : ArgSpec × ArgText) → n < length pairs → pair ≡ get_or pairs n pair → None ≡ link_of pair → first_met (drop n pairs) ≡ first_met (drop (n + 1) pairs)
   met_on pairs n pair within is none = met_next pairs n pair within is ∙ ap (λ (o : Option Components). first_of_two o (first_met (drop (n + 1) pairs))) (sym none)
 
-  -- one that meets a link
+  -- an argument with a link
   pub met_here : (pairs : List (ArgSpec × ArgText)) (n : ℕ) (pair : ArgSpec × ArgText) (link : Components) → n < length pairs → pair ≡ get_or pairs n pair → Some link ≡ link_of pair → first_met (drop n pairs) ≡ Some link
   met_here pairs n pair link within is some = met_next pairs n pair within is ∙ ap (λ (o : Option Components). first_of_two o (first_met (drop (n + 1) pairs))) (sym some)
 
-  -- none is left
+  -- no argument is left
   pub met_end : (pairs : List (ArgSpec × ArgText)) (n : ℕ) → n ≡ length pairs → first_met (drop n pairs) ≡ None
   met_end pairs n all = ap (λ (m : ℕ). first_met (drop m pairs)) all ∙ ap first_met (drop_all pairs) where
     drop_all : (pairs : List (ArgSpec × ArgText)) → drop (length pairs) pairs ≡ []

@@ -1,4 +1,4 @@
--- Arguments in their order: each is there, or the first that isn't decides.
+-- Arguments in their order: each is complete, or the first that isn't decides.
 use native.Mathlib.Omega.{arith}
 use Rattle.std.proofs.Common.{◌≡◌, ◌<◌, ℕ, suc, ◌+◌, List, [], ◌∷◌, ◌++◌, length, drop, get_or, refl, sym, ap, ◌∙◌, add-one, drop-cons}
 use Rattle.st_base.specs.declared.errno.Errno.{Errno}
@@ -16,7 +16,7 @@ use Rattle.std.specs.Prelude.{slice_index_or}
 use Rattle.std.proofs.lemmas.List.{get_or_default}
 use Rattle.st_arguments.specs.Parts.{is_followed, part_in, IsArgument, IsFaultOf, IsSpelled}
 
--- how far arguments have come with these finished ones in front
+-- the progress of arguments that come after these complete ones
 abbrev pub with_args : List ArgText → Progress → Progress
 with_args [] rest = rest
 with_args (arg ∷ args) rest = with_arg arg (with_args args rest)
@@ -36,11 +36,11 @@ with_args-ready (first ∷ args) = ap (with_arg first) (with_args-ready args)
 -- ---- one argument
 
 module _ (asked : ArgRequest) (around : Surroundings) (spec : ArgSpec) where
-  -- one that spells this
+  -- an argument with this spelling
   spells : (s : Spelled) → IsSpelled around.bytes spec.kind (slice_index_or asked.regs spec.register 0) s → (j : ℕ) (rest : Progress) → part_in asked around spec j rest ≡ part_of_spelling j spec asked around.tree s rest
   spells s x j rest = ap (λ (s : Spelled). part_of_spelling j spec asked around.tree s rest) x.is
 
-  -- one that comes to a fault in memory
+  -- an argument with a fault in memory
   pub fault_in_memory : (errno : Errno) → IsSpelled around.bytes spec.kind (slice_index_or asked.regs spec.register 0) (Fault errno) → IsFaultOf asked around spec errno
   fault_in_memory errno x = record { is = λ j rest. spells (Fault errno) x j rest }
 
@@ -76,7 +76,7 @@ module _ (asked : ArgRequest) (around : Surroundings) (spec : ArgSpec) where
 
 -- ---- all of them
 
--- of all arguments the first so many are these
+-- the first `count` of all arguments are these
 pub record HasCome (asked : ArgRequest) (around : Surroundings) (count : ℕ) (args : List ArgText) : Type 0 where
   pub is : arguments_in asked around ≡ with_args args (parts_from count (drop count (args_of asked.rule)) asked around)
 
@@ -89,17 +89,17 @@ module _ (asked : ArgRequest) (around : Surroundings) (count : ℕ) (args : List
       come.is ∙ ap (λ (specs : List ArgSpec). with_args args (parts_from count specs asked around))
       (drop-cons (args_of asked.rule) count spec within ∙ ap (λ (s : ArgSpec). s ∷ drop (suc count) (args_of asked.rule)) (sym is) ∙ ap (λ (n : ℕ). spec ∷ drop n (args_of asked.rule)) (sym (add-one count)))
 
-  -- one more that is there
+  -- one more argument that is complete
   pub come_on : (spec : ArgSpec) (arg : ArgText) → count < length (args_of asked.rule) → spec ≡ get_or (args_of asked.rule) count spec → IsArgument asked around spec arg → HasCome asked around (count + 1) (args ++ arg ∷ [])
   come_on spec arg within is there = record {
     is = next spec within is ∙ ap (with_args args) (there.is count _) ∙ sym (with_args-push args arg _);
   }
 
-  -- one that comes to a fault
+  -- an argument with a fault
   pub come_stuck : (spec : ArgSpec) (errno : Errno) → count < length (args_of asked.rule) → spec ≡ get_or (args_of asked.rule) count spec → IsFaultOf asked around spec errno → arguments_in asked around ≡ Stuck errno
   come_stuck spec errno within is fault = next spec within is ∙ ap (with_args args) (fault.is count _) ∙ with_args-stuck args errno
 
-  -- no more are left
+  -- no argument is left
   pub come_ready : count ≡ length (args_of asked.rule) → arguments_in asked around ≡ Ready args
   come_ready all = come.is ∙ ap (λ (specs : List ArgSpec). with_args args (parts_from count specs asked around)) (ap (λ (n : ℕ). drop n (args_of asked.rule)) all ∙ drop_all (args_of asked.rule)) ∙ with_args-ready args where
     drop_all : (specs : List ArgSpec) → drop (length specs) specs ≡ []
@@ -108,7 +108,7 @@ module _ (asked : ArgRequest) (around : Surroundings) (count : ℕ) (args : List
 
 -- ---- the arguments as they are read
 
--- an item that is read stands there
+-- an item that is read is the one at its index
 pub item_read : (items specs : List ArgSpec) (i : ℕ) (d : ArgSpec) → items ≡ specs → i < length items → (i < length specs) × (get_or items i d ≡ get_or specs i (get_or items i d))
 item_read items specs i d is within =
     let l = ap length is in

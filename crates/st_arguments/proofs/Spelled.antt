@@ -1,4 +1,4 @@
--- An argument that is copied word after word: what its words come to over a memory.
+-- An argument that is copied word by word: what its words spell in a memory.
 use native.Mathlib.Omega.{arith}
 use Rattle.std.proofs.Common.{◌≡◌, ◌≤◌, ℕ, zero, suc, ◌+◌, ◌-◌, List, [], ◌∷◌, ◌++◌, length, refl, sym, ap, subst, ◌∙◌, Some, None, IsSome, length-append}
 use Rattle.st_calls.specs.declared.argument.PartKind.{PartKind}
@@ -10,7 +10,7 @@ use Rattle.st_translate.specs.Copied.{Copied, asked_word, fault_of, spelled, wit
 use Rattle.st_translate.proofs.Asked.{few_words}
 use Rattle.st_arguments.specs.Parts.{IsSpelled}
 
--- where the word at a place is asked for, what is spelled goes on with it
+-- if the word at an index is asked for, the spelling goes on with it
 on_more : (further : ℕ → Spelled) (s : Spelled) (place : ℕ) → Some place ≡ asked_word s → spelled_on further s ≡ further place
 on_more further (Text text) place e = cc
 on_more further (Fault errno) place e = cc
@@ -18,13 +18,13 @@ on_more further (More other) place e = let same : place ≡ other = by e in ap f
   by : Some place ≡ Some other → place ≡ other
   by e = cc
 
--- where none is asked for, that is what is spelled
+-- if no word is asked for, the spelling is at its end
 on_end : (further : ℕ → Spelled) (s : Spelled) → asked_word s ≡ None → spelled_on further s ≡ s
 on_end further (Text text) e = refl
 on_end further (Fault errno) e = refl
 on_end further (More place) e = cc
 
--- words of a memory, behind which as much is left to copy as the memory has
+-- words copied from a memory: with the words that are left, they spell what the memory spells
 pub record IsCopying (bytes : ℕ → ℕ) (kind : PartKind) (at : ℕ) (copied : Copied) : Type 0 where
   pub kind_is : copied.kind ≡ kind
   pub at_is : copied.at ≡ at
@@ -43,7 +43,7 @@ module _ (bytes : ℕ → ℕ) (kind : PartKind) (at : ℕ) where
   spelled_is : (copied : Copied) → IsCopying bytes kind at copied → spelled copied ≡ spell kind at copied.words
   spelled_is copied x = ap (λ (k : PartKind). spell k copied.at copied.words) x.kind_is ∙ ap (λ (n : ℕ). spell kind n copied.words) x.at_is
 
-  -- few words are copied where one more is asked for
+  -- few words have been copied if one more is asked for
   pub few_copied : (copied : Copied) → IsCopying bytes kind at copied → IsSome (asked_word (spelled copied)) → length copied.words ≤ 192
   few_copied copied x some = few_words copied.kind copied.at copied.words some
 
@@ -75,11 +75,11 @@ module _ (bytes : ℕ → ℕ) (kind : PartKind) (at : ℕ) where
         ∙ sym (spelled_is copied x);
   }
 
-  -- what lies in a register is spelled without a word
+  -- an argument whose value is in a register is spelled without a word
   pub spelled_plain : (text : List ℕ) → spell kind at [] ≡ Text text → IsSpelled bytes kind at (Text text)
   spelled_plain text e = record { is = end_within SPACE_WORDS [] (ap asked_word e) ∙ e }
 
--- a fault that words came to
+-- words with a fault spell that fault
 pub fault_spelled : (s : Spelled) {errno : _} → Some errno ≡ fault_of s → s ≡ Fault errno
 fault_spelled (Text text) e = cc
 fault_spelled (Fault other) e = cc

@@ -12,7 +12,7 @@ use Rattle.st_law.specs.Arguments.{is_link_at, is_link_node, link_along, link_on
 use Rattle.st_tree.specs.Refusals.{IsMade}
 use Rattle.st_exec_objects.proofs.Objects.{numbered}
 
--- whether a kind is that of a link, for an object that was made
+-- whether the kind of an object that was made is that of a link
 pub link_of_made : (tree : Tree) (obj : ℕ) → IsMade tree obj → is_link_node (node_of_number tree obj) ≡ is_link (node_with_number tree obj).kind
 link_of_made tree obj made = ap is_link_node (numbered tree obj made)
 
@@ -21,19 +21,19 @@ no_link_directory object_kind.Dir e = refl
 no_link_directory object_kind.File e = cc
 no_link_directory object_kind.Link e = cc
 
--- a directory is no link
+-- a directory isn't a link
 pub no_link_dir : (tree : Tree) (obj : ℕ) → IsMade tree obj → is_directory (node_with_number tree obj).kind ≡ true → is_link_node (node_of_number tree obj) ≡ false
 no_link_dir tree obj made directory = link_of_made tree obj made ∙ no_link_directory (node_with_number tree obj).kind directory
 
 -- ---- the way
 
--- the first link from this name on, itself among those that count
+-- the first link from this name on, the name itself included
 abbrev pub link_from : Tree → Bool → Components → Components → Option Components
 link_from tree follow done rest =
     if is_link_at tree done && (follow || not (is_last rest)) then Some done
     else link_along tree follow done rest
 
--- the way has come to the front of a name, over so many components, and has met no link before
+-- the way has reached the object of a prefix with `count` components, with no link before it
 pub record HasCome (tree : Tree) (follow : Bool) (front : Components) (count obj : ℕ) : Type 0 where
   pub count_is : count ≡ length front
   pub object : object_of tree front ≡ Some obj
@@ -43,7 +43,7 @@ pub record HasCome (tree : Tree) (follow : Bool) (front : Components) (count obj
 passes : (tree : Tree) (follow : Bool) (done rest : Components) → is_link_at tree done ≡ false → link_from tree follow done rest ≡ link_along tree follow done rest
 passes tree follow done rest none = ap (λ b. cond (b && (follow || not (is_last rest))) (Some done) (link_along tree follow done rest)) none
 
--- it begins at the root
+-- the way begins at the root
 pub come_first : (tree : Tree) (follow : Bool) (root : ℕ) → object_of tree [] ≡ Some root → IsMade tree root → is_directory (node_with_number tree root).kind ≡ true → HasCome tree follow [] 0 root
 come_first tree follow root object made directory = record {
   count_is = refl;
@@ -60,7 +60,7 @@ module _ (tree : Tree) (follow : Bool) (front : Components) (count obj : ℕ) (c
     onward : (rest : Components) → false ≡ is_link_node (node_of_number tree obj) → link_on_way tree follow (front ++ part ∷ rest) ≡ link_along tree follow front (part ∷ rest)
     onward rest none = come.way (part ∷ rest) ∙ passes tree follow front (part ∷ rest) (link_here ∙ sym none)
 
-    -- it goes on to the object of the next component
+    -- the way goes on to the object of the next component
     pub come_on : (next : ℕ) → false ≡ is_link_node (node_of_number tree obj) → Some next ≡ object_of tree (front ++ part ∷ []) → IsMade tree next → HasCome tree follow (front ++ part ∷ []) (count + 1) next
     come_on next none object made = record {
       count_is = let c = come.count_is in let l : length (front ++ part ∷ []) ≡ length front + 1 = length-append front (part ∷ []) in omega (arith, c, l);
@@ -75,14 +75,14 @@ module _ (tree : Tree) (follow : Bool) (front : Components) (count obj : ℕ) (c
         ap (λ (o : Option ℕ). cond (is_link_node (node_at tree o) && (follow || not (is_last rest))) (Some (done ++ next ∷ [])) (link_along tree follow (done ++ next ∷ []) rest)) (lost next [])
         ∙ lost_along (done ++ next ∷ []) rest (λ further more. ap (object_of tree) (append_assoc done (next ∷ []) (further ∷ more)) ∙ lost next (further ∷ more))
 
-    -- nothing leads on from here
+    -- no object is on the way from here on
     pub come_lost : (rest : Components) → false ≡ is_link_node (node_of_number tree obj) → ((rest : Components) → object_of tree (front ++ part ∷ rest) ≡ None) → link_on_way tree follow (front ++ part ∷ rest) ≡ None
     come_lost rest none lost =
         onward rest none
         ∙ ap (λ (o : Option ℕ). cond (is_link_node (node_at tree o) && (follow || not (is_last rest))) (Some (front ++ part ∷ [])) (link_along tree follow (front ++ part ∷ []) rest)) (lost [])
         ∙ lost_along (front ++ part ∷ []) rest (λ next more. ap (object_of tree) (append_assoc front (part ∷ []) (next ∷ more)) ∙ lost (next ∷ more))
 
-    -- a link stands here, and leads on
+    -- the object here is a link on the way to the name
     pub come_to_link : (rest : Components) → true ≡ is_link_node (node_of_number tree obj) → link_on_way tree follow (front ++ part ∷ rest) ≡ Some front
     come_to_link rest some =
         come.way (part ∷ rest)

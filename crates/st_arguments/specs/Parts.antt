@@ -1,4 +1,4 @@
--- What a single argument comes to, in the memory and the tree of one step.
+-- A single argument, in the memory and the tree of one step.
 use Rattle.std.specs.Prelude.{◌≡◌, ℕ, Bool, slice_index_or}
 use Rattle.st_arguments.specs.declared.fault.ArgFault.{ArgFault}
 use Rattle.st_arguments.specs.declared.fault.ArgFault.TheVariants as fault
@@ -15,31 +15,31 @@ use Rattle.st_model.specs.Tree.{Tree}
 use Rattle.st_resolve.specs.declared.walk.WalkFault.{WalkFault}
 use Rattle.st_resolve.specs.declared.walk.WalkFault.TheVariants as walk
 
--- this space of the memories, and the tree
+-- the bytes of this memory space, and the tree
 abbrev pub surroundings : Tree → Memories → ℕ → Surroundings
 surroundings tree spaces space = record { bytes = byte_in spaces space; tree = tree }
 
--- whether a call follows a link that the name of an argument ends in
+-- whether a call follows a link at the end of an argument's name
 abbrev pub is_followed : ArgRequest → ArgSpec → Bool
 is_followed asked spec = follows asked.call asked.regs spec.register
 
--- why an argument has no text whose name can't be resolved
+-- why an argument has no text if its name can't be resolved
 abbrev pub fault_of_walk : WalkFault → ArgFault
 fault_of_walk (walk.Os errno) = fault.Os errno
 fault_of_walk walk.NoMemory = fault.NoMemory
 
--- what the words of a memory spell, for an argument of this kind from this byte on
+-- what the words of a memory spell, for an argument of this kind that begins at this byte
 pub record IsSpelled (bytes : ℕ → ℕ) (kind : PartKind) (at : ℕ) (spelled : Spelled) : Type 0 where
   pub is : spelled_in bytes kind at ≡ spelled
 
--- what an argument comes to in front of others, wherever it stands
+-- the progress of the argument at position j, followed by that of the arguments after it
 abbrev pub part_in : ArgRequest → Surroundings → ArgSpec → ℕ → Progress → Progress
 part_in asked around spec j rest = part_of_spelling j spec asked around.tree (spelled_in around.bytes spec.kind (slice_index_or asked.regs spec.register 0)) rest
 
--- an argument has this text
+-- an argument has this text, at any position
 pub record IsArgument (asked : ArgRequest) (around : Surroundings) (spec : ArgSpec) (arg : ArgText) : Type 0 where
   pub is : (j : ℕ) (rest : Progress) → part_in asked around spec j rest ≡ with_arg arg rest
 
--- an argument comes to this fault
+-- an argument has this fault, at any position
 pub record IsFaultOf (asked : ArgRequest) (around : Surroundings) (spec : ArgSpec) (errno : Errno) : Type 0 where
   pub is : (j : ℕ) (rest : Progress) → part_in asked around spec j rest ≡ Stuck errno

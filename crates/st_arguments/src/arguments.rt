@@ -16,12 +16,12 @@ use st_memory::Spaces;
 use st_tree::Tree;
 use std::alloc::{AllocError, Global};
 
-/// What became of a call's arguments.
+/// The texts of a call's arguments, or the error of one of them.
 #[derive(Debug, Drop)]
 pub enum Arguments {
-    /// Their texts, in order; that of a name is absolute and normalised.
+    /// The texts, in order; that of a name is absolute and normalised.
     Ready(Sequence<ArgText>),
-    /// The first of them that has no text came to this error.
+    /// The error of the first argument that has no text.
     Stuck(Errno),
 }
 
@@ -44,8 +44,8 @@ fn texts(
     Ok(args)
 }
 
-/// The arguments of a call, in one step: each is copied from this space of memory, and a name is resolved in the tree, as they are now.
-/// The first that comes to a fault decides.
+/// The arguments of a call, in one step: each is copied from this memory space, and a name is resolved in the tree, as both are
+/// now. The first argument with a fault decides.
 pub fn arguments_in(
     alloc: Global,
     tree: &Tree,

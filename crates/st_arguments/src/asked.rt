@@ -2,8 +2,8 @@ use st_calls::{Rule, SysCall};
 use st_names::AbsName;
 use std::marker::Model;
 
-/// The call whose arguments are asked for: the rule that gives them, its registers, and where those of its names begin that aren't
-/// absolute.
+/// The call whose arguments are asked for: the rule that says which they are, its registers, and the directory where its relative
+/// names begin.
 #[derive(Debug, Drop)]
 pub struct Asked<'a> {
     pub rule: Rule,

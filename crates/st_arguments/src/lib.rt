@@ -1,4 +1,4 @@
-//! What a call needs that is made in one step: the texts of its arguments, and the first link that its names meet.
+//! The arguments of a call that is made in one step: their texts, and the link in the way of its names.
 #![tactic(auto)]
 
 pub mod arguments;

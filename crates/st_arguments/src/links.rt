@@ -22,7 +22,7 @@ fn is_link(tree: &Tree, obj: Obj) -> bool
     }
 }
 
-// How many components lead to the first link on the way to a name, where the way meets one: one look-up for each component.
+// How many components lead to the first link on the way to a name, if there is one: one lookup for each component.
 fn parts_to_link(tree: &Tree, follow: bool, text: &[u8]) -> Option<usize>
     ensures { link_on_way tree.now follow (components_of text.now) ≡ option_map (λ count. take count (components_of text.now)) result }
 {
@@ -45,7 +45,7 @@ fn parts_to_link(tree: &Tree, follow: bool, text: &[u8]) -> Option<usize>
     }
 }
 
-// The name that the first so many components of a text spell from the root.
+// The name that the first `count` components of a text spell from the root.
 fn front_of_name(alloc: Global, text: &[u8], count: usize) -> Result<AbsName, AllocError>
     ensures { IfOk result (λ name. name ≡ take count (components_of text.now)) }
 {
@@ -63,7 +63,7 @@ fn front_of_name(alloc: Global, text: &[u8], count: usize) -> Result<AbsName, Al
     Ok(name)
 }
 
-// The first link on the way to an argument with this text, where it is a name that meets one.
+// The first link on the way to an argument with this text, if the argument is a name and there is such a link.
 fn link_of_part(
     alloc: Global,
     tree: &Tree,
@@ -82,8 +82,8 @@ fn link_of_part(
     }
 }
 
-/// The first link that the names of a call meet: one that leads on to a name, or the name itself where the call follows a link in its
-/// place. Of several names the first that meets one decides. It takes a look-up for each component, and no memory but for its answer.
+/// The link in the way of a call: the first link that is a proper prefix of one of its names, or a name itself if the call follows
+/// a link at its end. The first name with such a link decides. Takes a lookup for each component, and no memory but for the result.
 pub fn link_met(
     alloc: Global,
     tree: &Tree,

@@ -1,4 +1,4 @@
-// An argument in one step: copied from the memory, and resolved in the tree, as they are.
+// An argument in one step: copied from memory, and resolved in the tree, as both are.
 ghost use Rattle.std.specs.Prelude.{◌≡◌, ℕ, true, None, slice_index_or, IsErrOf, IfOk};
 ghost use Rattle.st_arguments.specs.Parts.{is_followed, surroundings, IsArgument, IsFaultOf, IsSpelled};
 ghost use Rattle.st_arguments.specs.declared.fault.ArgFault.TheVariants.{Os};
@@ -19,7 +19,7 @@ use st_translate::{Copying, plain_text};
 use st_tree::Tree;
 use std::alloc::{AllocError, Global};
 
-// The words of an argument that lies in memory, copied until it is all there or comes to a fault.
+// The words of an argument in memory, copied until the argument is complete or has a fault.
 fn copied(
     alloc: Global,
     spaces: &Spaces,
@@ -68,7 +68,7 @@ fn spelled_text(
     }
 }
 
-// The register of an argument.
+// The value of an argument's register.
 fn register_of(asked: &Asked<'_>, spec: ArgSpec) -> u64
     ensures { result ≡ slice_index_or asked.now.regs spec.register 0 }
 {
@@ -91,7 +91,7 @@ fn full_name(
     Ok(name.print(alloc)?)
 }
 
-// An argument: what it spells in this space, a name as it is resolved in the tree.
+// An argument: the text that it spells in this memory space; a name is resolved in the tree.
 pub(crate) fn argument(
     alloc: Global,
     tree: &Tree,

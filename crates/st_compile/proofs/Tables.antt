@@ -1,4 +1,4 @@
--- Tables of the kernel's own answers, as a map keeps them.
+-- Tables of the kernel's own answers, as a map stores them.
 use Rattle.std.proofs.Common.{◌≡◌, ◌∙◌, ℕ, suc, zero, Bool, true, false, cond, List, [], ◌∷◌, take, length, Option, Some, None, Vec, Global, refl, ap, sym, get_or, option_map}
 use Rattle.std.proofs.lemmas.Cmp.{nat_list_eq_equiv}
 use Rattle.std.proofs.lemmas.List.Elements.{All-cons, All-head, All-nil, All-tail}
@@ -21,7 +21,7 @@ use Rattle.st_filter.specs.declared.set.BinaryPolicy.{BinaryPolicy}
 use Rattle.st_filter.proofs.Entries.{is_key, same_key}
 use Rattle.st_compile.specs.Table.{AnswersEntry, AreTables, BinaryAnswers, Gains, IsTableOf, answers_in, answers_of, first_answers, shown_entry, shown_table}
 
--- ---- look-ups
+-- ---- lookups
 
 abbrev pub items_of : Option (Vec (Option FastAnswer) Global) → Option (List (Option FastAnswer))
 items_of o = option_map (λ (v : Vec (Option FastAnswer) Global). v.items) o
@@ -49,7 +49,7 @@ found_length : (b : Bool) (e v : Vec (Option FastAnswer) Global) (o : Option (Ve
 found_length true e v o whole later is = ap (λ (w : Vec (Option FastAnswer) Global). length w.items) (same_Some v e (sym is)) ∙ whole
 found_length false e v o whole later is = later is
 
--- what is found has an answer for each rule
+-- answers that are found have one for each rule
 pub lookup_length : (es : List AnswersEntry) (binary : List ℕ) (v : Vec (Option FastAnswer) Global) → AreTables (shown_table es) → lookup (is_key binary) es ≡ Some v → length v.items ≡ length every_rule
 lookup_length [] binary v whole is = cc
 lookup_length (e ∷ es) binary v whole is =
@@ -58,14 +58,14 @@ lookup_length (e ∷ es) binary v whole is =
 
 -- ---- the answer for a rule
 
--- the table has each rule's answer at the rule's place
+-- the table has each rule's answer at the rule's index
 first_answers-at : (filters : List FilterValue) (rule : Rule) (d : Option FastAnswer) → get_or (first_answers filters) (index_of_rule rule) d ≡ first_answer (filters_of rule filters)
 first_answers-at filters (Call Open) d = refl
 first_answers-at filters (Call call) d = refl
 first_answers-at filters FsRead d = refl
 first_answers-at filters FsWrite d = refl
 
--- the answers of a binary are those under its policy, and it has none where it has no policy
+-- the answers of a binary are those under its policy; a binary without a policy has none
 some_by : (b : Bool) (filters others : List FilterValue) (o : Option (List (Option FastAnswer))) (answers : List (Option FastAnswer)) → cond b (Some (first_answers filters)) o ≡ Some answers → (o ≡ Some answers → answers ≡ first_answers others) → answers ≡ first_answers (cond b filters others)
 some_by true filters others o answers e later = same_Some answers (first_answers filters) (sym e)
 some_by false filters others o answers e later = later e
@@ -97,7 +97,7 @@ module _ (policies : List BinaryPolicy) (es : List AnswersEntry) (binary : List 
 
 -- ---- answers that are added
 
--- what is behind the first row comes behind it
+-- what comes after the first row still comes after it
 behind : (b : Bool) (answers : List (Option FastAnswer)) (rest more : Option (List (Option FastAnswer))) → cond b (Some answers) (option_or rest more) ≡ option_or (cond b (Some answers) rest) more
 behind true answers rest more = refl
 behind false answers rest more = refl
@@ -140,7 +140,7 @@ had es binary answers some other =
     let own : (xs : List (Option FastAnswer)) × (items_of (lookup (is_key binary) es) ≡ Some xs) = some_kept (lookup (is_key binary) es) some in
     had_by (shown_table es) binary other own.0 answers (sym (answers_kept es binary) ∙ own.1) (bytes_eq binary other) refl
 
--- each binary has an answer for each rule still
+-- each binary still has an answer for each rule
 whole_by : (b : Bool) (e : AnswersEntry) (es : List AnswersEntry) (key : Vec ℕ Global) (v : Vec (Option FastAnswer) Global) → length v.items ≡ length every_rule → AreTables (shown_table (e ∷ es)) → AreTables (shown_table (insert_entry same_key es key v))
     → AreTables (shown_table (cond b ((e.0, v) ∷ es) (e ∷ insert_entry same_key es key v)))
 whole_by true e es key v whole all later = All-cons (λ row. length row.answers ≡ length every_rule) (shown_entry (e.0, v)) (shown_table es) whole (All-tail (λ row. length row.answers ≡ length every_rule) (shown_entry e) (shown_table es) all)
@@ -162,7 +162,7 @@ next_of (policy ∷ policies) (suc i) binary filters is are other =
     ap (λ o. cond (bytes_eq policy.binary other) (Some (first_answers policy.filters)) o) (next_of policies i binary filters is are other)
     ∙ behind (bytes_eq policy.binary other) (first_answers policy.filters) (answers_of (take i policies) other) (cond (bytes_eq binary other) (Some (first_answers filters)) None)
 
--- the rows that gain the answers under the next policy are the table of one policy more
+-- if rows gain the answers under the next policy, they are the table of one more policy
 pub table_next : (policies : List BinaryPolicy) (i : ℕ) (binary : List ℕ) (filters : List FilterValue) (old new : List BinaryAnswers) → option_map (λ (p : BinaryPolicy). p.binary) (slice_get policies i) ≡ Some binary → option_map (λ (p : BinaryPolicy). p.filters) (slice_get policies i) ≡ Some filters
     → IsTableOf (take i policies) old → Gains old binary (first_answers filters) new → IsTableOf (take (suc i) policies) new
 table_next policies i binary filters old new is are table gained other =

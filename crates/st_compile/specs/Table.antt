@@ -1,4 +1,4 @@
--- The kernel's own answers under each policy, made beforehand.
+-- The kernel's own answers under each policy, computed beforehand.
 use Rattle.std.specs.Prelude.{◌≡◌, ℕ, List, [], ◌∷◌, map, length, if◌then◌else◌, Option, Some, None, Vec}
 use Rattle.std.specs.List.{All}
 use Rattle.std.specs.Option.{option_or}
@@ -20,7 +20,7 @@ pub record BinaryAnswers : Type 0 where
 abbrev pub first_answers : List FilterValue → List (Option FastAnswer)
 first_answers filters = map (λ rule. first_answer (filters_of rule filters)) every_rule
 
--- the answers of the first row of a binary
+-- the answers in the first row of a binary
 abbrev pub answers_in : List BinaryAnswers → List ℕ → Option (List (Option FastAnswer))
 answers_in [] binary = None
 answers_in (row ∷ rows) binary = if bytes_eq row.binary binary then Some row.answers else answers_in rows binary
@@ -30,7 +30,7 @@ abbrev pub answers_of : List BinaryPolicy → List ℕ → Option (List (Option 
 answers_of [] binary = None
 answers_of (policy ∷ policies) binary = if bytes_eq policy.binary binary then Some (first_answers policy.filters) else answers_of policies binary
 
--- the rows have these answers too, for a binary that had none
+-- the new rows also have these answers for a binary, unless it had some
 abbrev pub Gains : List BinaryAnswers → List ℕ → List (Option FastAnswer) → List BinaryAnswers → Type 0
 Gains old binary answers new =
     (other : List ℕ) → answers_in new other ≡ option_or (answers_in old other) (if bytes_eq binary other then Some answers else None)
@@ -39,17 +39,17 @@ Gains old binary answers new =
 abbrev pub IsTableOf : List BinaryPolicy → List BinaryAnswers → Type 0
 IsTableOf policies rows = (binary : List ℕ) → answers_in rows binary ≡ answers_of policies binary
 
--- ---- as they are kept
+-- ---- the table as it is stored
 
--- what the map has for one binary: its answers
+-- an entry of the map: a binary and its answers
 abbrev pub AnswersEntry : Type 0
 AnswersEntry = Vec ℕ Global × Vec (Option FastAnswer) Global
 
--- the row that a binary and its answers in the map stand for
+-- the row that an entry of the map represents
 abbrev pub shown_entry : AnswersEntry → BinaryAnswers
 shown_entry e = record { binary = e.0.items; answers = e.1.items }
 
--- the rows that the map stands for, in its order
+-- the rows that the map represents, in its order
 abbrev pub shown_table : List AnswersEntry → List BinaryAnswers
 shown_table entries = map shown_entry entries
 

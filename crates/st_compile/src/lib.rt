@@ -1,4 +1,4 @@
-//! What is made of policies beforehand, so that no step of a run searches them.
+//! Compiles policies into tables of the kernel's own answers, so that no step of a run searches the policies.
 #![tactic(auto)]
 
 pub mod table;

@@ -12,11 +12,11 @@ use st_filter::{Policy, PolicySet, first_answer};
 use std::alloc::{AllocError, Global};
 use std::marker::Model;
 
-/// The kernel's own answers under each policy that was read, by the binary and the rule: an answer is one look-up, however many
-/// filters there are. Where no filter is for a rule there is none.
+/// The kernel's own answers under each policy that was read, by the binary and the rule. An answer takes one lookup, however many
+/// filters there are. A rule that no filter is for has no answer.
 #[derive(Debug, Drop)]
 pub struct FastTable {
-    // For each binary the answers by the rules' places.
+    // For each binary, the answers by the indices of the rules.
     tables: IndexMap<Vec<u8>, Vec<Option<FastAnswer>>>,
 }
 
@@ -55,7 +55,7 @@ impl FastTable {
         Ok(table)
     }
 
-    // Adds the answers under the policy of a binary, unless it has some.
+    // Adds the answers under the policy of a binary, unless the binary has answers.
     fn add(&mut self, alloc: Global, binary: &[u8], policy: &Policy) -> Result<(), AllocError>
         ensures { OnOk result (Gains self.old binary.now (first_answers policy.now) self.new) }
     {
@@ -68,7 +68,7 @@ impl FastTable {
         Ok(())
     }
 
-    /// The answer for a rule under the policy of a binary; none where no filter that was read is for it.
+    /// The answer for a rule under the policy of a binary; `None` if no filter that was read is for the rule.
     pub fn get(&self, binary: &[u8], rule: Rule) -> Option<FastAnswer>
         ensures { (policies : List BinaryPolicy) → IsTableOf policies self.now → result ≡ first_answer (read_filters policies binary.now rule) }
     {

@@ -27,7 +27,7 @@ add_filter_at (q ∷ []) (suc i) p f e h = absurd (omega arith)
 add_filter_at (q ∷ r ∷ ps) zero p f e h = absurd (omega arith)
 add_filter_at (q ∷ r ∷ ps) (suc i) p f e h = ap (λ rest. q ∷ rest) (add_filter_at (r ∷ ps) i p f (omega arith) h)
 
--- a filter that is added is counted
+-- a filter that is appended is counted
 pub counted_added : (ps : List BinaryPolicy) (f : FilterValue) → is_some_policy ps ≡ true → filters_in (add_filter ps f) ≡ filters_in ps + 1
 counted_added [] f h = absurd (cc)
 counted_added (p ∷ []) f h = omega (arith, length-append p.filters (f ∷ []))

@@ -1,4 +1,4 @@
--- The policies that a map keeps, looked up by their binaries.
+-- The policies that a map stores, looked up by their binaries.
 use Rattle.std.proofs.Common.{◌≡◌, ℕ, suc, zero, ◌+◌, Bool, true, false, List, [], ◌∷◌, ◌++◌, length, take, ◌≤◌, refl, ap, sym, ◌∙◌, arith, Option, Some, nat_eq, ◌&&◌, ◌||◌, Vec, cond}
 use Rattle.std.proofs.lemmas.Bool.{both_ways, or_left, or_parts}
 use Rattle.std.proofs.lemmas.List.{map-append, length-map, take-append-le}
@@ -90,7 +90,7 @@ kept_begun [] key v h = refl
 kept_begun (e ∷ es) key v h =
     begun_by (bytes_eq key.items e.0.items) e es key v (bytes_eq_sym key.items e.0.items) h (λ k. kept_begun es key v k)
 
--- ---- the last policy is taken out
+-- ---- the last policy is removed
 
 pub counted_before : (es fs : List PolicyEntry) (e : PolicyEntry) → es ≡ fs ++ e ∷ [] → filters_in (shown_policies es) ≡ filters_in (shown_policies fs) + length e.1
 counted_before es fs e h = ap (λ ps. filters_in (shown_policies ps)) h ∙ ap filters_in (map-append shown_entry fs (e ∷ [])) ∙ filters_in_last (shown_policies fs) (shown_entry e)

@@ -1,3 +1,4 @@
+-- Filters and their expressions as plain data, the way contracts see them.
 use Rattle.std.specs.Prelude.{ℕ, Bool, List, Option}
 use Rattle.st_filter.specs.declared.filter.FilterName.{FilterName}
 use Rattle.st_filter.specs.declared.filter.Action.{Action}
@@ -7,10 +8,10 @@ use Rattle.st_filter.specs.declared.filter.Op.{Op}
 use Rattle.st_filter.specs.declared.filter.Expr.{Expr}
 use Rattle.st_filter.specs.declared.filter.Expr.TheVariants as expr
 
--- an expression, without where its parts lie in memory
+-- an expression as contracts see it, without the addresses of its parts in memory
 pub data Formula : Type 0 where
   True : Formula
-  -- the argument of this label and index compares so with this text
+  -- the argument with this label and index compares with this text as the operator says
   Test : List ℕ → ℕ → Op → List ℕ → Formula
   Not : Formula → Formula
   And : Formula → Formula → Formula
@@ -24,13 +25,13 @@ formula (expr.Not' p e) = Not (formula e)
 formula (expr.And' p e q f) = And (formula e) (formula f)
 formula (expr.Or' p e q f) = Or (formula e) (formula f)
 
--- the levels of an expression's text: operands bind closest, then those that `and` joins, then those that `or` joins
+-- the levels of an expression's text: operands bind closest, then what `and` joins, then what `or` joins
 pub data Level : Type 0 where
   Operand : Level
   Conjunction : Level
   Disjunction : Level
 
--- a filter, without where its parts lie in memory
+-- a filter as contracts see it, without the addresses of its parts in memory
 pub record FilterValue : Type 0 where
   pub name : FilterName
   pub formula : Formula

@@ -12,7 +12,7 @@ pub data Mark : Type 0 where
   Both : Mark
   Either : Mark
 
--- the marks of a formula, with others behind them
+-- the marks of a formula, followed by others
 abbrev pub marks_before : Formula → List Mark → List Mark
 marks_before True rest = Always ∷ rest
 marks_before (Test label index op text) rest = Compare label index op text ∷ rest
@@ -24,7 +24,7 @@ marks_before (Or f g) rest = marks_before f (marks_before g (Either ∷ rest))
 abbrev pub marks : Formula → List Mark
 marks f = marks_before f []
 
--- a stack of formulas with that of a mark on top, in place of the mark's operands
+-- a stack of formulas after a mark, with the mark's formula on top in place of the mark's operands
 abbrev pub onto : Mark → List Formula → List Formula
 onto Always stack = True ∷ stack
 onto (Compare label index op text) stack = Test label index op text ∷ stack
@@ -37,7 +37,7 @@ onto Either [] = []
 onto Either (g ∷ []) = []
 onto Either (g ∷ f ∷ stack) = Or f g ∷ stack
 
--- a stack of formulas, once these marks are read
+-- a stack of formulas after these marks are read
 abbrev pub stacked : List Mark → List Formula → List Formula
 stacked [] stack = stack
 stacked (mark ∷ marks) stack = stacked marks (onto mark stack)

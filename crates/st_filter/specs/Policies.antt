@@ -9,7 +9,7 @@ use Rattle.st_filter.specs.declared.filter.FilterName.TheVariants as name
 use Rattle.st_filter.specs.declared.set.BinaryPolicy.{BinaryPolicy}
 use Rattle.st_filter.specs.Formula.{FilterValue}
 
--- the filters of a binary: those of its first policy, and none where it has no policy
+-- the filters of a binary: those of its first policy, or none if it has no policy
 abbrev pub policy_of : List BinaryPolicy → List ℕ → List FilterValue
 policy_of [] binary = []
 policy_of (p ∷ ps) binary = if bytes_eq p.binary binary then p.filters else policy_of ps binary
@@ -27,7 +27,7 @@ filters_of rule filters = filter (λ f. is_for rule f.name) filters
 abbrev pub read_filters : List BinaryPolicy → List ℕ → Rule → List FilterValue
 read_filters policies binary rule = filters_of rule (policy_of policies binary)
 
--- a binary has a policy
+-- whether a binary has a policy
 abbrev pub has_policy : List BinaryPolicy → List ℕ → Bool
 has_policy policies binary = list_any (λ p. bytes_eq p.binary binary) policies
 
@@ -39,13 +39,13 @@ filters_in policies = sum_by (λ p. length p.filters) policies
 abbrev pub with_filter : BinaryPolicy → FilterValue → BinaryPolicy
 with_filter p f = record { binary = p.binary; filters = p.filters ++ f ∷ [] }
 
--- a filter is added to the last policy
+-- the policies after a filter is appended to the last one
 abbrev pub add_filter : List BinaryPolicy → FilterValue → List BinaryPolicy
 add_filter [] f = []
 add_filter (p ∷ []) f = with_filter p f ∷ []
 add_filter (p ∷ q ∷ ps) f = p ∷ add_filter (q ∷ ps) f
 
--- some policy is there
+-- whether there is some policy
 abbrev pub is_some_policy : List BinaryPolicy → Bool
 is_some_policy [] = false
 is_some_policy (p ∷ ps) = true

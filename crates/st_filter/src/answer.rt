@@ -5,8 +5,8 @@ ghost use Rattle.st_filter.specs.Policies.{filters_of};
 use crate::filter::{Action, Expr, Filter, Policy};
 use st_calls::{FastAnswer, Rule};
 
-/// What the kernel answers by itself where this filter is the first of its rule, as in systrace(4): what it says, where it is a plain permit
-/// without `as`, `log` and `if`, or a plain denial without `log` and `if`; else it asks.
+/// The kernel's own answer if this filter is the first of its rule, as in systrace(4): permit for a plain permit without `as`,
+/// `log` and `if`, refuse for a plain denial without `log` and `if`, otherwise ask.
 pub fn fast_answer(filter: &Filter) -> FastAnswer
     ensures { result ≡ fast_answer filter.now }
 {
@@ -23,7 +23,7 @@ pub fn fast_answer(filter: &Filter) -> FastAnswer
     }
 }
 
-/// What the kernel answers by itself for a rule under these filters, by the first that is for it; none where there is none.
+/// The kernel's own answer for a rule under these filters, by the first filter for the rule; `None` if there is no such filter.
 pub fn first_answer(policy: &Policy, rule: Rule) -> Option<FastAnswer>
     ensures { result ≡ first_answer (filters_of rule policy.now) }
 {

@@ -5,14 +5,14 @@ ghost use Rattle.st_filter.specs.Judging.{stands_in, is_path_prefix, is_on_way, 
 use crate::filter::{Cmp, Op};
 use st_glob::glob;
 
-// Whether all bytes are the same. Mostly the lengths tell already.
+// Whether all bytes are the same. Mostly the lengths decide.
 fn is_same(argument: &[u8], text: &[u8]) -> bool
     ensures { result ≡ bytes_eq argument.now text.now }
 {
     argument.len() == text.len() && argument == text
 }
 
-// Whether a text stands somewhere in an argument.
+// Whether a text occurs in an argument.
 fn stands_in(text: &[u8], argument: &[u8]) -> bool
     ensures { result ≡ stands_in text.now argument.now }
 {
@@ -24,7 +24,7 @@ fn stands_in(text: &[u8], argument: &[u8]) -> bool
     text.is_empty()
 }
 
-// Whether a path begins with an argument, behind which it ends or goes on with a slash.
+// Whether an argument is a prefix of a path, after which the path ends or goes on with a slash.
 fn is_path_prefix(argument: &[u8], path: &[u8]) -> bool
     ensures { result ≡ is_path_prefix argument.now path.now }
 {
@@ -53,7 +53,7 @@ fn is_on_way(argument: &[u8], path: &[u8]) -> bool
     is_path_prefix(argument, path) || (argument == b"/".as_slice() && path.starts_with(b"/"))
 }
 
-/// Whether an argument compares so with the text of a test.
+/// Whether an argument and the text of a test compare as the operator says.
 pub fn compares(op: Op, argument: &[u8], text: &[u8]) -> bool
     ensures { result ≡ compares op argument.now text.now }
 {
@@ -67,7 +67,7 @@ pub fn compares(op: Op, argument: &[u8], text: &[u8]) -> bool
     }
 }
 
-/// Whether an id compares so with that of a predicate.
+/// Whether an id and that of a predicate compare as the predicate says.
 pub fn compares_ids(cmp: Cmp, id: u32, other: u32) -> bool
     ensures { result ≡ compares_ids cmp id other }
 {

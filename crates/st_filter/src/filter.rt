@@ -13,12 +13,12 @@ pub type Policy = Sequence<Filter>;
 pub enum FilterName {
     /// A rule of the model.
     Rule(Rule),
-    /// A call outside the model, by its name behind `native-`; its filters are kept and never asked.
+    /// A call outside the model, by its name after `native-`. Its filters are kept, and never tried.
     Other(Text),
 }
 
 impl FilterName {
-    /// An equal one with a text of its own.
+    /// A copy with its own text.
     pub fn copy(&self, alloc: Global) -> Result<Self, AllocError>
         ensures { IfOk result (λ copied. copied ≡ self.now) }
     {
@@ -32,15 +32,15 @@ impl FilterName {
 /// How a test compares an argument with its text.
 #[derive(Clone, Copy, Debug, PartialEq, Eq)]
 pub enum Op {
-    /// The text, as a pattern, matches the argument or a leading part of it that a slash follows.
+    /// The text, as a pattern, matches the argument or a prefix of it that a slash follows.
     Match,
     /// All bytes are the same.
     Eq,
     /// Some byte differs.
     Neq,
-    /// The text stands somewhere in the argument.
+    /// The text occurs in the argument.
     Sub,
-    /// The text stands nowhere in the argument.
+    /// The text doesn't occur in the argument.
     Nsub,
     /// The argument is a directory on the way to the text, or the text itself.
     Inpath,
@@ -49,9 +49,9 @@ pub enum Op {
 /// A filter's test of a call's arguments.
 #[derive(Debug, Drop)]
 pub enum Expr {
-    /// Every call.
+    /// True of every call.
     True,
-    /// The argument of this label and index compares so with the text.
+    /// The argument with this label and index compares with the text as the operator says.
     Test {
         label: Text,
         index: u32,
@@ -66,7 +66,7 @@ pub enum Expr {
 impl Expr {
     ghost use Rattle.st_filter.specs.Formula.{formula};
 
-    /// An equal one with operands of its own.
+    /// A copy with its own operands.
     pub fn copy(&self, alloc: Global) -> Result<Self, AllocError>
         ensures { IfOk result (λ copied. formula copied ≡ formula self.now) }
     {
@@ -101,7 +101,7 @@ impl Expr {
 pub enum Action {
     Permit,
     Deny(Errno),
-    /// A person is asked; until then the filter decides nothing.
+    /// The operator is asked; until then the filter decides nothing.
     Ask,
 }
 
@@ -163,14 +163,14 @@ impl Filter {
     ghost use Rattle.st_filter.specs.Formula.{formula};
     ghost use Rattle.st_filter.specs.Policies.{is_for};
 
-    /// What it is for.
+    /// What the filter is for.
     pub fn name(&self) -> &FilterName
         ensures { result.now ≡ self.now.name }
     {
         &self.name
     }
 
-    /// A filter of these parts. Any parts make one: a test of an argument that a call lacks doesn't hold of it.
+    /// A filter with these parts. Any parts make one: a test of an argument that a call lacks doesn't hold of the call.
     pub fn new(
         name: FilterName,
         expr: Expr,
@@ -191,42 +191,42 @@ impl Filter {
         }
     }
 
-    /// Which calls it holds of.
+    /// Which calls the filter holds of.
     pub fn expr(&self) -> &Expr
         ensures { formula result.now ≡ self.now.formula }
     {
         &self.expr
     }
 
-    /// What it does with a call that it holds of.
+    /// What the filter does with a call that it holds of.
     pub fn action(&self) -> Action
         ensures { result ≡ self.now.action }
     {
         self.action
     }
 
-    /// The ids that it grants.
+    /// The ids that the filter grants.
     pub fn grant(&self) -> Option<Grant>
         ensures { result ≡ self.now.grant }
     {
         self.grant
     }
 
-    /// Whether the calls that it decides are marked in the audit.
+    /// Whether the audit marks the calls that the filter decides.
     pub fn log(&self) -> bool
         ensures { result ≡ self.now.log }
     {
         self.log
     }
 
-    /// Which ids it asks for.
+    /// The ids that the filter requires.
     pub fn predicate(&self) -> Option<Predicate>
         ensures { result ≡ self.now.predicate }
     {
         self.predicate
     }
 
-    /// An equal one with texts and an expression of its own.
+    /// A copy with its own texts and expression.
     pub fn copy(&self, alloc: Global) -> Result<Self, AllocError>
         ensures { IfOk result (λ copied. copied ≡ self.now) }
     {
@@ -240,7 +240,7 @@ impl Filter {
         })
     }
 
-    /// Whether it is for this rule.
+    /// Whether the filter is for this rule.
     pub fn is_for(&self, rule: Rule) -> bool
         ensures value { result ≡ is_for rule self.now.name }
         ensures same { IsTrue result ↔ (self.now.name ≡ FilterName.Rule rule) }

@@ -9,17 +9,17 @@ use crate::filter::{Action, Expr, Filter, Grant, Op, Policy, Predicate, Who};
 use st_base::Ids;
 use st_calls::{ArgText, Snapshot, Verdict};
 
-// Whether an argument is the one of a label and index, and compares so with a text.
+// Whether an argument has this label and index, and compares with a text as the operator says.
 fn test_holds_of(label: &[u8], index: u32, op: Op, text: &[u8], argument: &ArgText) -> bool
     ensures { result ≡ test_holds_of label.now index op text.now argument.now }
 {
-    // Where many filters are of one rule they mostly differ in their texts, so that the label is looked at last.
+    // Many filters of one rule mostly differ in their texts, so the label is compared last.
     argument.index == index
         && compares(op, argument.text.bytes(), text)
         && argument.label.word() == label
 }
 
-// Whether one of the arguments passes.
+// Whether one of the arguments passes the test.
 fn one_passes(label: &[u8], index: u32, op: Op, text: &[u8], arguments: &[ArgText]) -> bool
     ensures { result ≡ list_any (test_holds_of label.now index op text.now) arguments.now }
 {
@@ -65,8 +65,8 @@ fn ids_match(predicate: Option<Predicate>, ids: Ids) -> bool
     }
 }
 
-/// Whether a filter holds of a call by the copies of its arguments: its expression is true of them, and the effective ids are
-/// as its predicate asks.
+/// Whether a filter holds of a call, by the copies of its arguments: its expression is true of them, and its predicate of the
+/// effective ids.
 pub fn holds(filter: &Filter, copies: &Snapshot) -> bool
     ensures { result ≡ holds filter.now copies.now }
 {
@@ -87,7 +87,7 @@ fn granted(grant: Option<Grant>, ids: Ids) -> Ids
     }
 }
 
-/// What the filter of this number says of a call with these ids, where it holds; one that asks decides nothing.
+/// What the filter with this number says of a call with these ids, if it holds; a filter that asks decides nothing.
 pub fn verdict_of(filter: &Filter, number: u32, ids: Ids) -> Verdict
     ensures { result ≡ verdict_by number filter.now.grant ids filter.now.action }
 {
@@ -98,8 +98,8 @@ pub fn verdict_of(filter: &Filter, number: u32, ids: Ids) -> Verdict
     }
 }
 
-/// What a policy says of a held call by the copies of its arguments: as the first filter of its rule that holds, of filters
-/// numbered from 1.
+/// What a policy says of a held call, by the copies of its arguments: what the first filter of the call's rule that holds says. The
+/// filters are numbered from 1.
 pub fn decide(policy: &Policy, copies: &Snapshot) -> Verdict
     requires { length policy.now < 2 ^ 32 }
     ensures { result ≡ verdict (filters_of copies.now.rule policy.now) copies.now }

@@ -1,5 +1,5 @@
-//! Filters, and what they decide: what a filter is, sets of policies, whether a filter holds of a call, what the first that holds says, and what
-//! the kernel answers by itself. How their text is read and printed stands above this crate.
+//! Filters, and what they decide: what a filter is, sets of policies, whether a filter holds of a call, what the first that holds
+//! says, and the kernel's own answers. Crates above this one read and print the text of filters.
 #![tactic(auto)]
 
 mod answer;

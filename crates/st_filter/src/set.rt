@@ -27,9 +27,9 @@ pub struct Reply {
 /// The policies that were read, in order.
 #[derive(Debug, Drop)]
 pub struct PolicySet {
-    // By their binaries, in the order of first sight.
+    // By their binaries, in the order in which these first appear.
     policies: IndexMap<Vec<u8>, Policy>,
-    // How many filters all of them have.
+    // How many filters all policies have.
     filters: usize,
     empty: Policy,
 }
@@ -56,7 +56,7 @@ impl PolicySet {
     ghost use Rattle.st_filter.specs.Policies.{policy_of, has_policy, filters_in, add_filter};
     ghost use Rattle.st_filter.specs.declared.set.TheConstants.{MOST_FILTERS};
 
-    /// No policies, which takes no memory.
+    /// A set without policies, which takes no memory.
     pub fn new(alloc: Global) -> Self
         ensures { result ≡ [] }
     {
@@ -82,7 +82,7 @@ impl PolicySet {
         self.filters
     }
 
-    /// The binary of the policy at this place.
+    /// The binary of the policy at this index.
     pub fn binary(&self, i: usize) -> &[u8]
         requires { i < length self.now }
         ensures { option_map (λ p. p.binary) (slice_get self.now i) ≡ Some result.now }
@@ -93,7 +93,7 @@ impl PolicySet {
         }
     }
 
-    /// The filters of the policy at this place.
+    /// The filters of the policy at this index.
     pub fn policy(&self, i: usize) -> &Policy
         requires { i < length self.now }
         ensures { option_map (λ p. p.filters) (slice_get self.now i) ≡ Some result.now }
@@ -111,7 +111,7 @@ impl PolicySet {
         self.policies.contains_key(binary)
     }
 
-    /// The filters of a binary: those of its policy, and none where it has none.
+    /// The filters of a binary: those of its policy, or none if it has no policy.
     pub fn get(&self, binary: &[u8]) -> &Policy
         ensures is { result.now ≡ policy_of self.now binary.now }
         ensures few { length result.now ≤ MOST_FILTERS }
@@ -122,7 +122,7 @@ impl PolicySet {
         }
     }
 
-    /// Begins the policy of a binary that has none, without filters.
+    /// Begins a policy without filters, for a binary that has no policy. If memory runs out, nothing changes.
     pub fn begin(&mut self, alloc: Global, binary: Text) -> Result<(), AllocError>
         requires { has_policy self.old binary ≡ false }
         ensures ok { OnOk result (self.new ≡ self.old ++ record { binary = binary; filters = [] } ∷ []) }
@@ -133,7 +133,7 @@ impl PolicySet {
         Ok(())
     }
 
-    /// Adds a filter to the last policy.
+    /// Appends a filter to the last policy. If memory runs out, nothing changes.
     pub fn add_filter(&mut self, filter: Filter) -> Result<(), AllocError>
         requires { filters_in self.old < MOST_FILTERS }
         ensures ok { OnOk result (self.new ≡ add_filter self.old filter) }
@@ -148,7 +148,7 @@ impl PolicySet {
         Ok(())
     }
 
-    /// Keeps so many policies at the front.
+    /// Keeps the first `len` policies, and drops the rest.
     #[tactic(auto, using(crate::proofs::Entries::counted_before, crate::proofs::Entries::front_before))]
     pub fn truncate(&mut self, len: usize)
         ensures { self.new ≡ take len self.old }

@@ -6,6 +6,6 @@ use Rattle.st_arguments.proofs.part.copied.Given as goal
 abbrev pub invariant-loop-place : goal.invariant-loop-place
 invariant-loop-place l = IsCopying (byte_in l.spaces l.space) l.fn.kind l.at l.copying
 
--- a part that asks has 192 words at most
+-- a part that asks for a word has at most 192 words
 abbrev pub decreases-loop-place : goal.decreases-loop-place
 decreases-loop-place l = 193 - length l.copying.words
