@@ -1,4 +1,4 @@
--- What the entries of a lawful history tell of held calls is what looking back says of them.
+-- What the entries of a lawful history record of held calls is what looking back says of them.
 use Rattle.std.proofs.Common.{◌≡◌, ℕ, suc, Bool, true, false, cond, ◌==◌, ◌&&◌, ◌||◌, List, [], ◌∷◌, ◌++◌, length, Option, Some, None, option_map, reverse, refl, sym, ap, subst, ◌∙◌}
 use Rattle.std.proofs.lemmas.Bool.{and_parts, eqb-true, or_parts, true≢false}
 use Rattle.std.specs.List.{fold}
@@ -34,7 +34,7 @@ use Rattle.st_audit.specs.Told.{answer_of, answer_with, audit_told, decided_told
 
 -- ---- answers
 
--- where a number was answered and its call is open, some entry is its newest applied answer
+-- if a number was answered and its call is open, some entry is its newest applied answer
 record Found (h : History) (q : ℕ) : Type 0 where
   later : History
   worker : ℕ
@@ -73,14 +73,14 @@ answered_here w s v applied h q older true e answered =
 answered_here w s v applied h q older false e answered =
     behind (Answered w s v applied) h q (older answered) (ap (λ c. cond c (Some (answer_with s v)) (answer_of h q)) e)
 
--- an entry behind which a call is open left it open
+-- if a call is open after an entry, it was open before the entry
 was_open : (q : ℕ) (e : Entry) (h : History) → is_closed_at (e ∷ h) q ≡ false → is_closed_at h q ≡ false
 was_open q e h unclosed = by (is_closed_at h q) refl where
   by : (b : Bool) → is_closed_at h q ≡ b → is_closed_at h q ≡ false
   by false is = is
   by true is = absurd (true≢false (sym (closed_stays q e h is) ∙ unclosed))
 
--- a call that is made or denied, and is another
+-- another call is made or denied
 kept_open : (q : ℕ) (seq : Option ℕ) (closed : Bool) (h : History) → (is_number q seq || closed) ≡ false → cond (is_number q seq) None (answer_of h q) ≡ answer_of h q
 kept_open q seq closed h unclosed = ap (λ b. cond b None (answer_of h q)) (or_parts (is_number q seq) closed unclosed).0
 
@@ -102,7 +102,7 @@ found (Ended u ∷ h) q answered unclosed = behind (Ended u) h q (found h q answ
 found (Replied p reply n ∷ h) q answered unclosed = behind (Replied p reply n) h q (found h q answered unclosed) refl
 found (Learned p n ∷ h) q answered unclosed = behind (Learned p n) h q (found h q answered unclosed) refl
 
--- a live number's call is open
+-- the call of a live number is open
 open_by : (head : Option Head) (closed : Bool) (dying : ℕ → Bool) → is_live_by head closed dying ≡ true → closed ≡ false
 open_by None closed dying live = cc
 open_by (Some head) false dying live = refl
@@ -139,7 +139,7 @@ module _ (i : Input) (startable : IsStartable i) where
 
   -- ---- what decides
 
-  -- what is said of a held call with these copies, by the verdict of the filters that were read
+  -- what an audit says of a held call with these copies, by the verdict of the filters that were read
   abbrev said_of : History → Snapshot → Verdict → Decided
   said_of h s v =
       decided_by i (session_at i h) s (number_of (verdict_or v (verdict_from (suc (length (read_for i s.policy s.rule))) (session_filters (session_at i h) s.policy s.rule) s)))
@@ -152,7 +152,7 @@ module _ (i : Input) (startable : IsStartable i) where
 
   -- ---- lines
 
-  -- what each of the two says of held calls
+  -- what the entries say of held calls, and what the law says
   abbrev by_entries : History → ℕ → Option Decided
   by_entries h q = decided_told i (session_at i h) (answer_of h q)
 

@@ -1,4 +1,4 @@
--- What is kept follows the entries.
+-- The ledger follows the entries.
 use Rattle.std.proofs.Common.{◌≡◌, ℕ, Bool, false, List, [], ◌∷◌, ◌++◌, Option, reverse, refl, ap, sym, subst, ◌∙◌}
 use Rattle.std.specs.BTreeMap.{BTreeMap}
 use Rattle.std.proofs.lemmas.List.{append-nil, reverse-append}
@@ -25,7 +25,7 @@ use Rattle.st_audit.specs.declared.how.How.{How}
 use Rattle.st_audit.specs.declared.ledger.Ledger.{Ledger}
 use Rattle.st_audit.proofs.Rows.{entered_changed, row_of_changed}
 
--- what an entry makes of what is kept, part by part
+-- how an entry changes the ledger, part by part
 pub record Follows (i : Input) (old new : Ledger) (e : Entry) : Type 0 where
   pub owners : (t : ℕ) → owner_in i new.owners t ≡ owner_after t (owner_in i old.owners t) (changes_of e)
   pub rows : (p : ℕ) → row_in i new.rows p ≡ row_after (row_in i old.rows (owner_in i old.owners (thread_of e))) (owner_in i old.owners (thread_of e)) p (row_in i old.rows p) (changes_of e)
@@ -50,13 +50,13 @@ printing_adds_nothing i h (Learned q n) owners rows entered decided = refl
 printing_adds_nothing i h (Replied q reply n) owners rows entered decided = refl
 printing_adds_nothing i h _ owners rows entered decided = refl
 
--- what an entry prints by the session behind it and by what is kept is what it prints by the entries before it
+-- what an entry prints by a ledger and by the session after the entry is what it prints by the entries before it
 pub line_told : (i : Input) (session : List SessionFilter) (ledger : Ledger) (h : History) (e : Entry) → session ≡ session_at i (e ∷ h) → IsLedger i ledger h → kept_line i session ledger e ≡ told_line i h e
 line_told i session ledger h e same is =
     (λ k. line_by i (λ t. is.owners t k) (λ p. is.rows p k) (λ t. is.entered t k) (λ q. decided_told i (same k) (is.answers q k)) e)
     ∙ printing_adds_nothing i h e (owner_at i h) (row_at i h) (entered_at i h) (λ session q. decided_told i session (answer_of h q))
 
--- the rows that the changes of a call give, by its entry
+-- the rows after the changes of a call, by its entry
 pub rows_noted : (i : Input) (owners : BTreeMap ℕ ℕ) (old new : BTreeMap ℕ Row) (e : Entry) (t pid : ℕ) (changes : List Change) → thread_of e ≡ t → changes_of e ≡ changes → pid ≡ owner_in i owners t
     → ((p : ℕ) → row_in i new p ≡ row_after (row_in i old pid) pid p (row_in i old p) changes)
     → (p : ℕ) → row_in i new p ≡ row_after (row_in i old (owner_in i owners (thread_of e))) (owner_in i owners (thread_of e)) p (row_in i old p) (changes_of e)
@@ -65,10 +65,10 @@ rows_noted i owners old new e t pid changes thread all same noted p =
     noted p ∙ ap (λ n. row_after (row_in i old n) n p (row_in i old p) changes) m
     ∙ ap (row_after (row_in i old (owner_in i owners (thread_of e))) (owner_in i owners (thread_of e)) p (row_in i old p)) (sym all)
 
--- ---- steps on the way
+-- ---- steps in between
 
 module _ (i : Input) (ledger : Ledger) where
-  -- a step on the way to what becomes of a call leaves what is kept
+  -- a step in between leaves the ledger as it is
   pub kept_still : (h : History) (e : Entry) → tells_of_call e ≡ false → IsLedger i ledger h → IsLedger i ledger (e ∷ h)
   kept_still h (Stored t place word) none is = record { owners = is.owners; rows = is.rows; entered = is.entered; answers = is.answers }
   kept_still h (Claimed w q) none is = record { owners = is.owners; rows = is.rows; entered = is.entered; answers = is.answers }
@@ -84,7 +84,7 @@ module _ (i : Input) (ledger : Ledger) where
   kept_still h (Denied t seq errno cause) none is = cc
 
 module _ (i : Input) (session : List SessionFilter) (ledger : Ledger) where
-  -- and prints nothing
+  -- a step in between prints nothing
   prints_nothing : (e : Entry) → tells_of_call e ≡ false → kept_line i session ledger e ≡ []
   prints_nothing (Stored t place word) none = refl
   prints_nothing (Claimed w q) none = refl
@@ -102,7 +102,7 @@ module _ (i : Input) (session : List SessionFilter) (ledger : Ledger) where
   pub printed_still : (e : Entry) (text : List ℕ) → tells_of_call e ≡ false → text ≡ text ++ kept_line i session ledger e
   printed_still e text none = sym (append-nil text) ∙ ap (λ line. text ++ line) (sym (prints_nothing e none))
 
--- ---- one entry more
+-- ---- one more entry
 
 module _ (i : Input) (trace : List Entry) (e : Entry) where
   newest_first : reverse (trace ++ e ∷ []) ≡ e ∷ reverse trace
@@ -116,7 +116,7 @@ module _ (i : Input) (trace : List Entry) (e : Entry) where
       more ∙ ap (λ line. text ++ line) (line_told i session ledger (reverse trace) e (same ∙ ap (session_at i) newest_first) kept)
       ∙ ap (λ front. front ++ told_line i (reverse trace) e) written ∙ sym (ap (told_back i) newest_first)
 
--- what a call that was made prints, by what is told of it
+-- what a call that was made prints, by what is known of it
 pub used_line : (i : Input) (session : List SessionFilter) (ledger : Ledger) (e : Entry) (t : ℕ) (seq : Option ℕ) (call : SysCall) (regs : List ℕ) (args : List ArgText) (ids : Ids) (result : CallResult) (changes : List Change)
     (text new : List ℕ) (slice told : List ArgText) (how : How) (log : Bool) (decided : Option Decided)
     → e ≡ Used t seq call regs args ids result changes

@@ -1,4 +1,4 @@
--- What more entries add to an audit stands behind it.
+-- What more entries add to an audit comes after it.
 use Rattle.std.proofs.Common.{List, [], ◌∷◌, ◌++◌, reverse, sym, ap, ◌∙◌}
 use Rattle.std.proofs.lemmas.List.{append-nil, append_assoc, reverse-append}
 use Rattle.st_trace.specs.declared.entry.Entry.{Entry}

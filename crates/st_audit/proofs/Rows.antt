@@ -1,4 +1,4 @@
--- What an audit needs of a process, and of the calls that threads have entered, behind an entry.
+-- What an audit needs of a process, and of the calls that threads have entered, after an entry.
 use Rattle.std.proofs.Common.{◌≡◌, ℕ, Bool, true, false, cond, ◌==◌, List, [], ◌∷◌, Option, None, option_map, refl, ap, ◌∙◌}
 use Rattle.std.proofs.lemmas.Bool.{or_parts}
 use Rattle.std.specs.List.{fold, list_any}
@@ -50,7 +50,7 @@ module _ (processes : ℕ → Process) (m p : ℕ) where
 pub row_of_changed : (processes : ℕ → Process) (m p : ℕ) (changes : List Change) → row_of (process_after processes m p changes) ≡ row_after (row_of (processes m)) m p (row_of (processes p)) changes
 row_of_changed processes m p changes = rows_changed processes m p (processes p) changes
 
--- changes that give no process another row leave each
+-- changes that give no process another row leave each row as it is
 row_left : (parent : Row) (m p : ℕ) (before : Row) (c : Change) → changes_row c ≡ false → row_after_change parent m p before c ≡ before
 row_left parent m p before (Forked pid space tid) none = cc
 row_left parent m p before (Policy binary) none = cc

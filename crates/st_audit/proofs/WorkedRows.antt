@@ -23,7 +23,7 @@ use Rattle.st_law.proofs.SessionRuns.{learner}
 use Rattle.st_law.proofs.Writing.{call, denies, dir, file, forked_thread, granting, input, logged, permits, policy, put, reply, rest, test, thread, thread_in, trace, traced, when, worker}
 use Rattle.st_audit.specs.AuditText.{audit}
 
--- the audit of what a schedule comes to
+-- the audit of what a schedule plays
 abbrev audit_of : Input → Option (List Entry) → List ℕ
 audit_of i None = []
 audit_of i (Some entries) = audit i entries
@@ -113,7 +113,7 @@ the_policy_is_kept : audited (two_binaries true) (rest ∷ []) ≡
 unfolding digits
 the_policy_is_kept = refl
 
--- without aliases a call is judged, and told, by its own name
+-- without aliases a call is judged and printed by its own name
 abbrev unaliased : Input
 unaliased = input (record { mode = Enforce; inherit = false; aliasing = false; ids = None; workers = 1 })
     (policy "/bin/cat" (permits (Rule.Call Open) ∷ []) ∷ []) etc_files (traced "/bin/cat" 1000 1000 "/" ∷ [])
@@ -148,7 +148,7 @@ a_logged_reply : audited (asker (motd_reply ∷ reply "/bin/cat" (logged (granti
 unfolding digits
 a_logged_reply = refl
 
--- the filters of the session are numbered behind those that were read, whose marks are their own
+-- the filters of the session are numbered after those that were read, and have their own marks
 abbrev asker_with_a_policy : Input
 asker_with_a_policy = record (asker (reply "/bin/cat" passwd_only ∷ [])) { policies = policy "/bin/cat" (logged (granting (Some 7) None (reads_only "/etc/motd")) ∷ []) ∷ [] }
 
@@ -169,7 +169,7 @@ a_logged_denial : audited (reader_of (logged etc_denied)) (rest ∷ []) ≡ code
 unfolding digits
 a_logged_denial = refl
 
--- a link is met where the filter that permits asks for a mark
+-- a link is in the way, and the filter that permits asks for a mark
 abbrev logged_linker : Input
 logged_linker = record linker { policies = policy "/bin/cat" (logged (reads_only "/tmp/f") ∷ []) ∷ [] }
 

@@ -30,16 +30,16 @@ told_arg arg = codes " " ++ name_of_label arg.label ++ index_text arg.index ++ c
 abbrev pub caller_text : ℕ → ℕ → List ℕ → Rule → List ℕ
 caller_text pid tid policy rule = decimal pid ++ codes "." ++ decimal tid ++ codes " " ++ quoted policy ++ codes " native-" ++ name_of_rule rule
 
--- what the filter that decided asks for
+-- the mark, if the filter that decided asks for it
 abbrev pub log_text : Bool → List ℕ
 log_text true = codes " log"
 log_text false = []
 
--- what a line says behind its caller:{ ARG} HOW = RESULT[ log], and a newline
+-- what a line says after its caller:{ ARG} HOW = RESULT[ log], and a newline
 abbrev pub ending_text : List ArgText → How → CallResult → Bool → List ℕ
 ending_text args how result log = flat_map told_arg args ++ codes " " ++ how_text how ++ codes " = " ++ result_text result ++ log_text log ++ codes "\n"
 
--- the line of a call of a traced process; none of another's
+-- the line of a call of a traced process; none for another process
 abbrev pub traced_line : Row → ℕ → ℕ → Rule → List ℕ → List ℕ
 traced_line row pid tid rule ending = if row.traced then caller_text pid tid row.policy rule ++ ending else []
 
@@ -47,14 +47,15 @@ traced_line row pid tid rule ending = if row.traced then caller_text pid tid row
 abbrev pub call_line : Input → (ℕ → Row) → ℕ → ℕ → SysCall → List ℕ → List ℕ → List ℕ
 call_line i rows pid tid call regs ending = traced_line (rows pid) pid tid (rule_of call regs i.options.aliasing) ending
 
--- the line of the call that a thread had entered and that was denied; none where it had entered none
+-- the line of the call that a thread had entered and that was denied; none if the thread had entered none
 abbrev pub denied_line : Input → (ℕ → Row) → ℕ → ℕ → Option EnteredCall → List ℕ → List ℕ
 denied_line i rows pid tid None ending = []
 denied_line i rows pid tid (Some entered) ending = call_line i rows pid tid entered.call entered.regs ending
 
 -- ---- the audit
 
--- what an entry prints, by the processes of threads, their rows, the calls that were entered, and what is said of each held call
+-- what an entry prints, by the processes of threads, the rows of processes, the calls that were entered, and what is known of each
+-- held call
 abbrev pub line_by : Input → (ℕ → ℕ) → (ℕ → Row) → (ℕ → Option EnteredCall) → (ℕ → Option Decided) → Entry → List ℕ
 line_by i owners rows entered decided (Used t seq call regs args ids result changes) =
     call_line i rows (owners t) t call regs
@@ -64,7 +65,7 @@ line_by i owners rows entered decided (Denied t seq errno cause) =
     (ending_text (parts_of (decided_on decided (seq_told seq cause))) (how_denied seq cause) (Failed errno) (is_logged (decided_on decided (seq_told seq cause))))
 line_by i owners rows entered decided _ = []
 
--- what an entry behind a history prints
+-- what an entry after a history prints
 abbrev pub line_of : Input → History → Entry → List ℕ
 line_of i h e = line_by i (owner_at i h) (row_at i h) (entered_at i h) (decided_in i (looking_back i h)) e
 
@@ -79,7 +80,7 @@ audit i trace = audit_back i (reverse trace)
 
 -- ---- longer runs
 
--- a text begins with another
+-- a text has another as its prefix
 abbrev pub BeginsWith : List ℕ → List ℕ → Type 0
 BeginsWith text front = (behind : List ℕ) × (text ≡ front ++ behind)
 

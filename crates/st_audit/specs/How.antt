@@ -1,4 +1,4 @@
--- How a call went, and with which filter's marks.
+-- How a call went, and the marks of the filter that decided.
 use Rattle.std.specs.Prelude.{ℕ, Bool, true, false, List, [], ◌++◌, codes, decimal, Option, Some, None, is_some, option_map}
 use Rattle.st_base.specs.Numbered.{item_at_number}
 use Rattle.st_base.specs.declared.ids.Ids.{Ids}
@@ -38,40 +38,40 @@ how_text (Link name) = codes "link " ++ quoted name
 
 -- ---- what decided on a held call
 
--- the number of the filter that decides, 0 where none does
+-- the number of the filter that decides; 0 if none does
 abbrev pub number_of : Verdict → ℕ
 number_of (verdicts.Permit n ids) = n
 number_of (verdicts.Refuse n errno) = n
 number_of verdicts.Unmatched = 0
 
--- the filter of a number, among those read for a policy and a rule and, behind them, those of the session
+-- the filter with a number, among those read for a policy and a rule and, after them, those of the session
 abbrev pub filter_numbered : Input → List SessionFilter → List ℕ → Rule → ℕ → Option FilterValue
 filter_numbered i session policy rule n = item_at_number (read_for i policy rule ++ session_filters session policy rule) n
 
--- what an audit says of a filter, if it is there: whether it grants ids, and whether it asks for a mark
+-- what an audit says of a filter, if there is one: whether it grants ids, and whether it asks for a mark
 abbrev pub marks_of : Option FilterValue → Marks
 marks_of None = record { grants = false; logs = false }
 marks_of (Some f) = record { grants = is_some f.grant; logs = f.log }
 
--- what an audit says of a held call: its arguments, and the filter that decided, by its number and marks
+-- what an audit says of a held call: its arguments, and the number and marks of the filter that decided
 pub record Decided : Type 0 where
   pub parts : List ArgText
   pub number : ℕ
   pub marks : Marks
 
--- the same, by its parts
+-- what an audit says of a held call, from its parts
 abbrev pub decided_with : List ArgText → ℕ → Marks → Decided
 decided_with parts number marks = record { parts = parts; number = number; marks = marks }
 
--- a held call with these copies, on which the filter of this number decides
+-- a held call with these copies, decided by the filter with this number
 abbrev pub decided_by : Input → List SessionFilter → Snapshot → ℕ → Decided
 decided_by i session s n = decided_with s.parts n (marks_of (filter_numbered i session s.policy s.rule n))
 
--- the held call of a number, with what its filters decide of it now
+-- the held call with a number, and what its filters decide now
 abbrev pub decided_in : Input → State → ℕ → Option Decided
 decided_in i st q = option_map (λ s. decided_by i st.session s (number_of (decision_in i st s))) (snapshot_in st q)
 
--- the held call of a number, if there is one
+-- the held call with a number, if there is one
 abbrev pub decided_on : (ℕ → Option Decided) → Option ℕ → Option Decided
 decided_on decided None = None
 decided_on decided (Some q) = decided q
@@ -88,7 +88,7 @@ is_logged (Some decided) = decided.marks.logs
 
 -- ---- a call that was made
 
--- permitted by the filter of this number; the ids are told where it grants some
+-- permitted by the filter with this number; the ids are printed if the filter grants some
 abbrev pub permitted : ℕ → Bool → Ids → How
 permitted n true ids = PermitAs n ids
 permitted n false ids = Permit n
@@ -103,26 +103,27 @@ abbrev pub how_used : Option ℕ → Option Decided → Ids → How
 how_used None decided ids = Fast
 how_used (Some q) decided ids = how_permitted decided ids
 
--- the arguments of a call that was made: its own, where it was held
+-- the arguments that are printed of a call that was made: its own if it was held, otherwise none
 abbrev pub args_used : Option ℕ → List ArgText → List ArgText
 args_used None args = []
 args_used (Some q) args = args
 
 -- ---- a call that was denied
 
--- denied by the filter of this number: barred where it has no message, else held
+-- denied by the filter with this number: barred without a message, otherwise held
 abbrev pub how_filtered : ℕ → Option ℕ → How
 how_filtered n None = Barred n
 how_filtered n (Some q) = Deny n
 
--- a call that was denied: by the kernel itself, or by a filter; or as no filter decided, a fault was met, or a name met a link
+-- a call that was denied: by the kernel itself or by a filter, or because no filter decided, there was a fault, or a link was in
+-- the way
 abbrev pub how_denied : Option ℕ → Cause → How
 how_denied seq (cause.Filter n) = how_filtered n seq
 how_denied seq cause.NoFilter = NoFilter
 how_denied seq cause.Fault = Fault
 how_denied seq (cause.Link name) = Link (printed_name name)
 
--- the number whose copies are told: none where a fault was met
+-- the number of the message whose copies are printed; none after a fault
 abbrev pub seq_told : Option ℕ → Cause → Option ℕ
 seq_told seq (cause.Filter n) = seq
 seq_told seq cause.NoFilter = seq

@@ -1,4 +1,4 @@
--- What is kept of a run while its audit is printed.
+-- What is kept of a run to print its audit.
 use Rattle.std.specs.Prelude.{◌≡◌, ℕ, ◌==◌, if◌then◌else◌, List, Option, Some, None}
 use Rattle.std.specs.BTreeMap.{BTreeMap, get}
 use Rattle.std.specs.Ordering.{nat_cmp}
@@ -14,26 +14,26 @@ use Rattle.st_audit.specs.AuditText.{line_by}
 use Rattle.st_audit.specs.Rows.{Row, entered_at, row_at, row_of}
 use Rattle.st_audit.specs.Told.{Answer, answer_of, decided_told}
 
--- what a map has of a number, else what stood there at first
+-- what a map has for a number, otherwise what was there at first
 abbrev pub found_or : {X : Type 0} → X → Option X → X
 found_or first None = first
 found_or first (Some found) = found
 
 -- ---- the processes of threads
 
--- the process of a thread: the map has those that were forked
+-- the process of a thread; the map has the threads that were forked
 abbrev pub owner_in : Input → BTreeMap ℕ ℕ → ℕ → ℕ
 owner_in i owners t = found_or (first_owner i t) (get nat_cmp owners t)
 
 -- ---- the rows of processes
 
--- the row of a process: the map has those that were changed
+-- the row of a process; the map has the rows that were changed
 abbrev pub row_in : Input → BTreeMap ℕ Row → ℕ → Row
 row_in i rows p = found_or (row_of (first_process i p)) (get nat_cmp rows p)
 
 -- ---- the calls that threads have entered
 
--- what an entry does to the call that a thread has entered
+-- the call that a thread has entered, after an entry
 abbrev pub entered_after : Entry → ℕ → Option EnteredCall → Option EnteredCall
 entered_after (Entered u call regs way) t before = if u == t then Some (record { call = call; regs = regs }) else before
 entered_after (Used u seq call regs args ids result changes) t before = if u == t then None else before
@@ -52,14 +52,14 @@ answer_in answers q = get nat_cmp answers q
 
 -- ---- all of it
 
--- what is kept is what looking back says of threads and processes, and what the entries tell of held calls
+-- the ledger has what looking back says of threads and processes, and what the entries record of held calls
 pub record IsLedger (i : Input) (ledger : Ledger) (h : History) : Type 0 where
   pub owners : (t : ℕ) → owner_in i ledger.owners t ≡ owner_at i h t
   pub rows : (p : ℕ) → row_in i ledger.rows p ≡ row_at i h p
   pub entered : (t : ℕ) → entered_in ledger.entered t ≡ entered_at i h t
   pub answers : (q : ℕ) → answer_in ledger.answers q ≡ answer_of h q
 
--- what an entry prints, by a session and by what is kept
+-- what an entry prints, by a session and by a ledger
 abbrev pub kept_line : Input → List SessionFilter → Ledger → Entry → List ℕ
 kept_line i session ledger e =
     line_by i (owner_in i ledger.owners) (row_in i ledger.rows) (entered_in ledger.entered)

@@ -14,7 +14,7 @@ pub record Row : Type 0 where
   pub traced : Bool
   pub policy : List ℕ
 
--- a row, by both
+-- a row, from its parts
 abbrev pub row_with : Bool → List ℕ → Row
 row_with traced policy = record { traced = traced; policy = policy }
 
@@ -22,7 +22,7 @@ row_with traced policy = record { traced = traced; policy = policy }
 abbrev pub row_of : Process → Row
 row_of process = row_with process.traced process.policy
 
--- the row of the process of a number
+-- the row of the process with a number
 abbrev pub row_at : Input → History → ℕ → Row
 row_at i h p = row_of (process_at i h p)
 
@@ -32,13 +32,13 @@ changes_row (Forked pid space tid) = true
 changes_row (Policy binary) = true
 changes_row _ = false
 
--- the row of process p after a change that process m, of this row, makes: a child has its parent's
+-- the row of process p after a change that process m makes, whose row was `parent`: a child has its parent's
 abbrev pub row_after_change : Row → ℕ → ℕ → Row → Change → Row
 row_after_change parent m p before (Forked pid space tid) = if pid == p then parent else before
 row_after_change parent m p before (Policy binary) = if m == p then row_with before.traced binary else before
 row_after_change parent m p before _ = before
 
--- the row of process p after changes that process m, of this row, makes
+-- the row of process p after changes that process m makes, whose row was `parent`
 abbrev pub row_after : Row → ℕ → ℕ → Row → List Change → Row
 row_after parent m p before changes = fold (row_after_change parent m p) before changes
 

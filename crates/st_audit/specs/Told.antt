@@ -1,4 +1,4 @@
--- What the entries themselves tell of held calls: their applied answers.
+-- What the entries themselves record of held calls: their applied answers.
 use Rattle.std.specs.Prelude.{ℕ, suc, Bool, true, false, ◌==◌, ◌&&◌, if◌then◌else◌, List, [], ◌∷◌, ◌++◌, reverse, length, Option, Some, None, option_map}
 use Rattle.st_calls.specs.declared.judged.Snapshot.{Snapshot}
 use Rattle.st_calls.specs.declared.judged.Verdict.{Verdict}
@@ -15,7 +15,8 @@ use Rattle.st_audit.specs.How.{Decided, decided_by, number_of}
 use Rattle.st_audit.specs.AuditText.{line_by}
 use Rattle.st_audit.specs.Rows.{entered_at, row_at}
 
--- whether an entry tells what becomes of a call: that it is entered, answered, made or denied. The others are steps on the way there
+-- whether an entry says how a call goes on: that it is entered, answered, made or denied, or that a filter for it is replied or
+-- learnt; the others are steps in between
 abbrev pub tells_of_call : Entry → Bool
 tells_of_call (Entered t call regs way) = true
 tells_of_call (Answered w s verdict applied) = true
@@ -32,7 +33,7 @@ tells_of_call (Ended t) = false
 
 -- ---- answers
 
--- an answer: the held call that was judged, and what the filters that were read say of it
+-- an answer: the held call that was judged, and what the filters that were read say of the call
 pub record Answer : Type 0 where
   pub snapshot : Snapshot
   pub verdict : Verdict
@@ -41,7 +42,7 @@ pub record Answer : Type 0 where
 abbrev pub answer_with : Snapshot → Verdict → Answer
 answer_with snapshot verdict = record { snapshot = snapshot; verdict = verdict }
 
--- what an entry does to the applied answer to a number: it goes when the call is made or denied
+-- the applied answer to a number after an entry; it is removed when the call is made or denied
 abbrev pub answer_after : Entry → ℕ → Option Answer → Option Answer
 answer_after (Answered w snapshot verdict applied) q before =
     if (snapshot.seq == q) && applied then Some (answer_with snapshot verdict) else before
@@ -56,7 +57,7 @@ answer_of (e ∷ h) q = answer_after e q (answer_of h q)
 
 -- ---- what decided
 
--- what the filters that were read decide by an answer, else those of the session
+-- what the filters that were read decide by an answer, otherwise what those of the session decide
 abbrev pub decision_told : Input → List SessionFilter → Answer → Verdict
 decision_told i session a =
     verdict_or a.verdict (verdict_from (suc (length (read_for i a.snapshot.policy a.snapshot.rule))) (session_filters session a.snapshot.policy a.snapshot.rule) a.snapshot)
@@ -65,15 +66,15 @@ decision_told i session a =
 abbrev pub decided_told : Input → List SessionFilter → Option Answer → Option Decided
 decided_told i session answer = option_map (λ a. decided_by i session a.snapshot (number_of (decision_told i session a))) answer
 
--- what an entry prints, by what the entries before it tell and by their session
+-- what an entry prints, by what the entries before it record and by the session after them
 abbrev pub told_line : Input → History → Entry → List ℕ
 told_line i h e = line_by i (owner_at i h) (row_at i h) (entered_at i h) (λ q. decided_told i (session_at i h) (answer_of h q)) e
 
--- the audit of a history by what its entries tell and by their sessions
+-- the audit of a history, by what its entries record and by the session at each
 abbrev pub told_back : Input → History → List ℕ
 told_back i [] = []
 told_back i (e ∷ h) = told_back i h ++ told_line i h e
 
--- the audit of a trace by what its entries tell and by their sessions
+-- the audit of a trace, by what its entries record and by the session at each
 abbrev pub audit_told : Input → List Entry → List ℕ
 audit_told i trace = told_back i (reverse trace)

@@ -9,7 +9,7 @@ use std::alloc::{AllocError, Global};
 use std::collections::BTreeMap;
 use std::marker::Model;
 
-/// An applied answer to a held call, as the trace has it.
+/// An applied answer to a held call, as the trace records it.
 #[derive(Drop)]
 pub struct Answer {
     copies: Shared<Snapshot>,
@@ -32,7 +32,7 @@ impl Answer {
         self.copies.get()
     }
 
-    /// What the filters that were read say of them.
+    /// What the filters that were read say of the copies.
     pub fn verdict(&self) -> Verdict
         ensures { result ≡ self.now.verdict }
     {
@@ -40,7 +40,8 @@ impl Answer {
     }
 }
 
-/// Takes an entry into the map of applied answers. The answer to a call goes when that is made or denied, so that they are few however long the run.
+/// Updates the map of applied answers by an entry. The answer to a call is removed when the call is made or denied, so the map
+/// stays small however long the run is.
 pub fn note_answer(
     alloc: Global,
     answers: &mut BTreeMap<Seq, Answer>,

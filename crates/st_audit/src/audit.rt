@@ -24,7 +24,7 @@ use st_report::Recorder;
 use st_trace::{CallResult, Cause, Entry};
 use std::alloc::{AllocError, Global};
 
-// The arguments of a call that was made: its own, where it was held.
+// The arguments that are printed of a call that was made: its own if it was held, otherwise none.
 fn args_used(seq: Option<Seq>, args: &[ArgText]) -> &[ArgText]
     ensures { result.now ≡ args_used seq args.now }
 {
@@ -54,7 +54,7 @@ fn is_logged(decided: &Option<Decided<'_>>) -> bool
     }
 }
 
-// The number whose copies are told: none where a fault was met.
+// The number of the message whose copies are printed; `None` after a fault.
 fn seq_told(seq: Option<Seq>, cause: &Cause) -> Option<Seq>
     ensures { result ≡ seq_told seq cause.now }
 {
@@ -64,7 +64,7 @@ fn seq_told(seq: Option<Seq>, cause: &Cause) -> Option<Seq>
     }
 }
 
-// Appends the line of a thread's call, where its process is traced.
+// Appends the line of a thread's call, if the thread's process is traced.
 fn append_traced(
     text: &mut Text,
     input: &Input,
@@ -146,10 +146,11 @@ fn append_line(
     }
 }
 
-/// The audit of a run: a line for each call that a traced process made or was denied. It has one line more with each of them.
+/// Records the audit of a run: a line for each call that a traced process made or was denied. Each such call adds one line to the
+/// text.
 #[derive(Drop)]
 pub struct AuditRecorder {
-    // What is kept of the entries that were taken down.
+    // What is kept of the entries that were recorded.
     ledger: Ledger,
     text: Text,
 }
@@ -165,7 +166,7 @@ impl AuditRecorder {
         }
     }
 
-    /// The audit of the run whose entries were taken down.
+    /// The audit of the run whose entries were recorded.
     pub fn into_text(self) -> Text
         ensures told { (i : Input) (trace : List Entry) → IsAuditOf self i trace → result ≡ audit_told i trace }
         ensures audit { (i : Input) (trace : List Entry) → IsAuditOf self i trace → IsStartable i → Lawful i trace → result ≡ audit i trace }

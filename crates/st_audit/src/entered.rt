@@ -14,7 +14,7 @@ pub struct EnteredCall {
     pub regs: [u64; 6],
 }
 
-/// Takes an entry into the map of entered calls.
+/// Updates the map of entered calls by an entry.
 pub fn note_entered(
     entered: &mut BTreeMap<Tid, EnteredCall>,
     entry: &Entry,

@@ -11,25 +11,25 @@ use std::alloc::{AllocError, Global};
 /// How a call went.
 #[derive(Debug, Drop)]
 pub enum How {
-    /// The kernel permitted it by itself.
+    /// The kernel permitted the call by itself.
     Fast,
-    /// The kernel refused it by itself, by the filter of this number.
+    /// The kernel refused the call by itself, by the filter with this number.
     Barred(u32),
-    /// The filter of this number permitted it.
+    /// The filter with this number permitted the call.
     Permit(u64),
-    /// The filter of this number permitted it, under these ids.
+    /// The filter with this number permitted the call, under these ids.
     PermitAs(u64, Ids),
-    /// The filter of this number refused it.
+    /// The filter with this number refused the call.
     Deny(u32),
     /// No filter decided.
     NoFilter,
-    /// Copying or looking up met a fault.
+    /// Copying or looking up an argument had a fault.
     Fault,
-    /// This name, or a directory on the way to it, is a link now.
+    /// At its use the call had a link in the way, which has this name.
     Link(Text),
 }
 
-// Permitted by the filter of this number, which may grant ids.
+// Permitted by the filter with this number, which may grant ids.
 fn permitted(number: u64, grants: bool, ids: Ids) -> How
     ensures { result ≡ permitted number grants ids }
 {
@@ -41,7 +41,7 @@ fn permitted(number: u64, grants: bool, ids: Ids) -> How
 }
 
 impl How {
-    /// How a call was made: without a message the kernel permitted it.
+    /// How a call was made; a call without a message was permitted by the kernel itself.
     pub fn used(seq: Option<Seq>, decided: &Option<Decided<'_>>, ids: Ids) -> Self
         ensures { result ≡ how_used seq decided.now ids }
     {

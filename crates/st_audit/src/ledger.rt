@@ -24,7 +24,7 @@ use std::alloc::{AllocError, Global};
 use std::collections::BTreeMap;
 use std::marker::Model;
 
-/// What an audit says of a held call: its arguments, and the filter that decided, by its number and marks.
+/// What an audit says of a held call: its arguments, and the number and marks of the filter that decided.
 #[derive(Drop)]
 pub struct Decided<'a> {
     parts: &'a [ArgText],
@@ -41,7 +41,7 @@ impl<'a> Model for Decided<'a> {
 }
 
 impl<'a> Decided<'a> {
-    // A held call with these copies, on which this filter decides, if there is one.
+    // A held call with these copies, decided by this filter, if there is one.
     fn by(copies: &'a Snapshot, number: u64, filter: Option<&Filter>) -> Self
         ensures { result ≡ decided_with copies.now.parts number (marks_of (option_copied filter.entry)) }
     {
@@ -59,7 +59,7 @@ impl<'a> Decided<'a> {
         self.parts
     }
 
-    /// The number of the filter that decided, 0 where none did.
+    /// The number of the filter that decided; 0 if none did.
     pub fn number(&self) -> u64
         ensures { result ≡ self.now.number }
     {
@@ -74,12 +74,12 @@ impl<'a> Decided<'a> {
     }
 }
 
-/// What is kept of a run while its audit is printed.
+/// What is kept of a run to print its audit.
 #[derive(Drop)]
 pub struct Ledger {
     /// The processes of the threads that forks have started.
     pub owners: BTreeMap<Tid, Pid>,
-    /// The processes that were changed.
+    /// The processes whose rows were changed.
     pub rows: BTreeMap<Pid, KeptRow>,
     /// The calls that threads have entered.
     pub entered: BTreeMap<Tid, EnteredCall>,
@@ -87,7 +87,7 @@ pub struct Ledger {
     pub answers: BTreeMap<Seq, Answer>,
 }
 
-// Takes an entry into the maps of threads and processes.
+// Updates the maps of threads and processes by an entry.
 fn note_processes(
     alloc: Global,
     input: &Input,
@@ -106,7 +106,7 @@ fn note_processes(
     Ok(())
 }
 
-// The filter of a number for a call, by its copies.
+// The filter with a number for a call, by the copies of its arguments.
 fn filter_numbered<'s>(
     input: &'s Input,
     session: &'s Session,
@@ -119,12 +119,12 @@ fn filter_numbered<'s>(
     if let Some(filter) = read_filter(policy, copies.rule, number) {
         return Some(filter);
     }
-    // In a lawful run that filter was read, so that only other traces come here.
+    // In a lawful run that filter was read, so only other traces get here.
     let behind = u64::from(number).checked_sub(read_count(policy, copies.rule))?;
     session_filter(session, copies.policy.get().bytes(), copies.rule, behind)
 }
 
-// What an audit says of a held call with these copies, on which none of the filters that were read decides.
+// What an audit says of a held call with these copies, if no filter that was read decides.
 fn decided_by_session<'c>(input: &Input, session: &Session, copies: &'c Snapshot) -> Decided<'c>
     ensures { result ≡ decided_by input.now session.now.filters copies.now (number_of (decision_told input.now session.now.filters (answer_with copies.now Unmatched))) }
 {
@@ -141,7 +141,7 @@ fn decided_by_session<'c>(input: &Input, session: &Session, copies: &'c Snapshot
 }
 
 impl Ledger {
-    /// Before the first entry.
+    /// The ledger before the first entry.
     pub fn new(alloc: Global) -> Self
         ensures { (i : Input) → IsLedger i result [] }
     {
@@ -153,7 +153,7 @@ impl Ledger {
         }
     }
 
-    /// What an audit says of a held call by this session, where it has this number and was answered.
+    /// What an audit says of a held call under this session, if the call has this number and was answered.
     pub fn decided(&self, input: &Input, session: &Session, seq: Option<Seq>) -> Option<Decided<'_>>
         ensures { result ≡ decided_on (λ q. decided_told input.now session.now.filters (answer_in self.now.answers q)) seq }
     {
@@ -168,7 +168,7 @@ impl Ledger {
         })
     }
 
-    /// Takes an entry in.
+    /// Updates the ledger by an entry.
     pub fn note(&mut self, alloc: Global, input: &Input, entry: &Entry) -> Result<(), AllocError>
         ensures { OnOk result ((h : History) → IsLedger input.now self.old h → IsLedger input.now self.new (entry.now ∷ h)) }
     {

@@ -1,4 +1,5 @@
-//! The audit of a run: a line for each call that a traced process made or was denied; and the policies behind it, with what it has added.
+//! The audit of a run: a line for each call that a traced process made or was denied; and the policies after the run, with the
+//! filters that it added.
 #![tactic(auto)]
 
 mod answer;

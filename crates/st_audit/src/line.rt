@@ -9,7 +9,7 @@ use st_report::append_result;
 use st_trace::CallResult;
 use std::alloc::AllocError;
 
-/// Who makes a call, and the policy and the rule that it is judged by.
+/// Who makes a call, and the policy and the rule that judge the call.
 #[derive(Clone, Copy)]
 pub struct Caller<'a> {
     pub pid: Pid,
@@ -18,7 +18,7 @@ pub struct Caller<'a> {
     pub rule: Rule,
 }
 
-/// What a line says of a call: with which arguments it was made or denied, how, with what end, and whether it is marked.
+/// What a line says of a call: its arguments, how it was made or denied, its result, and whether it is marked.
 #[derive(Drop)]
 pub struct Ending<'a> {
     pub args: &'a [ArgText],
@@ -50,7 +50,7 @@ fn append_told_arg(text: &mut Text, arg: &ArgText) -> Result<(), AllocError>
     quote(arg.text.bytes(), text)
 }
 
-// Appends arguments, each behind a blank.
+// Appends arguments, each after a blank.
 fn append_told_args(text: &mut Text, args: &[ArgText]) -> Result<(), AllocError>
     ensures { OnOk result (text.new ≡ text.old ++ flat_map told_arg args.now) }
 {
@@ -60,7 +60,7 @@ fn append_told_args(text: &mut Text, args: &[ArgText]) -> Result<(), AllocError>
     Ok(())
 }
 
-// The mark of a filter that asks for one.
+// The mark for a filter that asks for one.
 fn log_word(log: bool) -> &'static [u8]
     ensures { result.now ≡ log_text log }
 {

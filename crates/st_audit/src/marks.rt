@@ -6,14 +6,14 @@ use st_filter::Filter;
 /// What an audit says of a filter.
 #[derive(Clone, Copy, Debug, PartialEq, Eq)]
 pub struct Marks {
-    /// Whether it grants ids.
+    /// Whether the filter grants ids.
     pub grants: bool,
-    /// Whether the calls that it decides are marked.
+    /// Whether the calls that the filter decides are marked.
     pub logs: bool,
 }
 
 impl Marks {
-    /// Those of a filter, if it is there.
+    /// The marks of a filter; none without a filter.
     pub fn of(filter: Option<&Filter>) -> Self
         ensures { result ≡ marks_of (option_copied filter.entry) }
     {

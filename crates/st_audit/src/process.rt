@@ -30,21 +30,21 @@ impl<'a> Model for Row<'a> {
 }
 
 impl<'a> Row<'a> {
-    /// Whether policies apply to it.
+    /// Whether policies apply to the process.
     pub fn is_traced(&self) -> bool
         ensures { result ≡ self.now.traced }
     {
         self.traced
     }
 
-    /// The binary whose policy applies to it.
+    /// The binary whose policy applies to the process.
     pub fn policy(&self) -> &'a [u8]
         ensures { result.now ≡ self.now.policy }
     {
         self.policy
     }
 
-    // The same, to be kept.
+    // A copy with its own memory.
     fn kept(&self, alloc: Global) -> Result<KeptRow, AllocError>
         ensures { IfOk result (λ row. row ≡ self.now) }
     {
@@ -55,7 +55,7 @@ impl<'a> Row<'a> {
     }
 }
 
-/// What is kept of a process that was changed.
+/// What is kept of a process whose row was changed.
 #[derive(Drop)]
 pub struct KeptRow {
     traced: bool,
@@ -71,7 +71,7 @@ impl Model for KeptRow {
 }
 
 impl KeptRow {
-    // What an audit needs of it.
+    // What an audit needs of the process.
     fn row(&self) -> Row<'_>
         ensures { result ≡ self.now }
     {
@@ -82,7 +82,7 @@ impl KeptRow {
     }
 }
 
-/// The item of a number, counted from 1.
+/// The item with a number, counted from 1.
 pub fn item_at_number<T>(items: &[T], number: u32) -> Option<&T>
     ensures { option_copied result ≡ item_at_number items.now number }
 {
@@ -90,7 +90,7 @@ pub fn item_at_number<T>(items: &[T], number: u32) -> Option<&T>
     items.get(index as usize)
 }
 
-// The process that a thread starts in, 0 where it starts by a fork.
+// The process that a thread starts in; 0 if a fork starts the thread.
 fn first_owner(input: &Input, tid: Tid) -> Pid
     ensures { result ≡ first_owner input.now tid }
 {
@@ -100,7 +100,7 @@ fn first_owner(input: &Input, tid: Tid) -> Pid
     }
 }
 
-// A process before the first entry.
+// The row of a process before the first entry.
 fn first_row(input: &Input, pid: Pid) -> Row<'_>
     ensures { result ≡ row_of (first_process input.now pid) }
 {
@@ -116,7 +116,7 @@ fn first_row(input: &Input, pid: Pid) -> Row<'_>
     }
 }
 
-/// The process of a thread, 0 before it starts; the map has the threads that forks have started.
+/// The process of a thread, 0 before the thread starts; the map has the threads that forks have started.
 pub fn owner_of(input: &Input, owners: &BTreeMap<Tid, Pid>, tid: Tid) -> Pid
     ensures { result ≡ owner_in input.now owners.now tid }
 {
@@ -126,7 +126,7 @@ pub fn owner_of(input: &Input, owners: &BTreeMap<Tid, Pid>, tid: Tid) -> Pid
     }
 }
 
-/// What an audit needs of a process; the map has the processes that were changed.
+/// What an audit needs of a process; the map has the processes whose rows were changed.
 pub fn row_of<'a>(input: &'a Input, rows: &'a BTreeMap<Pid, KeptRow>, pid: Pid) -> Row<'a>
     ensures { result ≡ row_in input.now rows.now pid }
 {
@@ -136,7 +136,7 @@ pub fn row_of<'a>(input: &'a Input, rows: &'a BTreeMap<Pid, KeptRow>, pid: Pid) 
     }
 }
 
-// Takes a change into the map of the threads that forks have started. A thread starts once.
+// Updates the map of the threads that forks have started by a change. A thread starts once.
 fn note_started(
     input: &Input,
     owners: &mut BTreeMap<Tid, Pid>,
@@ -152,7 +152,7 @@ fn note_started(
     Ok(())
 }
 
-/// Takes changes into the map of the threads that forks have started.
+/// Updates the map of the threads that forks have started by changes.
 pub fn note_owners(
     input: &Input,
     owners: &mut BTreeMap<Tid, Pid>,
@@ -173,14 +173,14 @@ fn changes_row(change: &Change) -> bool
     matches!(change, Change::Forked { .. } | Change::Policy(_))
 }
 
-// Whether one of these changes does.
+// Whether one of these changes gives a process another row.
 fn changes_some(changes: &[Change]) -> bool
     ensures { result ≡ list_any changes_row changes.now }
 {
     changes.iter().any(|change| changes_row(change))
 }
 
-// Takes a change that process `pid`, of this row, makes into the map of rows.
+// Updates the map of rows by a change that process `pid` makes; `parent` is the row that this process had before its changes.
 fn note_row(
     alloc: Global,
     input: &Input,
@@ -208,7 +208,7 @@ fn note_row(
     Ok(())
 }
 
-/// Takes changes that a process makes into the map of rows: a child has the row that its parent had before them.
+/// Updates the map of rows by changes that a process makes: a child has the row that its parent had before these changes.
 pub fn note_rows(
     alloc: Global,
     input: &Input,

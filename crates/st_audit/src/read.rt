@@ -18,7 +18,7 @@ pub fn read_count(policy: &Policy, rule: Rule) -> u64
         .count() as u64
 }
 
-/// The filter of this number, among those that a policy has for a rule.
+/// The filter with this number, among those that a policy has for a rule.
 pub fn read_filter(policy: &Policy, rule: Rule, number: u32) -> Option<&Filter>
     ensures { option_copied result ≡ item_at_number (filters_of rule policy.now) number }
 {

@@ -7,7 +7,7 @@ use st_calls::Rule;
 use st_filter::Filter;
 use st_learn::Session;
 
-/// The filter of this number, among those that a session has for a policy and a rule.
+/// The filter with this number, among those that a session has for a policy and a rule.
 pub fn session_filter<'s>(
     session: &'s Session,
     policy: &[u8],

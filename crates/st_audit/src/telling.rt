@@ -3,8 +3,8 @@ ghost use Rattle.st_audit.specs.Told.{tells_of_call};
 
 use st_trace::Entry;
 
-/// Whether an entry tells what becomes of a call. The others are steps on the way there, of which most entries are: the words that workers copy and
-/// the names that they look at.
+/// Whether an entry says how a call goes on: that it is entered, answered, made or denied, or that a filter for it is replied or
+/// learnt. The others are steps in between. Most entries are such: the words that workers copy and the names that they look at.
 pub fn tells_of_call(entry: &Entry) -> bool
     ensures { result ≡ tells_of_call entry.now }
 {

@@ -1,4 +1,4 @@
--- Texts that grow part by part.
+-- Texts that grow piece by piece.
 use Rattle.std.proofs.Common.{◌≡◌, ℕ, List, ◌++◌, ap, ◌∙◌}
 use Rattle.std.proofs.lemmas.List.{append_assoc}
 

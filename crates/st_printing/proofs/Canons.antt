@@ -1,4 +1,4 @@
--- The canonical text of one policy more.
+-- The canonical text of one more policy.
 use Rattle.std.proofs.Common.{suc, zero, ◌≡◌, ℕ, ◌+◌, List, [], ◌∷◌, ◌++◌, take, Option, Some, None, option_map, slice_get, ap, sym, ◌∙◌, arith}
 use Rattle.std.specs.List.{flat_map}
 use Rattle.std.proofs.lemmas.List.{append_assoc, append-nil}
@@ -31,7 +31,7 @@ first_printed q binary filters b f =
     value_of d None = d
     value_of d (Some x) = x
 
--- the policy at a place is printed behind those before it
+-- the policy at an index is printed after those before it
 pub one_printed : (ps : List BinaryPolicy) (i : ℕ) (binary : List ℕ) (filters : List FilterValue) →
     option_map (λ (p : BinaryPolicy). p.binary) (slice_get ps i) ≡ Some binary →
     option_map (λ (p : BinaryPolicy). p.filters) (slice_get ps i) ≡ Some filters →

@@ -24,7 +24,7 @@ use Rattle.st_filter.specs.Formula.{Formula, True, Test, Not, And, Or, FilterVal
 
 -- ---- expressions
 
--- how a policy writes an operator
+-- the word for an operator in a policy
 abbrev pub word_of_op : Op → List ℕ
 word_of_op op.Match = codes "match"
 word_of_op op.Eq = codes "eq"
@@ -33,29 +33,29 @@ word_of_op op.Sub = codes "sub"
 word_of_op op.Nsub = codes "nsub"
 word_of_op op.Inpath = codes "inpath"
 
--- index 0 isn't printed
+-- the pieces of an index; 0 isn't printed
 abbrev pub index_pieces : ℕ → List Piece
 index_pieces index =
     if index == 0 then [] else Sign kind.OpenBracket ∷ PlainWord (decimal index) ∷ Sign kind.CloseBracket ∷ []
 
--- a test, as it is printed
+-- the pieces of a test
 abbrev pub test_pieces : List ℕ → ℕ → Op → List ℕ → List Piece
 test_pieces label index op text =
     PlainWord label ∷ index_pieces index ++ Space ∷ PlainWord (word_of_op op) ∷ Space ∷ QuotedText text ∷ []
 
--- whether an expression stands at a level without parentheses
+-- whether an expression needs no parentheses at a level
 abbrev pub needs_no_parens : Level → Formula → Bool
 needs_no_parens Operand (And f g) = false
 needs_no_parens Operand (Or f g) = false
 needs_no_parens Conjunction (Or f g) = false
 needs_no_parens level f = true
 
--- the pieces of an expression, between parentheses where it doesn't fit without them
+-- the pieces of an expression, in parentheses unless it needs none
 abbrev pub in_parens : Bool → List Piece → List Piece
 in_parens true pieces = pieces
 in_parens false pieces = Sign kind.Open ∷ pieces ++ Sign kind.Close ∷ []
 
--- `and` and `or` bind to the left, so a right operand of the same operator has parentheses
+-- the pieces of an expression; `and` and `or` bind to the left, so a right operand of the same operator has parentheses
 abbrev pub expression_pieces : Formula → List Piece
 expression_pieces True = PlainWord (codes "true") ∷ []
 expression_pieces (Test label index op text) = test_pieces label index op text
@@ -67,7 +67,7 @@ expression_pieces (Or f g) =
     in_parens (needs_no_parens Disjunction f) (expression_pieces f) ++ Space ∷ PlainWord (codes "or") ∷ Space ∷
     in_parens (needs_no_parens Conjunction g) (expression_pieces g)
 
--- where every call is meant, the short form has no expression
+-- the pieces of a condition; there are none for a filter that is for every call
 abbrev pub condition_pieces : Formula → List Piece
 condition_pieces True = []
 condition_pieces f = expression_pieces f ++ Space ∷ PlainWord (codes "then") ∷ Space ∷ []
@@ -79,13 +79,13 @@ abbrev pub is_eperm : Errno → Bool
 is_eperm EPERM = true
 is_eperm _ = false
 
--- EPERM isn't printed
+-- the pieces of a denial; EPERM isn't printed
 abbrev pub deny_pieces : Errno → List Piece
 deny_pieces errno =
     if is_eperm errno then PlainWord (codes "deny") ∷ []
     else PlainWord (codes "deny") ∷ Sign kind.OpenBracket ∷ PlainWord (word_of_error errno) ∷ Sign kind.CloseBracket ∷ []
 
--- an action, as it is printed
+-- the pieces of an action
 abbrev pub action_pieces : Action → List Piece
 action_pieces Permit = PlainWord (codes "permit") ∷ []
 action_pieces (Deny errno) = deny_pieces errno
@@ -96,22 +96,22 @@ abbrev pub user_pieces : Option ℕ → List Piece
 user_pieces None = []
 user_pieces (Some id) = PlainWord (decimal id) ∷ []
 
--- the group of a grant, if there is one, behind a colon
+-- the group of a grant after a colon, if there is one
 abbrev pub group_pieces : Option ℕ → List Piece
 group_pieces None = []
 group_pieces (Some id) = Sign kind.Colon ∷ PlainWord (decimal id) ∷ []
 
--- a grant behind `as`, if there is one
+-- a grant after `as`, if there is one
 abbrev pub grant_pieces : Option Grant → List Piece
 grant_pieces None = []
 grant_pieces (Some g) = Space ∷ PlainWord (codes "as") ∷ Space ∷ user_pieces g.user ++ group_pieces g.group
 
--- `log`, where a filter has it
+-- `log`, if a filter has it
 abbrev pub log_pieces : Bool → List Piece
 log_pieces false = []
 log_pieces true = Space ∷ PlainWord (codes "log") ∷ []
 
--- how a policy writes whose id a predicate looks at
+-- the word for whose id a predicate looks at
 abbrev pub word_of_who : Who → List ℕ
 word_of_who who.User = codes "user"
 word_of_who who.Group = codes "group"
@@ -123,7 +123,7 @@ cmp_piece cmp.Other = Sign kind.NotEqual
 cmp_piece cmp.Below = Sign kind.Less
 cmp_piece cmp.Above = Sign kind.Greater
 
--- a predicate behind `if`, if there is one
+-- a predicate after `if`, if there is one
 abbrev pub predicate_pieces : Option Predicate → List Piece
 predicate_pieces None = []
 predicate_pieces (Some p) =
@@ -132,12 +132,12 @@ predicate_pieces (Some p) =
 
 -- ---- rows
 
--- the rule or the call that a filter is for, as it is written behind `native-`
+-- the rule or the call that a filter is for, as it is written after `native-`
 abbrev pub call_word : FilterName → List ℕ
 call_word (name.Rule rule) = name_of_rule rule
 call_word (name.Other word) = word
 
--- a filter, as it is printed in its row
+-- the pieces of a filter in its row
 abbrev pub filter_pieces : FilterValue → List Piece
 filter_pieces f =
     PlainWord (codes "native-" ++ call_word f.name) ∷ Sign kind.Colon ∷ Space ∷
@@ -147,25 +147,25 @@ filter_pieces f =
 abbrev pub canon_filter : FilterValue → List ℕ
 canon_filter f = print (filter_pieces f)
 
--- a binary is a Word where its bytes allow it
+-- the piece of a binary: a Word if its bytes allow that, otherwise a quoted text
 abbrev pub binary_piece : List ℕ → Piece
 binary_piece binary = if is_word_text binary then PlainWord binary else QuotedText binary
 
--- the header of a binary's policy, as it is printed in its row
+-- the pieces of the header of a binary's policy in its row
 abbrev pub header_pieces : List ℕ → List Piece
 header_pieces binary =
     PlainWord (codes "Policy") ∷ Sign kind.Colon ∷ Space ∷ binary_piece binary ∷ Sign kind.Comma ∷ Space ∷
     PlainWord (codes "Emulation") ∷ Sign kind.Colon ∷ Space ∷ PlainWord (codes "native") ∷ []
 
--- each row ends with a newline
+-- the pieces of a row, which ends with a newline
 abbrev pub row_pieces : List Piece → List Piece
 row_pieces pieces = pieces ++ Sign kind.Line ∷ []
 
--- a policy, as it is printed: the row of its header, and the rows of its filters
+-- the pieces of a policy: the row of its header, then the rows of its filters
 abbrev pub policy_pieces : BinaryPolicy → List Piece
 policy_pieces p = row_pieces (header_pieces p.binary) ++ flat_map (λ f. row_pieces (filter_pieces f)) p.filters
 
--- the policies of a set, as they are printed, in order
+-- the pieces of the policies of a set, in order
 abbrev pub set_pieces : List BinaryPolicy → List Piece
 set_pieces policies = flat_map policy_pieces policies
 

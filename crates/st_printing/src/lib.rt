@@ -1,4 +1,4 @@
-//! Policies in their canonical form: for each a header and its filters in order, each in a row.
+//! Prints policies in their canonical form: for each a header and its filters in order, each in a row.
 #![tactic(auto)]
 
 mod print;

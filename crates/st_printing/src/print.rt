@@ -13,7 +13,7 @@ use st_filter::{
 use st_lex::{is_word_text, quote};
 use std::alloc::{AllocError, Global};
 
-// How a policy writes an operator.
+// The word for an operator in a policy.
 fn word_of_op(op: Op) -> &'static [u8]
     ensures { result.now ≡ word_of_op op }
 {
@@ -46,14 +46,14 @@ fn append_test(
     quote(text, out)
 }
 
-// Whether an expression stands as an operand without parentheses.
+// Whether an expression needs no parentheses as an operand.
 fn is_operand(expr: &Expr) -> bool
     ensures { result ≡ needs_no_parens Operand (formula expr.now) }
 {
     !matches!(expr, Expr::And(_, _) | Expr::Or(_, _))
 }
 
-// Whether it stands beside `and` on its left, or beside `or` on its right, without parentheses.
+// Whether an expression needs no parentheses to the left of `and` or to the right of `or`.
 fn is_conjunction(expr: &Expr) -> bool
     ensures { result ≡ needs_no_parens Conjunction (formula expr.now) }
 {
@@ -103,7 +103,7 @@ fn append_expression(expr: &Expr, out: &mut Text) -> Result<(), AllocError>
     }
 }
 
-// Appends an expression and `then`; where every call is meant, neither is written.
+// Appends an expression and `then`; nothing if the filter is for every call.
 fn append_condition(expr: &Expr, out: &mut Text) -> Result<(), AllocError>
     ensures { OnOk result (out.new ≡ out.old ++ print (condition_pieces (formula expr.now))) }
 {
@@ -206,7 +206,7 @@ fn append_predicate(predicate: Option<Predicate>, out: &mut Text) -> Result<(), 
     out.append_number(u64::from(predicate.id))
 }
 
-// A filter's name behind `native-`.
+// A filter's name after `native-`.
 fn word_of_name(name: &FilterName) -> &[u8]
     ensures { result.now ≡ call_word name.now }
 {
@@ -230,7 +230,7 @@ fn append_filter(filter: &Filter, out: &mut Text) -> Result<(), AllocError>
     append_predicate(filter.predicate(), out)
 }
 
-/// Appends the canonical text of a filter. Without memory the text stays as it was.
+/// Appends the canonical text of a filter. If memory runs out, the text stays as it was.
 pub fn print_filter(alloc: Global, filter: &Filter, out: &mut Text) -> Result<(), AllocError>
     ensures ok { OnOk result (out.new ≡ out.old ++ canon_filter filter.now) }
     ensures err { OnErr result (out.new ≡ out.old) }
@@ -240,7 +240,7 @@ pub fn print_filter(alloc: Global, filter: &Filter, out: &mut Text) -> Result<()
     out.append(row.bytes())
 }
 
-// Appends a binary: as a Word where its bytes allow it, else in quotes.
+// Appends a binary: as a Word if its bytes allow that, otherwise in quotes.
 fn append_binary(binary: &[u8], out: &mut Text) -> Result<(), AllocError>
     ensures { OnOk result (out.new ≡ out.old ++ piece_bytes (binary_piece binary.now)) }
 {

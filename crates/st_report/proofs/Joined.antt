@@ -1,4 +1,4 @@
--- Texts that grew piece by piece.
+-- Texts that grow piece by piece.
 use Rattle.std.proofs.Common.{◌≡◌, ℕ, List, ◌++◌, ap, ◌∙◌}
 use Rattle.std.proofs.lemmas.List.{append_assoc}
 
@@ -13,7 +13,7 @@ pub four_joined : (t a b c d u v w : List ℕ) → u ≡ t ++ a → v ≡ u ++ b
 four_joined t a b c d u v w first second third x fourth =
     fourth ∙ ap (λ text. text ++ d) (third ∙ ap (λ text. text ++ c) (second ∙ ap (λ text. text ++ b) first)) ∙ four_behind t a b c d
 
--- two pieces, one, and three
+-- two pieces, then one, then three
 pub six_joined : (t a b c d e f u v : List ℕ) → u ≡ t ++ a ++ b → v ≡ u ++ c → (w : List ℕ) → w ≡ v ++ d ++ e ++ f → w ≡ t ++ (a ++ b ++ c ++ d ++ e ++ f)
 six_joined t a b c d e f u v first second w third =
     third ∙ ap (λ text. text ++ d ++ e ++ f) (second ∙ ap (λ text. text ++ c) first) ∙ six_behind t a b c d e f

@@ -1,4 +1,4 @@
--- The lines that are printed of choices that were enabled make the same choices again.
+-- The lines printed of choices that were enabled make the same choices again.
 use native.Mathlib.Omega.{arith}
 use Rattle.std.proofs.Common.{◌≡◌, ℕ, zero, suc, ◌≤◌, List, [], ◌∷◌, ◌++◌, length, replicate, reverse, Option, Some, None, refl, sym, ap, subst, ◌∙◌}
 use Rattle.std.proofs.lemmas.List.{append_assoc, append-nil, length-reverse, reverse-append}
@@ -14,7 +14,7 @@ use Rattle.st_report.proofs.Repeats.{spelled_again}
 module _ (i : Input) where
   -- ---- each choice is enabled at its turn
 
-  -- each of these choices, which stand newest first, was enabled
+  -- each of these choices, the newest first, was enabled
   abbrev pub AreEnabled : List Choice → Type 0
   AreEnabled [] = Unit {0}
   AreEnabled (c ∷ cs) = ((e : Entry) × (entry_of i (state_at i (history i cs)) c ≡ Some e)) × AreEnabled cs
@@ -40,7 +40,7 @@ module _ (i : Input) where
   all_enabled [] e = tt
   all_enabled (c ∷ cs) e = enabled_by c cs (all_enabled cs) e (entry_of i (state_at i (history i cs)) c) refl
 
-  -- those of a run that has an entry for each
+  -- the choices of a run that has an entry for each
   pub enabled_of_run : (choices : List Choice) → length (run i choices) ≡ length choices → AreEnabled (reverse choices)
   enabled_of_run choices e = all_enabled (reverse choices) (sym (length-reverse (history i (reverse choices))) ∙ e ∙ sym (length-reverse choices))
 
@@ -60,7 +60,7 @@ module _ (i : Input) where
 
   -- ---- lines
 
-  -- where a run has come to, by its choices
+  -- the state that a run by choices has reached
   abbrev played_to : List Choice → Played
   played_to front = record { choices = front; state = state_of_run i front }
 

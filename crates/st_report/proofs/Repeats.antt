@@ -1,4 +1,4 @@
--- What joined neighbours stand for, and that no other lines stand for the same.
+-- What lines of joined neighbours spell, and that no other such lines spell the same.
 use native.Mathlib.Omega.{arith}
 use Rattle.std.proofs.Common.{◌≡◌, ℕ, zero, suc, ◌+◌, ◌<◌, ◌≤◌, Bool, true, false, cond, List, [], ◌∷◌, ◌++◌, replicate, refl, sym, ap, subst, ◌∙◌}
 use Rattle.std.specs.Prelude.{length, nat_lt, slice_index_or, slice_set}
@@ -27,11 +27,11 @@ one_choice (Thread t) = eq-eqb t t refl
 one_choice (Worker w) = eq-eqb w w refl
 one_choice Operator = refl
 
--- whether the choice that comes next is told in the same line
+-- whether the next choice joins the line
 abbrev is_told_with : Choice → ℕ → Choice → Bool
 is_told_with c n d = joins (repeat_of c n) d
 
--- it is where the line isn't full and the choice is the same
+-- it does if the line isn't full and the choice is the same
 told_parts : (c d : Choice) (n : ℕ) → is_told_with c n d ≡ true → (is_same_choice c d ≡ true) × (nat_lt n MOST_TIMES ≡ true)
 told_parts c d n e = let both = and_parts (nat_lt n MOST_TIMES) (is_same_choice c d) e in (both.1, both.0)
 
@@ -42,7 +42,7 @@ one_more_time : (n : ℕ) (c : Choice) (cs : List Choice) → replicate (suc n) 
 one_more_time zero c cs = refl
 one_more_time (suc n) c cs = ap (λ rest. c ∷ rest) (one_more_time n c cs)
 
--- ---- they stand for the choices
+-- ---- lines spell their choices
 
 spelled_by : (c d : Choice) (n : ℕ) (cs : List Choice) → spelled_choices (repeats_behind c (suc n) cs) ≡ replicate (suc n) c ++ cs → spelled_choices (repeats_behind d 1 cs) ≡ d ∷ cs
     → (b : Bool) → is_told_with c n d ≡ b → spelled_choices (cond b (repeats_behind c (suc n) cs) (repeat_of c n ∷ repeats_behind d 1 cs)) ≡ replicate n c ++ d ∷ cs
@@ -59,7 +59,7 @@ pub spelled_again : (choices : List Choice) → spelled_choices (repeats_of choi
 spelled_again [] = refl
 spelled_again (c ∷ cs) = spelled_behind c 1 cs
 
--- ---- each is told as often as it can be
+-- ---- each line is as long as it may be
 
 -- lines begin with this choice
 record BeginsWith (c : Choice) (repeats : List Repeat) : Type 0 where
@@ -101,9 +101,9 @@ pub joined : (choices : List Choice) → AreJoined (repeats_of choices)
 joined [] = tt
 joined (c ∷ cs) = joined_behind c 1 cs (omega arith) (omega arith)
 
--- ---- no other lines are so
+-- ---- no other lines are like this
 
--- lines of a choice, told so many times already, are joined again
+-- lines of a choice, which was made this many times already, are joined again
 again_behind : (c : Choice) (k m : ℕ) (repeats : List Repeat) → AreJoined (repeat_of c (k + m) ∷ repeats) → repeats_behind c (k + m) (spelled_choices repeats) ≡ repeat_of c (k + m) ∷ repeats
     → repeats_behind c k (replicate m c ++ spelled_choices repeats) ≡ repeat_of c (k + m) ∷ repeats
 again_behind c k zero repeats x last = subst (λ n. repeats_behind c n (spelled_choices repeats) ≡ repeat_of c (k + 0) ∷ repeats) (let e : k + 0 ≡ k = omega arith in e) last
@@ -126,7 +126,7 @@ joined_later : (each : Repeat) (repeats : List Repeat) → AreJoined (each ∷ r
 joined_later each [] x = tt
 joined_later each (next ∷ repeats) x = x.3
 
--- a line that is full, or behind which another choice comes, ends there
+-- a line ends if it is full, or if another choice comes after it
 ends_there : (c : Choice) (n : ℕ) (repeats : List Repeat) → AreJoined (repeat_of c n ∷ repeats) → repeats_of (spelled_choices repeats) ≡ repeats → repeats_behind c n (spelled_choices repeats) ≡ repeat_of c n ∷ repeats
 ends_there c n [] x later = refl
 ends_there c n (each ∷ repeats) x later = by each.times refl where
@@ -165,9 +165,9 @@ told_again (each ∷ repeats) x =
 pub no_others : (choices : List Choice) (repeats : List Repeat) → AreJoined repeats → spelled_choices repeats ≡ choices → repeats ≡ repeats_of choices
 no_others choices repeats x e = sym (told_again repeats x) ∙ ap repeats_of e
 
--- ---- one choice more
+-- ---- one more choice
 
--- behind the first lines the last ones grow
+-- after a first line, the last line grows
 grows_behind : (each : Repeat) (d c : Choice) (repeats : List Repeat) → BeginsWith d repeats → repeats_with (each ∷ repeats) c ≡ each ∷ repeats_with repeats c
 grows_behind each d c repeats x = subst (λ rs. repeats_with (each ∷ rs) c ≡ each ∷ repeats_with rs c) (sym x.split) refl
 
@@ -184,9 +184,9 @@ pub one_more_choice : (choices : List Choice) (c : Choice) → repeats_with (rep
 one_more_choice [] c = refl
 one_more_choice (d ∷ cs) c = sym (more_behind d c 1 cs)
 
--- ---- the last of them
+-- ---- the last line
 
--- one that joins the last, which is read to see that and then to be changed, makes it longer
+-- a choice that joins the last line makes that longer; the code reads the line twice, to test and to change it
 pub last_grown : (repeats : List Repeat) (n : ℕ) (seen last : Repeat) (c : Choice) → length repeats ≡ suc n → seen ≡ slice_index_or repeats n seen → last ≡ slice_index_or repeats n last → joins seen c ≡ true
     → slice_set repeats n (repeat_of last.choice (last.times + 1)) ≡ repeats_with repeats c
 last_grown [] n seen last c long was is joined = cc
@@ -199,7 +199,7 @@ last_grown (x ∷ []) (suc n) seen last c long was is joined = absurd (omega (ar
 last_grown (x ∷ y ∷ repeats) zero seen last c long was is joined = absurd (omega (arith, long))
 last_grown (x ∷ y ∷ repeats) (suc n) seen last c long was is joined = ap (λ rs. x ∷ rs) (last_grown (y ∷ repeats) n seen last c (omega (arith, long)) was is joined)
 
--- one that doesn't stands behind it
+-- a choice that doesn't join the last line is appended
 pub last_kept : (repeats : List Repeat) (n : ℕ) (last : Repeat) (c : Choice) → length repeats ≡ suc n → last ≡ slice_index_or repeats n last → joins last c ≡ false → repeats ++ repeat_of c 1 ∷ [] ≡ repeats_with repeats c
 last_kept [] n last c long is apart = cc
 last_kept (x ∷ []) zero last c long is apart =
@@ -210,7 +210,7 @@ last_kept (x ∷ []) (suc n) last c long is apart = absurd (omega (arith, long))
 last_kept (x ∷ y ∷ repeats) zero last c long is apart = absurd (omega (arith, long))
 last_kept (x ∷ y ∷ repeats) (suc n) last c long is apart = ap (λ rs. x ∷ rs) (last_kept (y ∷ repeats) n last c (omega (arith, long)) is apart)
 
--- where there is none, one stands alone
+-- if there is no line, the choice has the first one
 pub none_kept : (repeats : List Repeat) (c : Choice) → length repeats ≡ 0 → repeats ++ repeat_of c 1 ∷ [] ≡ repeats_with repeats c
 none_kept [] c none = refl
 none_kept (x ∷ repeats) c none = absurd (omega (arith, none))

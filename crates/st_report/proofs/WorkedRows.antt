@@ -27,7 +27,7 @@ use Rattle.st_report.specs.ChangeText.{changes_fields}
 use Rattle.st_report.specs.ScheduleText.{schedule_text}
 use Rattle.st_report.specs.TraceText.{trace_text}
 
--- the text of what a schedule comes to
+-- the text of what a schedule plays
 abbrev text_of : Option (List Entry) → List ℕ
 text_of None = []
 text_of (Some entries) = trace_text entries

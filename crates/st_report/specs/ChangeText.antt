@@ -7,13 +7,13 @@ use Rattle.st_trace.specs.declared.entry.Change.{Change}
 use Rattle.st_trace.specs.declared.entry.Change.TheVariants.{Made, Linked, Removed, Renamed, Written, Cut, Moded, Owned, Put, Forked, Execed, SetIds, Cwd, Dying, Renewed, Policy}
 use Rattle.st_report.specs.Fields.{number_fields, mode_field, text_field, name_field, bytes_field, four_ids}
 
--- the kind of what is made
+-- the word for the kind of an object that is made
 abbrev pub kind_word : NewKind → List ℕ
 kind_word Dir = codes "dir"
 kind_word (File content) = codes "file"
 kind_word (Link target) = codes "link"
 
--- the target of a link that is made; empty for all else
+-- the target of a link that is made; empty for other kinds
 abbrev pub target_text : NewKind → List ℕ
 target_text Dir = []
 target_text (File content) = []
@@ -39,10 +39,10 @@ change_text (Dying pid) = codes "dying" ++ number_fields (pid ∷ [])
 change_text (Renewed old new) = codes "renewed" ++ number_fields (old ∷ new ∷ [])
 change_text (Policy binary) = codes "policy" ++ text_field binary
 
--- a change behind a comma
+-- a change after a comma
 abbrev pub change_field : Change → List ℕ
 change_field change = codes ", " ++ change_text change
 
--- changes, each behind a comma
+-- changes, each after a comma
 abbrev pub changes_fields : List Change → List ℕ
 changes_fields changes = flat_map change_field changes

@@ -1,4 +1,4 @@
--- The fields that a trace's lines are made of, each behind a blank.
+-- The fields that a trace's lines consist of, each after a blank.
 use Rattle.std.specs.Prelude.{ℕ, ◌/◌, ◌%◌, false, List, [], ◌∷◌, ◌++◌, codes, decimal}
 use Rattle.std.specs.Fmt.{radix_digits}
 use Rattle.std.specs.List.{flat_map}
@@ -34,7 +34,7 @@ name_field name = codes " " ++ quoted (printed_name name)
 abbrev pub hex_byte : ℕ → List ℕ
 hex_byte byte = hex_digit (byte / 16) ∷ hex_digit (byte % 16) ∷ []
 
--- bytes as one word of hexadecimal digits, and `-` for none
+-- bytes as one word of hexadecimal digits, or `-` if there are none
 abbrev pub bytes_word : List ℕ → List ℕ
 bytes_word [] = codes "-"
 bytes_word (byte ∷ bytes) = flat_map hex_byte (byte ∷ bytes)
@@ -47,6 +47,6 @@ bytes_field bytes = codes " " ++ bytes_word bytes
 abbrev pub four_ids : Ids → List ℕ
 four_ids ids = number_fields (ids.ruid ∷ ids.euid ∷ ids.rgid ∷ ids.egid ∷ [])
 
--- the same behind the word that tells them
+-- the same four ids after their word
 abbrev pub ids_fields : Ids → List ℕ
 ids_fields ids = codes " ids" ++ four_ids ids

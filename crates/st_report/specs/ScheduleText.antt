@@ -1,4 +1,4 @@
--- What is printed of a schedule: a line for each choice that is made so many times in a row.
+-- What is printed of a schedule: a line for each choice that is made several times in a row.
 use Rattle.std.specs.Prelude.{◌≡◌, ℕ, suc, ◌≤◌, ◌==◌, ◌&&◌, nat_lt, if◌then◌else◌, Bool, true, false, List, [], ◌∷◌, ◌++◌, codes, replicate, None}
 use Rattle.std.specs.List.{flat_map}
 use Rattle.st_trace.specs.declared.entry.Choice.{Choice}
@@ -10,7 +10,7 @@ use Rattle.st_law.specs.declared.input.What.TheVariants.{Choose}
 use Rattle.st_report.specs.declared.schedule.Repeat.{Repeat}
 use Rattle.st_report.specs.Fields.{number_fields}
 
--- a choice so many times
+-- a choice, this many times in a row
 abbrev pub repeat_of : Choice → ℕ → Repeat
 repeat_of choice times = record { choice = choice; times = times }
 
@@ -21,18 +21,19 @@ is_same_choice (Worker v) (Worker w) = v == w
 is_same_choice Operator Operator = true
 is_same_choice _ _ = false
 
--- whether a choice joins the last, which isn't another and isn't full
+-- whether a choice joins the last line, which has the same choice and isn't full
 abbrev pub joins : Repeat → Choice → Bool
 joins last choice = nat_lt last.times MOST_TIMES && is_same_choice last.choice choice
 
--- a choice that was made so many times already, and these behind it: equal neighbours are joined, as many as one line may have
+-- the lines of a choice that was made this many times already, followed by these choices: equal neighbours are joined, as many as
+-- one line may have
 abbrev pub repeats_behind : Choice → ℕ → List Choice → List Repeat
 repeats_behind choice times [] = repeat_of choice times ∷ []
 repeats_behind choice times (next ∷ choices) =
     if joins (repeat_of choice times) next then repeats_behind choice (suc times) choices
     else repeat_of choice times ∷ repeats_behind next 1 choices
 
--- choices with equal neighbours joined
+-- the lines of choices, with equal neighbours joined
 abbrev pub repeats_of : List Choice → List Repeat
 repeats_of [] = []
 repeats_of (choice ∷ choices) = repeats_behind choice 1 choices
@@ -43,7 +44,7 @@ choice_text (Thread t) = codes "thread" ++ number_fields (t ∷ [])
 choice_text (Worker w) = codes "worker" ++ number_fields (w ∷ [])
 choice_text Operator = codes "operator"
 
--- how often, which is left out for once
+-- how often, which is omitted for once
 abbrev pub times_field : ℕ → List ℕ
 times_field times = if times == 1 then [] else number_fields (times ∷ [])
 
@@ -51,7 +52,7 @@ times_field times = if times == 1 then [] else number_fields (times ∷ [])
 abbrev pub repeat_line : Repeat → List ℕ
 repeat_line each = choice_text each.choice ++ times_field each.times ++ codes "\n"
 
--- the lines of choices, each so many times
+-- the text of lines
 abbrev pub repeats_text : List Repeat → List ℕ
 repeats_text repeats = flat_map repeat_line repeats
 
@@ -59,36 +60,37 @@ repeats_text repeats = flat_map repeat_line repeats
 abbrev pub schedule_text : List Choice → List ℕ
 schedule_text choices = repeats_text (repeats_of choices)
 
--- ---- one choice more
+-- ---- one more choice
 
--- a choice behind the last
+-- the lines after one more choice, from the last line
 abbrev pub joined_with : Repeat → Choice → List Repeat
 joined_with last choice = if joins last choice then repeat_of last.choice (suc last.times) ∷ [] else last ∷ repeat_of choice 1 ∷ []
 
--- a choice behind those that were made
+-- the lines after one more choice
 abbrev pub repeats_with : List Repeat → Choice → List Repeat
 repeats_with [] choice = repeat_of choice 1 ∷ []
 repeats_with (last ∷ []) choice = joined_with last choice
 repeats_with (each ∷ next ∷ repeats) choice = each ∷ repeats_with (next ∷ repeats) choice
 
--- ---- what such lines stand for
+-- ---- what such lines spell
 
--- the choices that lines stand for, in order
+-- the choices that lines spell, in order
 abbrev pub spelled_choices : List Repeat → List Choice
 spelled_choices repeats = flat_map (λ each. replicate each.times each.choice) repeats
 
--- each line has its choice at least once and not too often, and the line behind it another choice, unless it is full
+-- each line has its choice at least once and at most `MOST_TIMES` times, and unless it is full, the line after it has another
+-- choice
 abbrev pub AreJoined : List Repeat → Type 0
 AreJoined [] = Unit {0}
 AreJoined (each ∷ []) = (1 ≤ each.times) × (each.times ≤ MOST_TIMES)
 AreJoined (each ∷ next ∷ repeats) =
     (1 ≤ each.times) × (each.times ≤ MOST_TIMES) × (each.choice ≡ next.choice → each.times ≡ MOST_TIMES) × AreJoined (next ∷ repeats)
 
--- these lines as a schedule's, from this line on
+-- these lines as those of a schedule that was read, numbered from this line on
 abbrev pub lines_from : ℕ → List Repeat → List ScheduleLine
 lines_from line [] = []
 lines_from line (each ∷ repeats) = record { what = Choose each.choice; count = each.times; line = line } ∷ lines_from (suc line) repeats
 
--- the schedule that is printed of choices
+-- the printed lines of choices, as a schedule that was read
 abbrev pub printed_schedule : List Choice → ReadSchedule
 printed_schedule choices = record { lines = lines_from 1 (repeats_of choices); bad = None }

@@ -57,17 +57,17 @@ verdict_fields (Permit n ids) = codes " permit" ++ number_fields (n ∷ []) ++ i
 verdict_fields (Refuse n errno) = codes " refuse" ++ number_fields (n ∷ []) ++ word_field (name_of_error errno)
 verdict_fields Unmatched = codes " unmatched"
 
--- whether an answer counted
+-- whether an answer was applied
 abbrev pub applied_field : Bool → List ℕ
 applied_field true = codes " applied"
 applied_field false = codes " stale"
 
--- the number of a held call; none for another
+-- the number of a held call; `-` for another call
 abbrev pub seq_field : Option ℕ → List ℕ
 seq_field None = codes " -"
 seq_field (Some q) = number_fields (q ∷ [])
 
--- what a call gives: a number, or an error
+-- the result of a call: a number, or an error
 abbrev pub result_text : CallResult → List ℕ
 result_text (Value n) = decimal n
 result_text (Failed errno) = name_of_error errno
@@ -79,11 +79,11 @@ cause_fields cause.NoFilter = codes " nofilter"
 cause_fields cause.Fault = codes " fault"
 cause_fields (cause.Link name) = codes " link" ++ name_field name
 
--- whose call is held, and whose policy judges it
+-- who makes the held call, and the policy that judges it
 abbrev pub judged_fields : Snapshot → List ℕ
 judged_fields s = codes " pid" ++ number_fields (s.pid ∷ []) ++ ids_fields s.ids ++ codes " policy" ++ text_field s.policy
 
--- the call that is held, by its copies
+-- the held call, by the copies of its arguments
 abbrev pub asked_fields : Snapshot → List ℕ
 asked_fields s = codes " rule native-" ++ name_of_rule s.rule ++ call_fields s.call s.regs ++ args_fields s.parts
 

@@ -12,7 +12,7 @@ use st_names::AbsName;
 use st_trace::Change;
 use std::alloc::{AllocError, Global};
 
-// The word for the kind of what is made.
+// The word for the kind of an object that is made.
 fn kind_word(kind: &NewKind) -> &'static [u8]
     ensures { result.now ≡ kind_word kind.now }
 {
@@ -23,7 +23,7 @@ fn kind_word(kind: &NewKind) -> &'static [u8]
     }
 }
 
-// The target of a link that is made; empty for all else.
+// The target of a link that is made; empty for other kinds.
 fn target_text(kind: &NewKind) -> &[u8]
     ensures { result.now ≡ target_text kind.now }
 {
@@ -33,7 +33,7 @@ fn target_text(kind: &NewKind) -> &[u8]
     }
 }
 
-// Appends a word as it is, and a name.
+// Appends a word without a blank, and a name.
 fn append_named(
     alloc: Global,
     text: &mut Text,
@@ -46,7 +46,7 @@ fn append_named(
     append_name(alloc, text, name)
 }
 
-// Appends a word as it is, and a text.
+// Appends a word without a blank, and a text.
 fn append_told(text: &mut Text, word: &[u8], told: &Text) -> Result<(), AllocError>
     ensures { OnOk result (text.new ≡ text.old ++ word.now ++ text_field told.now) }
 {
@@ -54,7 +54,7 @@ fn append_told(text: &mut Text, word: &[u8], told: &Text) -> Result<(), AllocErr
     append_text(text, told.bytes())
 }
 
-// Appends what is written: a word as it is, where, and the bytes.
+// Appends what is written: a word without a blank, where it is written, and the bytes.
 fn append_written(
     text: &mut Text,
     word: &[u8],
@@ -142,7 +142,7 @@ fn append_change(alloc: Global, text: &mut Text, change: &Change) -> Result<(), 
     }
 }
 
-/// Appends changes, each behind a comma.
+/// Appends changes, each after a comma.
 pub fn append_changes(alloc: Global, text: &mut Text, changes: &[Change]) -> Result<(), AllocError>
     ensures { OnOk result (text.new ≡ text.old ++ changes_fields changes.now) }
 {

@@ -87,14 +87,14 @@ fn append_verdict(text: &mut Text, verdict: Verdict) -> Result<(), AllocError>
     }
 }
 
-// Whether an answer counted, as a word.
+// Whether an answer was applied, as a word.
 fn applied_word(applied: bool) -> &'static [u8]
     ensures { result.now ≡ applied_field applied }
 {
     if applied { b" applied" } else { b" stale" }
 }
 
-// Appends the number of a held call, and `-` for another.
+// Appends the number of a held call, or `-` for another call.
 fn append_seq(text: &mut Text, seq: Option<Seq>) -> Result<(), AllocError>
     ensures { OnOk result (text.new ≡ text.old ++ seq_field seq) }
 {
@@ -104,7 +104,7 @@ fn append_seq(text: &mut Text, seq: Option<Seq>) -> Result<(), AllocError>
     }
 }
 
-/// Appends what a call gives: a number, or an error's name.
+/// Appends the result of a call: a number, or an error's name.
 pub fn append_result(text: &mut Text, outcome: CallResult) -> Result<(), AllocError>
     ensures { OnOk result (text.new ≡ text.old ++ result_text outcome) }
 {
@@ -129,7 +129,7 @@ fn append_cause(alloc: Global, text: &mut Text, cause: &Cause) -> Result<(), All
     }
 }
 
-// Appends whose call is held, and whose policy judges it.
+// Appends who makes the held call, and the policy that judges it.
 fn append_judged(text: &mut Text, copies: &Snapshot) -> Result<(), AllocError>
     ensures { OnOk result (text.new ≡ text.old ++ judged_fields copies.now) }
 {
@@ -139,7 +139,7 @@ fn append_judged(text: &mut Text, copies: &Snapshot) -> Result<(), AllocError>
     append_text(text, copies.policy.get().bytes())
 }
 
-// Appends the call that is held, by its copies.
+// Appends the held call, by the copies of its arguments.
 fn append_asked(text: &mut Text, copies: &Snapshot) -> Result<(), AllocError>
     ensures { OnOk result (text.new ≡ text.old ++ asked_fields copies.now) }
 {
@@ -179,7 +179,7 @@ fn append_used(
     append_call(text, call, regs)
 }
 
-// Appends with what a call was made, what it gave, and what it changed.
+// Appends how a call was made: its ids and arguments, its result, and its changes.
 fn append_made(
     alloc: Global,
     text: &mut Text,
@@ -197,7 +197,7 @@ fn append_made(
     append_changes(alloc, text, changes)
 }
 
-// Appends which call of a thread is denied, how, and why.
+// Appends which call of a thread is denied, with which error, and why.
 fn append_denied(
     alloc: Global,
     text: &mut Text,

@@ -7,7 +7,7 @@ use st_lex::{hex_digit, quote};
 use st_names::AbsName;
 use std::alloc::{AllocError, Global};
 
-/// Appends a word behind a blank.
+/// Appends a word after a blank.
 pub fn append_word(text: &mut Text, word: &[u8]) -> Result<(), AllocError>
     ensures { OnOk result (text.new ≡ text.old ++ word_field word.now) }
 {
@@ -15,7 +15,7 @@ pub fn append_word(text: &mut Text, word: &[u8]) -> Result<(), AllocError>
     text.append(word)
 }
 
-// Appends a number behind a blank.
+// Appends a number after a blank.
 fn append_number(text: &mut Text, number: u64) -> Result<(), AllocError>
     ensures { OnOk result (text.new ≡ text.old ++ number_field number) }
 {
@@ -23,7 +23,7 @@ fn append_number(text: &mut Text, number: u64) -> Result<(), AllocError>
     text.append_number(number)
 }
 
-/// Appends numbers, each behind a blank.
+/// Appends numbers, each after a blank.
 pub fn append_numbers(text: &mut Text, numbers: &[u64]) -> Result<(), AllocError>
     ensures { OnOk result (text.new ≡ text.old ++ number_fields numbers.now) }
 {
@@ -33,7 +33,7 @@ pub fn append_numbers(text: &mut Text, numbers: &[u64]) -> Result<(), AllocError
     Ok(())
 }
 
-/// Appends a word as it is, and numbers, each behind a blank.
+/// Appends a word without a blank, and numbers, each after a blank.
 pub fn append_numbered(text: &mut Text, word: &[u8], numbers: &[u64]) -> Result<(), AllocError>
     ensures { OnOk result (text.new ≡ text.old ++ word.now ++ number_fields numbers.now) }
 {
@@ -41,7 +41,7 @@ pub fn append_numbered(text: &mut Text, word: &[u8], numbers: &[u64]) -> Result<
     append_numbers(text, numbers)
 }
 
-/// Appends a mode in octal digits behind a blank.
+/// Appends a mode in octal digits after a blank.
 pub fn append_mode(alloc: Global, text: &mut Text, mode: u32) -> Result<(), AllocError>
     ensures { OnOk result (text.new ≡ text.old ++ mode_field mode) }
 {
@@ -49,7 +49,7 @@ pub fn append_mode(alloc: Global, text: &mut Text, mode: u32) -> Result<(), Allo
     append_word(text, digits.as_bytes())
 }
 
-/// Appends a text, quoted, behind a blank.
+/// Appends a text, quoted, after a blank.
 pub fn append_text(text: &mut Text, bytes: &[u8]) -> Result<(), AllocError>
     ensures { OnOk result (text.new ≡ text.old ++ text_field bytes.now) }
 {
@@ -57,7 +57,7 @@ pub fn append_text(text: &mut Text, bytes: &[u8]) -> Result<(), AllocError>
     quote(bytes, text)
 }
 
-/// Appends a name, quoted, behind a blank.
+/// Appends a name, quoted, after a blank.
 pub fn append_name(alloc: Global, text: &mut Text, name: &AbsName) -> Result<(), AllocError>
     ensures { OnOk result (text.new ≡ text.old ++ name_field name.now) }
 {
@@ -74,7 +74,7 @@ fn append_digits(text: &mut Text, bytes: &[u8]) -> Result<(), AllocError>
     Ok(())
 }
 
-/// Appends bytes behind a blank, as one word of hexadecimal digits, and `-` for none.
+/// Appends bytes after a blank, as one word of hexadecimal digits, or `-` if there are none.
 pub fn append_bytes(text: &mut Text, bytes: &[u8]) -> Result<(), AllocError>
     ensures { OnOk result (text.new ≡ text.old ++ bytes_field bytes.now) }
 {
@@ -86,7 +86,7 @@ pub fn append_bytes(text: &mut Text, bytes: &[u8]) -> Result<(), AllocError>
     }
 }
 
-/// Appends a word as it is, and real and effective user, real and effective group, each behind a blank.
+/// Appends a word without a blank, then real and effective user and real and effective group, each after a blank.
 pub fn append_ids(text: &mut Text, word: &[u8], ids: Ids) -> Result<(), AllocError>
     ensures { OnOk result (text.new ≡ text.old ++ word.now ++ four_ids ids) }
 {

@@ -1,4 +1,4 @@
-//! Texts that are printed of a run: its trace and its schedule; and what takes a run down, entry by entry.
+//! The texts of a run's trace and schedule, and the interface of what records a run entry by entry.
 #![tactic(auto)]
 
 mod change;

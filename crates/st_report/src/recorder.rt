@@ -8,12 +8,12 @@ use st_learn::Session;
 use st_trace::Entry;
 use std::alloc::{AllocError, Global};
 
-/// What takes a run down, entry by entry, for what is shown of it. So no more is kept of a run than that needs.
+/// What records a run, entry by entry. So no more of a run is kept than its output needs.
 pub trait Recorder {
-    /// Whether just these entries of a run of this input were taken down, in order.
+    /// Whether exactly these entries of a run of this input were recorded, in order.
     ghost has_noted: { Self → Input → List Entry → Type 0 };
 
-    /// Takes the next entry of a run of this input down. The session is the one behind that entry.
+    /// Records the next entry of a run of this input. The session is the one after that entry.
     fn note(
         &mut self,
         alloc: Global,
@@ -24,7 +24,7 @@ pub trait Recorder {
         ensures { OnOk result ((trace : List Entry) → session.now.filters ≡ session_at input.now (reverse (trace ++ entry.now ∷ [])) → has_noted self.old input.now trace → has_noted self.new input.now (trace ++ entry.now ∷ [])) };
 }
 
-/// Takes nothing down.
+/// Records nothing.
 #[derive(Debug, Drop)]
 pub struct NoRecorder;
 

@@ -12,7 +12,7 @@ use st_law::MOST_TIMES;
 use st_trace::Choice;
 use std::alloc::{AllocError, Global};
 
-/// A choice that is made so many times in a row.
+/// A choice that is made several times in a row.
 #[derive(Clone, Copy, Debug, PartialEq, Eq)]
 pub struct Repeat {
     pub choice: Choice,
@@ -42,15 +42,15 @@ fn append_choice(text: &mut Text, choice: Choice) -> Result<(), AllocError>
     }
 }
 
-// Whether a choice joins the last that was made so many times in a row.
+// Whether a choice joins the last line, which has its choice this many times.
 fn joins(last: Repeat, choice: Choice) -> bool
     ensures { result ≡ joins last choice }
 {
     last.times < MOST_TIMES && is_same_choice(last.choice, choice)
 }
 
-/// Takes a choice down behind those that were made, where there is room for one more. It joins the last of them, unless that is another or is
-/// full.
+/// Appends a choice to those that were made, in capacity that exists already. The choice joins the last line, unless that has
+/// another choice or is full.
 pub fn note_choice(repeats: &mut Vec<Repeat>, choice: Choice)
     requires room { vec_len repeats.old < vec_capacity repeats.old }
     ensures { repeats.new.items ≡ repeats_with repeats.old.items choice }
@@ -63,7 +63,7 @@ pub fn note_choice(repeats: &mut Vec<Repeat>, choice: Choice)
     }
 }
 
-// Appends the line of a choice that is made so many times in a row.
+// Appends the line of a choice that is made several times in a row.
 fn append_repeat(text: &mut Text, each: Repeat) -> Result<(), AllocError>
     ensures { OnOk result (text.new ≡ text.old ++ repeat_line each) }
 {
@@ -85,8 +85,9 @@ pub fn repeats_text(alloc: Global, repeats: &[Repeat]) -> Result<Text, AllocErro
     Ok(text)
 }
 
-/// The lines that are printed of a schedule stand for exactly its choices, in order, each as often as it can be told in one line; one choice more
-/// is taken down as the last of a longer schedule; and where each choice is enabled at its turn, a run by these lines makes the same choices.
+/// The lines that are printed of a schedule spell exactly its choices, in order, with as many equal neighbours in a line as may be.
+/// One more choice is recorded as the last of a longer schedule. If each choice is enabled at its turn, a run by these lines makes
+/// the same choices.
 pub fn a_printed_schedule_is_its_choices()
     ensures spelled { (choices : List Choice) → spelled_choices (repeats_of choices) ≡ choices }
     ensures joined { (choices : List Choice) → AreJoined (repeats_of choices) }

@@ -11,7 +11,7 @@ use st_trace::Entry;
 use std::alloc::{AllocError, Global};
 use std::marker::Model;
 
-/// The text of a trace, which has one line more with each entry.
+/// Records the text of a trace. Each entry adds one line.
 #[derive(Debug, Drop)]
 pub struct TraceRecorder {
     text: Text,
@@ -35,7 +35,7 @@ impl TraceRecorder {
         }
     }
 
-    /// The text of the entries that were taken down.
+    /// The text of the entries that were recorded.
     pub fn into_text(self) -> Text
         ensures { result ≡ self }
     {
@@ -58,7 +58,7 @@ impl Recorder for TraceRecorder {
     }
 }
 
-/// The text of a longer trace is that of its front and, behind it, that of the rest.
+/// The text of a longer trace is that of its prefix followed by that of the rest.
 pub fn a_trace_is_printed_in_order()
     ensures { (front rest : List Entry) → trace_text (front ++ rest) ≡ trace_text front ++ trace_text rest }
 {}

@@ -5,7 +5,7 @@ use Rattle.st_learn.proofs.Filters.{filters_at, is_of_rule}
 use Rattle.st_learn.specs.Sessions.{places_of}
 use Rattle.st_audit.proofs.session.session_filter.Given as goal
 
--- the filter is among those that are left, behind so many
+-- the filter is among those that are left, after `before` others of the rule
 abbrev pub invariant-loop-place : goal.invariant-loop-place
 invariant-loop-place l = record {
   items : l.place-items ≡ places_of l.session.filters l.policy;
