@@ -131,7 +131,7 @@ fn bytes_moved(outcome: &Outcome) -> &[u8]
     }
 }
 
-// Puts bytes into memory, which contains their place. If there are none, nothing changes.
+// Puts bytes into memory, where they fit. If there are none, nothing changes.
 fn put(
     spaces: &mut Spaces,
     alloc: Global,

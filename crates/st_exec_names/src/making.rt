@@ -59,7 +59,7 @@ fn copy_of(alloc: Global, kind: &NewKind) -> Result<NewKind, AllocError>
     })
 }
 
-/// Makes an object that may be made and belongs to the effective ids, and returns the outcome of a call whose result is this
+/// Makes an object that isn't refused, and that belongs to the effective ids. Returns the outcome of a call whose result is this
 /// number. If memory runs out, nothing changes.
 pub fn make_object(
     tree: &mut Tree,

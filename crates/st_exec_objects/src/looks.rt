@@ -136,7 +136,7 @@ fn may_read_link(tree: &Tree, request: &Request<'_>, name: &AbsName) -> Result<O
     Ok(obj)
 }
 
-/// readlink(name, at, count): puts at most `count` of the first bytes of a link's target into memory, and returns how many it put.
+/// readlink(name, at, count): puts the first bytes of a link's target, at most `count`, into memory, and returns how many it put.
 pub fn readlink(
     tree: &Tree,
     procs: &Procs,

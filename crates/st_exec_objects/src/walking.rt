@@ -47,8 +47,8 @@ fn search(tree: &Tree, ids: Ids, obj: Obj) -> Result<(), Errno>
     Ok(())
 }
 
-/// What a name has, or the error of walking to it. The first component that can't be passed decides: ENOENT if there is no object,
-/// ENOTDIR if it isn't a directory, EACCES if the ids may not search it.
+/// What a name has, or the error of walking to it. Component by component, the first error decides: ENOENT if the name so far has no
+/// object, ENOTDIR if its object isn't a directory, EACCES if the ids may not search that directory.
 pub fn walk(tree: &Tree, ids: Ids, name: &AbsName) -> Result<Place, Errno>
     ensures refused { result_err result ≡ walk_error tree.now ids name.now }
     ensures place { IfOk result (IsPlace tree.now name.now) }

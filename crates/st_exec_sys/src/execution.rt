@@ -36,7 +36,7 @@ fn tell(alloc: Global, call: SysCall, request: &Request<'_>) -> Outcome
 }
 
 /// Makes any call on processes, ids and sockets, by the call's own function. It changes what the changes of the outcome say, and
-/// nothing else. That held calls get new numbers, and that threads end, is not done here. If memory runs out, nothing changes.
+/// nothing else. Giving held calls new numbers and ending threads are not done here. If memory runs out, nothing changes.
 pub fn execute_sys(
     fds: &mut Fds,
     procs: &mut Procs,

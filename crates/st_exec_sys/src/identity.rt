@@ -39,8 +39,8 @@ pub fn geteuid(alloc: Global, request: &Request<'_>) -> Outcome
     Outcome::value(alloc, u64::from(request.ids.euid))
 }
 
-/// setuid(uid), seteuid(uid), setgid(gid) and setegid(gid): set ids of the process, which makes the call under its own ids. That
-/// held calls get new numbers is not done here. If memory runs out, nothing changes.
+/// setuid(uid), seteuid(uid), setgid(gid) and setegid(gid): set ids of the process, which makes the call under its own ids. Giving
+/// held calls new numbers is not done here. If memory runs out, nothing changes.
 pub fn set_ids(
     procs: &mut Procs,
     alloc: Global,

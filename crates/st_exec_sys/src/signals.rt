@@ -18,7 +18,7 @@ use std::alloc::{AllocError, Global};
 // The signal that ends a process.
 const KILL: u64 = 9;
 
-/// exit(code): from now on the threads of the process can only end. The only error is out of memory.
+/// exit(code): from now on the threads of the process can only end. `Err` only if memory runs out.
 pub fn exit(alloc: Global, request: &Request<'_>) -> Result<Outcome, AllocError>
     ensures outcome { IfOk result (λ outcome. (system : effects.System) → outcome_of outcome system.descriptors ≡ exit_outcome system request.now) }
     ensures changes { IfOk result (λ outcome. AreEndings outcome.changes) }

@@ -29,11 +29,11 @@ places_more m n places more are = (are.0, λ k d inside. place_more m n (get_or 
 pub whole-more_files : (m n : ℕ) (es : List (ℕ × List (Option ℕ))) → m ≤ n → IsWhole es m → IsWhole es n
 whole-more_files m n es larger whole = λ k d inside. places_more m n (get_or (values_of es) k d) larger (whole k d inside)
 
--- one place changes
+-- the places of a process are still such after one of them changes
 pub places-set : (count : ℕ) (places : List (Option ℕ)) (fd : ℕ) (place : Option ℕ) → IsPlace count place → ArePlaces count places → ArePlaces count (set places fd place)
 places-set count places fd place is are = (length-set places fd place ∙ are.0, All-set (IsPlace count) places fd place is are.1)
 
--- the places of one process change
+-- a table is still whole after the places of one process change
 pub whole-put : (count : ℕ) (es : List (ℕ × List (Option ℕ))) (pid : ℕ) (places : List (Option ℕ)) → IsWhole es count → ArePlaces count places → IsWhole (insert_entry nat_cmp es pid places) count
 whole-put count es pid places whole are = All-values-insert_entry nat_cmp pid places (ArePlaces count) es whole are
 
@@ -60,7 +60,7 @@ found count (Some places) has are = are
 pub places_at : (count : ℕ) (es : List (ℕ × List (Option ℕ))) (pid : ℕ) → is_some (lookup (is_at (nat_cmp pid)) es) ≡ true → IsWhole es count → ArePlaces count (places_in es pid)
 places_at count es pid has whole = found count (lookup (is_at (nat_cmp pid)) es) has (IfSome-lookup_from_All (ArePlaces count) (is_at (nat_cmp pid)) es whole)
 
--- if a value has a process's table, so does an equal value (of a struct's fields)
+-- a process that has a table in one of two equal tables has one in the other
 pub fields_have : (t u : Table) (pid : ℕ) → t ≡ u → has_table u pid ≡ true → has_table t pid ≡ true
 fields_have t u pid is has = subst (λ v. has_table v pid ≡ true) (sym is) has
 
@@ -110,7 +110,7 @@ module _ (t : Table) (pid : ℕ) (are : ArePlaces (length t.files) (places_in t.
   pub full : least_free t pid ≡ None → AreOpenBelow t pid 64
   full is = full_by _ (prefix_len (λ place. not (is_none place)) (places_in t.processes pid)) refl refl is
 
--- a place in a whole table, seen from an equal table (a struct's value)
+-- a place in one of two equal tables is one in the other
 pub place_within : (t u : Table) (place : Option ℕ) → t ≡ u → IsPlace (length t.files) place → IfSome place (λ number. number < length u.files)
 place_within t u None same is = tt
 place_within t u (Some number) same is = subst (λ v. number < length v.files) same is

@@ -22,7 +22,7 @@ ArePlaces count places = (length places ≡ DESCRIPTORS) × All (IsPlace count) 
 abbrev pub IsWhole : List (ℕ × List (Option ℕ)) → ℕ → Type 0
 IsWhole processes count = All (ArePlaces count) (values_of processes)
 
--- the same processes have a table
+-- the same processes have a table before and after
 abbrev pub KeepsTables : Table → Table → Type 0
 KeepsTables old new = (pid : ℕ) → has_table new pid ≡ has_table old pid
 

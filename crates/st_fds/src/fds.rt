@@ -59,7 +59,7 @@ impl Model for Fds {
 }
 
 impl Fds {
-    /// Descriptors without a process that has a table, which take no memory.
+    /// Makes a table of descriptors without any process, which takes no memory.
     pub fn new(alloc: Global) -> Self
         ensures processes { result.processes ≡ [] }
         ensures files { result.files ≡ [] }

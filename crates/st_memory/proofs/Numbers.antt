@@ -27,7 +27,7 @@ at_number-push d xs y s = elim (cases_eq s (suc (length xs))) [
   | inr ne ↦ rw (ne_eqb s (suc (length xs)) ne) (numbered d (xs ++ y ∷ []) s ∙ pushed_other (d ∷ xs) y d s ne ∙ sym (numbered d xs s))
 ]
 
--- an item that is written has its number
+-- an item that is overwritten is the one with its number, and each other item stays
 pub at_number-set : {X : Type 0} (d : X) (xs : List X) (i : ℕ) (y : X) (s : ℕ) → 1 ≤ i → i ≤ length xs → item_at_number_or d (set xs (i - 1) y) s ≡ cond (s == i) y (item_at_number_or d xs s)
 at_number-set d xs zero y s low high = absurd (omega arith)
 at_number-set d xs (suc i) y s low high = let same : suc i - 1 ≡ i = omega arith in rw same (elim (cases_eq s (suc i)) [

@@ -47,7 +47,7 @@ impl Model for Spaces {
 }
 
 impl Spaces {
-    /// Memories without a space, which take no memory.
+    /// Makes memories without any space, which takes no memory.
     pub fn new(alloc: Global) -> Self
         ensures { result ≡ [] }
     {

@@ -46,7 +46,7 @@ StartsAdd = (p : Processes) (process : Process) → ChangesRow p (next_pid p) pr
 abbrev pub ChildrenAreLikeParents : Type 0
 ChildrenAreLikeParents = (p : Processes) (pid tid space : ℕ) → ChangesRow p (next_pid p) (record (process_at p pid) { space = space }) (processes_after_fork p pid tid space)
 
--- execve(2) changes the binary and memory of one process, and no other row changes
+-- execve(2) changes the policy and the memory of one process, and no other row changes
 abbrev pub BinariesAreOwn : Type 0
 BinariesAreOwn = (p : Processes) (pid : ℕ) (binary : List ℕ) (space : ℕ) (inherit : Bool) → IsPid p pid →
     ChangesRow p pid (process_after_exec (process_at p pid) binary space inherit) (processes_after_exec p pid binary space inherit)

@@ -25,7 +25,7 @@ with_processes system processes =
 abbrev pub with_memories : effects.System → Memories → effects.System
 with_memories system memories = record system { memory = byte_in memories; next_space = next_space memories }
 
--- a system with all of these parts; what is left are the held calls and the number that comes next
+-- a system with all of these parts; what is left are the held calls and the number of the next message
 abbrev pub system_of : effects.System → Tree → Table → Processes → Memories → effects.System
 system_of system tree descriptors processes memories =
     with_tree (with_descriptors (with_processes (with_memories system memories) processes) descriptors) tree

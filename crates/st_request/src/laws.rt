@@ -18,7 +18,7 @@ pub fn open_files_stay_real()
     ensures start { (tree : Tree) (table : Table) (pid : ℕ) → IsReal tree table → IsReal tree (table_after_start table pid) }
 {}
 
-/// The system that calls are made over has each part that is stored, and otherwise what it had.
+/// The system that calls are made over has each of the given parts, and otherwise what it had.
 pub fn a_system_has_its_parts()
     ensures tree { (system : System) (tree : Tree) (table : Table) (processes : Processes) (memories : Memories) → (system_of system tree table processes memories).tree ≡ tree }
     ensures table { (system : System) (tree : Tree) (table : Table) (processes : Processes) (memories : Memories) → (system_of system tree table processes memories).descriptors ≡ table }

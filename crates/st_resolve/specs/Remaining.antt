@@ -2,7 +2,7 @@
 use Rattle.std.specs.Prelude.{◌<◌, List, [], ◌∷◌, ◌++◌, length, All}
 use Rattle.st_names.specs.Name.{Components}
 
--- the components of some texts, those of the last one first
+-- the components of these texts, those of the last text first
 abbrev pub joined : List Components → Components
 joined [] = []
 joined (text ∷ texts) = joined texts ++ text

@@ -22,7 +22,7 @@ abbrev pub walk_unless : Option Errno → Components → Components → ℕ → 
 walk_unless None done left links lookups follow = walk_on done left links lookups follow
 walk_unless (Some errno) done left links lookups follow = Fault errno
 
--- where the walk gets by what is seen from here on
+-- the state that the walk reaches by what is seen from here on
 abbrev pub walk_from : Walk → List SeenText → WalkState
 walk_from walk lookups = walk_unless walk.fault walk.done walk.left walk.links lookups walk.follow
 

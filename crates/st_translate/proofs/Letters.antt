@@ -11,7 +11,7 @@ use Rattle.st_base.specs.declared.errno.Errno.TheVariants.{ENAMETOOLONG}
 use Rattle.st_model.specs.Spelling.{Spelled, Text, Fault, bytes_of_words, is_zero, next_word, spell_text, text_before_zero}
 use Rattle.st_translate.specs.Bytes.{bytes_at, is_letter, letter_count, next_word_byte}
 
--- ---- how many they are
+-- ---- how many bytes come before the first zero byte
 
 letters-take : (m : ℕ) (xs : List ℕ) → prefix_len is_letter (take m xs) ≡ min m (prefix_len is_letter xs)
 letters-take zero xs = omega arith

@@ -4,7 +4,7 @@ use Rattle.std.specs.List.{prefix_len, take_while, list_any}
 use Rattle.std.specs.Int.{w64, to_le_bytes}
 use Rattle.st_model.specs.Spelling.{is_zero}
 
--- whether a byte belongs to a text
+-- whether a byte belongs to a text: it isn't zero
 abbrev pub is_letter : ℕ → Bool
 is_letter byte = not (is_zero byte)
 
