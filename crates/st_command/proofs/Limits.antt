@@ -1,4 +1,4 @@
--- What is read keeps the limits.
+-- Commands that are read keep to the limits.
 use Rattle.std.proofs.Common.{◌≡◌, suc, ◌≤◌, List, [], ◌∷◌, length, Option, Some, None, refl, ap, sym, ◌∙◌, subst, arith, unwrap_or}
 use Rattle.std.proofs.Math.Numerals.{one-add}
 use Rattle.std.specs.Prelude.{IfSome}

@@ -1,4 +1,4 @@
--- Numbers on the command line: a word spells one exactly where it is its decimal digits.
+-- Numbers on the command line: a word spells a number exactly when it is the number's decimal digits.
 use Rattle.std.proofs.Common.{◌≡◌, ℕ, ◌+◌, ◌^◌, ◌<◌, ◌≤◌, Bool, true, false, ◌&&◌, ◌||◌, ◌==◌, not, if◌then◌else◌, nat_eq, nat_le, [], ◌∷◌, ◌++◌, length, get_or, take, drop, codes, decimal, Option, Some, None, option_and_then, refl, ap, sym, ◌∙◌, subst, arith, leb-true, le-leb, ltb-true, zero, suc, cond}
 use Rattle.std.proofs.Math.Numerals.{one-add}
 use Rattle.std.proofs.Math.Seq.{take-append_seam, drop-append_seam}
@@ -21,7 +21,7 @@ use Rattle.st_command.specs.Words.{Word, decimal_in, most_id, is_no_colon, group
 digits : IsNumeralModel (AllDigits 10) (digits_value 10)
 digits = record { to = λ ds h. h; from = λ ds h. h; same = λ ds h. refl }
 
--- whether digits have no zero in front, or are just a zero
+-- whether digits have no leading zero, or are just a zero
 abbrev is_plain : Word → Bool
 is_plain ds = bytes_eq ds (codes "0") || not (starts_with nat_eq ds (codes "0"))
 
@@ -60,7 +60,7 @@ weaken P Q None f p = tt
 abbrev IsDecimal : ℕ → Word → ℕ → Type 0
 IsDecimal most ds n = (ds ≡ decimal n) × (n ≤ most)
 
--- what is read is the number whose digits these are
+-- the number that is read is the one with these digits
 pub decimal_in-sound : (most : ℕ) (ds : Word) → most < 2 ^ 64 → IfSome (decimal_in most ds) (IsDecimal most ds)
 decimal_in-sound most ds h =
     if_some (IsDecimal most ds) (is_plain ds) (numeral_up_to most 10 ds) (λ plain.
@@ -97,12 +97,12 @@ at_first x xs c rest true e later is =
     sym same ∙ colon
 at_first x xs c rest false e later is = later (subst (λ n. drop n (x ∷ xs) ≡ c ∷ rest) (one-add (prefix_len is_no_colon xs)) is)
 
--- behind the bytes that are no colon stands a colon, or nothing
+-- a colon, or nothing, follows the bytes that are no colon
 at_colon : (word : Word) (c : ℕ) (rest : Word) → drop (prefix_len is_no_colon word) word ≡ c ∷ rest → c ≡ 58
 at_colon [] c rest is = absurd (cc)
 at_colon (x ∷ xs) c rest is = at_first x xs c rest (x == 58) refl (at_colon xs c rest) is
 
--- bytes are a colon and the digits of an id
+-- bytes are a colon and the digits of a group's id
 abbrev IsGroup : Word → ℕ → Type 0
 IsGroup back gid = (back ≡ 58 ∷ decimal gid) × (gid ≤ most_id)
 
@@ -123,7 +123,7 @@ ids_of_parts front back word whole (Some uid) None is_user is_group = tt
 ids_of_parts front back word whole (Some uid) (Some gid) is_user is_group =
     (sym whole ∙ ap (λ ds. ds ++ back) is_user.0 ∙ ap (λ ds. decimal uid ++ ds) is_group.0, omega (arith, is_user.1), omega (arith, is_group.1))
 
--- what is read is the ids whose digits these are
+-- the ids that are read are those with these digits
 pub ids_in-sound : (word : Word) → IfSome (ids_in word) (AreIds word)
 ids_in-sound word =
     let n = prefix_len is_no_colon word in

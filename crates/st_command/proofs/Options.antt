@@ -1,4 +1,4 @@
--- The options at the front of words are those whose words they are.
+-- The options read at the beginning of words are those that the words spell.
 use Rattle.std.proofs.Common.{◌≡◌, Bool, true, false, if◌then◌else◌, List, [], ◌∷◌, ◌++◌, codes, decimal, Option, Some, None, option_map, refl, ap, sym, ◌∙◌, append_assoc}
 use Rattle.std.proofs.lemmas.Bool.{false_from_ne_true}
 use Rattle.std.proofs.lemmas.Slice.Eq.{bytes_eq-Decides}
@@ -20,7 +20,7 @@ print_in-word Trace = refl
 print_in-word Schedule = refl
 print_in-word Policy = refl
 
--- what is taken from two words on, by what they are
+-- what is taken from two words on, by the option that the first is alone and the option that both are
 abbrev from_two : Word → Word → List Word → Option GivenOption → Option GivenOption → Taken
 from_two word value words o p =
     elim o [
@@ -31,11 +31,11 @@ from_two word value words o p =
       ]
     ]
 
--- and from one word
+-- what is taken from the last word, by the option that it is alone
 abbrev from_one_word : Word → Option GivenOption → Taken
 from_one_word word o = elim o [ Some option ↦ with_option option (none_taken []) | None ↦ none_taken (word ∷ []) ]
 
--- one more word behind an option that stands alone
+-- one more word after an option without a value
 alone_more : (word : Word) (words : List Word) (option : GivenOption) → alone word ≡ Some option → options_in (word ∷ words) ≡ with_option option (options_in words)
 alone_more word [] option is = ap (from_one_word word) is
 alone_more word (value ∷ words) option is = ap (λ o. from_two word value words o (valued word value)) is
@@ -61,7 +61,7 @@ spelled_first (WorkersAre count) words within =
 spelled_first (PrintIs print) words within =
     valued_more (codes "--print") (print_word print) words (PrintIs print) refl (ap (option_map PrintIs) (print_in-word print))
 
--- options in front of what is taken
+-- options added before what is taken
 abbrev pub with_options : List GivenOption → Taken → Taken
 with_options given taken = record { given = given ++ taken.given; rest = taken.rest }
 
@@ -73,12 +73,12 @@ all_spelled_first (option ∷ given) words within =
     spelled_first option (all_spelled given ++ words) within.0 ∙
     ap (with_option option) (all_spelled_first given words within.1)
 
--- and behind them no more, at a word without a dash
+-- no options are read after them, at a word without a dash
 append_nil : (given : List GivenOption) → given ++ [] ≡ given
 append_nil [] = refl
 append_nil (option ∷ given) = ap (λ more. option ∷ more) (append_nil given)
 
--- a word without a dash is none that has one
+-- a word without a dash differs from a word that has one
 unlike : (word known : Word) → has_dash word ≡ false → has_dash known ≡ true → bytes_eq word known ≡ false
 unlike word known without with = false_from_ne_true (bytes_eq word known) (λ same.
     let e : has_dash word ≡ has_dash known = ap has_dash ((bytes_eq-Decides word known).0 same) in
@@ -92,7 +92,7 @@ valued_none : (word value : Word) → has_dash word ≡ false → valued word va
 valued_none word value h =
     rw (unlike word (codes "-f") h refl, unlike word (codes "-c") h refl, unlike word (codes "-w") h refl, unlike word (codes "--print") h refl) refl
 
--- at a word without a dash there are no more options
+-- no option begins with a word without a dash
 pub no_option_first : (word : Word) (words : List Word) → has_dash word ≡ false → options_in (word ∷ words) ≡ none_taken (word ∷ words)
 no_option_first word [] h = ap (from_one_word word) (alone_none word h)
 no_option_first word (value ∷ words) h =
@@ -151,7 +151,7 @@ valued_sound word value =
     pick P (bytes_eq word (codes "--print")) _ _ (λ same. if_mapped PrintIs (λ print. print_word print ≡ value) P (print_in value)
     (λ print is. (two (codes "--print") word _ value (same_word word (codes "--print") same) is, tt)) (print_sound value)) tt)))
 
--- words are those of the options that were taken, and the rest
+-- words are those of the options that were taken, followed by the rest
 pub record WereTaken (words : List Word) (taken : Taken) : Type 0 where
   pub words_are : words ≡ all_spelled taken.given ++ taken.rest
   pub within : AreWithin taken.given
@@ -192,7 +192,7 @@ options_were_taken (word ∷ value ∷ words) =
 
 -- ---- option by option
 
--- what is left behind the first option, or all where there is none
+-- what is taken after the first option, or nothing if there is none
 abbrev pub behind_next : Option (GivenOption × List Word) → List Word → Taken
 behind_next (Some next) words = with_option next.0 (options_in next.1)
 behind_next None words = none_taken words

@@ -1,4 +1,4 @@
--- What commands are asked to do.
+-- What the commands `step` and `check` are asked to do.
 use Rattle.std.specs.Prelude.{ℕ, Bool, true, false, not, ◌&&◌, nat_le, nat_lt, ◌==◌, if◌then◌else◌, List, [], ◌∷◌, Option, Some, None, option_map, unwrap_or}
 use Rattle.std.specs.List.{list_all}
 use Rattle.st_law.specs.declared.input.Mode.{Mode}
@@ -11,7 +11,7 @@ use Rattle.st_command.specs.declared.given.Kind.TheVariants as kind
 use Rattle.st_command.specs.declared.given.Print.{Print}
 use Rattle.st_command.specs.declared.given.Print.TheVariants.{Audit}
 
--- what `step` is asked to do: its files by name, the options of its run, and what is printed of it
+-- what `step` is asked to do: the names of its files, the options of its run, and what is printed of the run
 pub record StepWords : Type 0 where
   pub policies : List Word
   pub script : Word
@@ -19,7 +19,7 @@ pub record StepWords : Type 0 where
   pub options : Options
   pub print : Print
 
--- what `check` is asked to do: its files by name, and the ids of `-c`
+-- what `check` is asked to do: the names of its files, and the ids of `-c`
 pub record CheckWords : Type 0 where
   pub policy : Word
   pub script : Option Word
@@ -55,7 +55,7 @@ print_of [] = None
 print_of (PrintIs print ∷ options) = Some print
 print_of (_ ∷ options) = print_of options
 
--- what a run is asked to be: without a mode it denies what no filter decides, and it has one worker unless it is told
+-- the options of a run: without a mode it denies what no filter decides, and it has one worker unless an option says otherwise
 abbrev pub options_of : List GivenOption → Options
 options_of given = record {
   mode = unwrap_or (mode_of given) Enforce;
@@ -65,7 +65,7 @@ options_of given = record {
   workers = unwrap_or (workers_of given) 1;
 }
 
--- what `step` is asked to do by these options and operands; the audit is printed unless it is told
+-- what `step` is asked to do by these options and operands; the audit is printed unless an option says otherwise
 abbrev pub step_of : List GivenOption → Word → Word → StepWords
 step_of given script schedule = record {
   policies = policies_of given;
@@ -75,7 +75,7 @@ step_of given script schedule = record {
   print = unwrap_or (print_of given) Audit;
 }
 
--- ---- the words behind the command's name
+-- ---- the words after the command's name
 
 -- the kinds of options that may be given once
 abbrev pub single_kinds : List Kind
@@ -85,13 +85,13 @@ single_kinds = kind.Mode ∷ kind.Inherit ∷ kind.Unaliased ∷ kind.Ids ∷ ki
 abbrev pub may_be_given : List GivenOption → Bool
 may_be_given given = nat_le (count_of kind.Policy given) 8 && list_all (λ kind. nat_le (count_of kind given) 1) single_kinds
 
--- what `step` is asked to do by the words behind its options
+-- what `step` is asked to do by the words after its options
 abbrev pub step_with : List GivenOption → List Word → Option StepWords
 step_with given (script ∷ schedule ∷ []) =
     if not (has_dash script) && (not (has_dash schedule) && may_be_given given) then Some (step_of given script schedule) else None
 step_with given _ = None
 
--- what `step` is asked to do by its options and the words behind them
+-- what `step` is asked to do by its options and the words after them
 abbrev pub step_in : Taken → Option StepWords
 step_in taken = step_with taken.given taken.rest
 
@@ -101,17 +101,17 @@ check_ids [] = Some None
 check_ids (option ∷ []) = option_map Some (ids_of (option ∷ []))
 check_ids _ = None
 
--- what `check` is asked to do with these ids by the words behind its options
+-- what `check` is asked to do with these ids by the words after its options
 abbrev pub check_with : Option (ℕ × ℕ) → List Word → Option CheckWords
 check_with ids (policy ∷ []) = if not (has_dash policy) then Some (record { policy = policy; script = None; ids = ids }) else None
 check_with ids (policy ∷ script ∷ []) =
     if not (has_dash policy) && not (has_dash script) then Some (record { policy = policy; script = Some script; ids = ids }) else None
 check_with ids _ = None
 
--- what `check` is asked to do by its options and the words behind them
+-- what `check` is asked to do by its options and the words after them
 abbrev pub check_in : Taken → Option CheckWords
 check_in taken = elim (check_ids taken.given) [ Some ids ↦ check_with ids taken.rest | None ↦ None ]
 
--- the options that the script of `check` is read with: but for the ids those of no words
+-- the options that the script of `check` is read with: the defaults, except for the ids
 abbrev pub check_options : CheckWords → Options
 check_options check = record { mode = Enforce; inherit = false; aliasing = true; ids = check.ids; workers = 1 }

@@ -1,4 +1,4 @@
--- Options as they are given, one behind the other.
+-- Options as they are given, one after the other.
 use Rattle.std.specs.Prelude.{ℕ, ◌+◌, ◌<◌, ◌≤◌, Bool, true, false, if◌then◌else◌, List, [], ◌∷◌, ◌++◌, codes, decimal, ◌^◌, Option, Some, None, option_map}
 use Rattle.std.specs.Str.{bytes_eq}
 use Rattle.st_law.specs.declared.input.Mode.{Mode}
@@ -53,7 +53,7 @@ IsWithin (IdsAre uid gid) = (uid < 2 ^ 32) × (gid < 2 ^ 32)
 IsWithin (WorkersAre count) = (1 ≤ count) × (count ≤ 8)
 IsWithin _ = Unit {0}
 
--- each of some options is
+-- the values of all these options are within their bounds
 abbrev pub AreWithin : List GivenOption → Type 0
 AreWithin [] = Unit {0}
 AreWithin (option ∷ options) = IsWithin option × AreWithin options
@@ -76,9 +76,9 @@ abbrev pub count_of : Kind → List GivenOption → ℕ
 count_of kind [] = 0
 count_of kind (option ∷ options) = (if is_of kind option then 1 else 0) + count_of kind options
 
--- ---- the options at the front of words
+-- ---- the options at the beginning of words
 
--- the option that stands alone as this word
+-- the option that this word is without a value
 abbrev pub alone : Word → Option GivenOption
 alone word =
     if bytes_eq word (codes "-A") then Some (ModeIs Learn)
@@ -88,7 +88,7 @@ alone word =
     else if bytes_eq word (codes "-u") then Some Unaliased
     else None
 
--- what is printed
+-- what is printed, by the word for it
 abbrev pub print_in : Word → Option Print
 print_in word =
     if bytes_eq word (codes "audit") then Some Audit
@@ -97,7 +97,7 @@ print_in word =
     else if bytes_eq word (codes "policy") then Some Policy
     else None
 
--- the option that a word is with its value behind it
+-- the option that this word is with this value
 abbrev pub valued : Word → Word → Option GivenOption
 valued word value =
     if bytes_eq word (codes "-f") then Some (PolicyFile value)
@@ -106,7 +106,7 @@ valued word value =
     else if bytes_eq word (codes "--print") then option_map PrintIs (print_in value)
     else None
 
--- the options at the front of words, and the words behind them
+-- the options at the beginning of words, and the words after them
 pub record Taken : Type 0 where
   pub given : List GivenOption
   pub rest : List Word
@@ -117,7 +117,7 @@ with_option option taken = record { given = option ∷ taken.given; rest = taken
 abbrev pub none_taken : List Word → Taken
 none_taken words = record { given = []; rest = words }
 
--- as many options as there are, one behind the other
+-- all options at the beginning of words, one after the other, and the words after them
 abbrev pub options_in : List Word → Taken
 options_in [] = none_taken []
 options_in (word ∷ []) = elim (alone word) [ Some option ↦ with_option option (none_taken []) | None ↦ none_taken (word ∷ []) ]
@@ -130,7 +130,7 @@ options_in (word ∷ value ∷ words) =
       ]
     ]
 
--- the option that words begin with, and the words behind it
+-- the option that words begin with, and the words after it
 abbrev pub next_option : List Word → Option (GivenOption × List Word)
 next_option [] = None
 next_option (word ∷ []) = option_map (λ option. (option, [])) (alone word)

@@ -11,7 +11,7 @@ use Rattle.st_command.specs.declared.command.Command.TheVariants as command
 use Rattle.st_command.specs.declared.given.Kind.{Kind}
 use Rattle.st_command.specs.declared.given.Kind.TheVariants as kind
 
--- options may be given together: at most 8 policy files, and every other kind of option once
+-- options may be given together: at most 8 policy files, and every other kind of option at most once
 pub record MayBeGiven (given : List GivenOption) : Type 0 where
   pub few_policies : count_of kind.Policy given ≤ 8
   pub once : (k : Kind) → k ≢ kind.Policy → count_of k given ≤ 1
@@ -36,7 +36,7 @@ abbrev pub IdsFit : Option (ℕ × ℕ) → Type 0
 IdsFit None = Unit {0}
 IdsFit (Some ids) = (ids.0 < 2 ^ 32) × (ids.1 < 2 ^ 32)
 
--- the word of an operand that may be left out, and that it is one
+-- the word of an operand that may be left out, if it is given
 abbrev pub maybe_word : Option Word → List Word
 maybe_word None = []
 maybe_word (Some word) = word ∷ []
@@ -45,7 +45,7 @@ abbrev pub MayBeOperand : Option Word → Type 0
 MayBeOperand None = Unit {0}
 MayBeOperand (Some word) = has_dash word ≡ false
 
--- words are `check`, ids or none, a policy, and a script or none
+-- words are `check`, optional ids, a policy, and an optional script
 pub record SpellsCheck (words : List Word) (check : CheckWords) : Type 0 where
   pub ids : IdsFit check.ids
   pub policy : has_dash check.policy ≡ false

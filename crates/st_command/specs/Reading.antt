@@ -1,4 +1,4 @@
--- The command that words spell, found from the left.
+-- The command that words spell, read from left to right.
 use Rattle.std.specs.Prelude.{◌≤◌, if◌then◌else◌, List, [], ◌∷◌, length, codes, Option, None, option_map}
 use Rattle.std.specs.Str.{bytes_eq}
 use Rattle.std.specs.Borrow.{Bor}
@@ -10,24 +10,24 @@ use Rattle.st_command.specs.declared.command.Command.TheVariants as command
 use Rattle.st_command.specs.declared.given.Given.{Given}
 use Rattle.st_command.specs.declared.given.Given.TheVariants as given
 
--- the command of this name that the words behind it spell
+-- the command of this name that the words after the name spell
 abbrev pub command_behind : Word → List Word → Option Command
 command_behind name words =
     if bytes_eq name (codes "check") then option_map command.Check (check_in (options_in words))
     else if bytes_eq name (codes "step") then option_map command.Step (step_in (options_in words))
     else None
 
--- the command that words spell, if they do
+-- the command that words spell, if they spell one
 abbrev pub command_in : List Word → Option Command
 command_in [] = None
 command_in (name ∷ words) = command_behind name words
 
--- the limits that each command keeps that words spell
+-- the limits that every command that words spell keeps to
 abbrev pub IsWithinLimits : Command → Type 0
 IsWithinLimits (command.Step step) = (length step.policies ≤ 8) × (1 ≤ step.options.workers) × (step.options.workers ≤ 8)
 IsWithinLimits (command.Check check) = Unit {0}
 
--- an option of the code, without the address of its word
+-- an option of the code as its abstract value
 abbrev pub shown : Given → GivenOption
 shown (given.Policy name) = PolicyFile name.now
 shown (given.Mode mode) = ModeIs mode
@@ -37,6 +37,6 @@ shown (given.Ids uid gid) = IdsAre uid gid
 shown (given.Workers count) = WorkersAre count
 shown (given.Print print) = PrintIs print
 
--- such an option, and the words behind it
+-- the abstract values of an option of the code and of the words after it
 abbrev pub shown_next : Given × Bor (List Word) → GivenOption × List Word
 shown_next next = (shown next.0, next.1.now)

@@ -12,7 +12,7 @@ Word = List ℕ
 abbrev pub has_dash : Word → Bool
 has_dash word = starts_with nat_eq word (codes "-")
 
--- the number that decimal digits without a zero in front spell, where it is at most this
+-- the number that decimal digits without a leading zero spell, if it is at most this
 abbrev pub decimal_in : ℕ → Word → Option ℕ
 decimal_in most digits =
     if bytes_eq digits (codes "0") || not (starts_with nat_eq digits (codes "0")) then numeral_up_to most 10 digits else None
@@ -25,26 +25,26 @@ most_id = 2 ^ 32 - 1
 abbrev pub is_no_colon : ℕ → Bool
 is_no_colon b = not (b == 58)
 
--- the group behind a colon
+-- the group after a colon
 abbrev pub group_in : Word → Option ℕ
 group_in [] = None
 group_in (colon ∷ group) = decimal_in most_id group
 
--- a user and a group
+-- the user and the group, if there is a group
 abbrev pub ids_with : Option ℕ → ℕ → Option (ℕ × ℕ)
 ids_with None uid = None
 ids_with (Some gid) uid = Some (uid, gid)
 
--- U:G, a user and a group
+-- the user and the group that a word U:G spells
 abbrev pub ids_in : Word → Option (ℕ × ℕ)
 ids_in word =
     option_and_then (ids_with (group_in (drop (prefix_len is_no_colon word) word)))
     (decimal_in most_id (take (prefix_len is_no_colon word) word))
 
--- a number from 1 on
+-- the number, if it is at least 1
 abbrev pub from_one : ℕ → Option ℕ
 from_one n = if nat_le 1 n then Some n else None
 
--- how many workers there are: 1 to 8
+-- the number of workers that a word spells: 1 to 8
 abbrev pub workers_in : Word → Option ℕ
 workers_in word = option_and_then from_one (decimal_in 8 word)

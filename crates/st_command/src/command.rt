@@ -45,7 +45,7 @@ impl<'a> Model for CheckWords<'a> {
 }
 
 impl CheckWords<'_> {
-    /// The options that its script is read with: nothing runs, so but for the ids they are those of no words.
+    /// The options that its script is read with. Nothing runs, so they are the defaults, except for the ids.
     pub fn options(&self) -> Options
         ensures { result ≡ check_options self.now }
     {
@@ -59,7 +59,7 @@ impl CheckWords<'_> {
     }
 }
 
-/// What words ask for.
+/// A command that words spell.
 #[derive(Debug, Drop)]
 pub enum Command<'a> {
     /// `check [-c U:G] POLICY [SCRIPT]`

@@ -12,10 +12,10 @@ use st_base::{Sequence, Text};
 use st_law::{Mode, Options};
 use std::alloc::{AllocError, Global};
 
-/// How many policy files there may be.
+/// The most policy files that may be given.
 pub const MOST_POLICIES: usize = 8;
 
-// The option that words begin with, and the words behind it.
+// The option that words begin with, and the words after it.
 fn next_option<'a>(words: &'a [Text]) -> Option<(Given<'a>, &'a [Text])>
     ensures is { option_map shown_next result ≡ next_option words.now }
     ensures shorter { IfSome result (λ next. length next.1.now < length words.now) }
@@ -29,7 +29,7 @@ fn next_option<'a>(words: &'a [Text]) -> Option<(Given<'a>, &'a [Text])>
     Some((option, behind))
 }
 
-// The options at the front of words, and the words behind them.
+// The options at the beginning of words, and the words after them.
 fn options_in<'a>(
     alloc: Global,
     words: &'a [Text],
@@ -45,7 +45,7 @@ fn options_in<'a>(
     Ok((given, rest))
 }
 
-// Whether options may be given together: at most eight policy files, and each other kind once.
+// Whether options may be given together: at most eight policy files, and each other kind at most once.
 fn may_be_given(given: &[Given<'_>]) -> bool
     ensures { result ≡ may_be_given (map shown given.now) }
 {
@@ -87,7 +87,7 @@ fn step_of<'a>(
     })
 }
 
-// What `step` is asked to do by its options and the words behind them.
+// What `step` is asked to do by its options and the words after them.
 fn step_with<'a>(
     alloc: Global,
     given: &[Given<'a>],
@@ -116,7 +116,7 @@ fn check_ids(given: &[Given<'_>]) -> Option<Option<(u32, u32)>>
     }
 }
 
-// What `check` is asked to do with these ids by the words behind its options.
+// What `check` is asked to do with these ids by the words after its options.
 fn check_with<'a>(ids: Option<(u32, u32)>, operands: &'a [Text]) -> Option<CheckWords<'a>>
     ensures { result ≡ check_with ids operands.now }
 {
@@ -135,7 +135,7 @@ fn check_with<'a>(ids: Option<(u32, u32)>, operands: &'a [Text]) -> Option<Check
     })
 }
 
-// The command of this name that the words behind it spell.
+// The command of this name that the words after the name spell.
 fn command_behind<'a>(
     alloc: Global,
     name: &[u8],
@@ -166,7 +166,7 @@ fn command_in(alloc: Global, words: &[Text]) -> Result<Option<Command<'_>>, Allo
     }
 }
 
-/// The command that words spell; none exactly where they spell none.
+/// The command that words spell, or `None` exactly when they spell none.
 #[tactic(auto, using(crate::proofs::Limits::limits_kept))]
 pub fn read_words(alloc: Global, words: &[Text]) -> Result<Option<Command<'_>>, AllocError>
     ensures is { IfOk result (λ command. command ≡ command_in words.now) }

@@ -11,7 +11,7 @@ pub(crate) fn has_dash(word: &[u8]) -> bool
     word.starts_with(b"-")
 }
 
-// The number that decimal digits without a zero in front spell, where it is at most this.
+// The number that decimal digits without a leading zero spell, if it is at most this.
 fn decimal_in(most: u32, digits: &[u8]) -> Option<u32>
     ensures { result ≡ decimal_in most digits.now }
 {
@@ -23,7 +23,7 @@ fn decimal_in(most: u32, digits: &[u8]) -> Option<u32>
     }
 }
 
-// How many bytes stand before the first colon.
+// The number of bytes before the first colon.
 fn user_len(word: &[u8]) -> usize
     ensures is { result ≡ prefix_len is_no_colon word.now }
     ensures within { result ≤ length word.now }
@@ -31,7 +31,7 @@ fn user_len(word: &[u8]) -> usize
     word.iter().take_while(|byte| **byte != b':').count()
 }
 
-// The group behind a colon.
+// The group after a colon.
 fn group_in(bytes: &[u8]) -> Option<u32>
     ensures { result ≡ group_in bytes.now }
 {
@@ -51,7 +51,7 @@ pub(crate) fn ids_in(word: &[u8]) -> Option<(u32, u32)>
     Some((uid, gid))
 }
 
-/// How many workers a word says: 1 to 8.
+/// The number of workers that a word spells: 1 to 8.
 pub(crate) fn workers_in(word: &[u8]) -> Option<u32>
     ensures { result ≡ workers_in word.now }
 {

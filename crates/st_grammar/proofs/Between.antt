@@ -1,4 +1,4 @@
--- What holds between two tokens of a policy's text.
+-- Invariants of a reading between two tokens of a policy's text.
 use Rattle.std.proofs.Common.{◌≡◌, ℕ, ◌<◌, ◌≤◌, true, List, [], ◌∷◌, ◌++◌, length, take, Ok, refl, subst, ap, sym, ◌∙◌, arith, append_assoc}
 use Rattle.std.proofs.lemmas.List.{take-append-le, take_all}
 use Rattle.st_grammar.proofs.Common.{as_reading, BinaryPolicy, ends_filter, Env, filters_in, first_reading, GrammarState, is_between_rows, is_line, Line, MOST_FILTERS, Place, read_step, Reading, Symbol}
@@ -8,7 +8,7 @@ use Rattle.st_grammar.proofs.Readings.{reading_at}
 use Rattle.st_grammar.proofs.Fronts.{Behind, FilterFront, Facts}
 use Rattle.st_grammar.proofs.Sound.{Stands, StandsAfter, stands-step, first-stands}
 
--- some symbols lead to a reading
+-- some symbols lead to this reading
 pub record IsReached (env : Env) (old : List BinaryPolicy) (r : Reading) : Type 0 where
   pub done : List Symbol
   pub stands : Stands env old done r
@@ -29,9 +29,9 @@ blank_at env at w set p e = absurd (cc)
 pub blank_line : (env : Env) (at : ℕ) (w : GrammarState) (set : List BinaryPolicy) (s : Symbol) (p : Place) → is_line s ≡ true → p ≡ w.place → is_between_rows p ≡ true → read_step env (as_reading w set) at s ≡ Ok (as_reading w set)
 blank_line env at w set s p line here between = ap (read_step env (as_reading w set) at) (line-symbol s line) ∙ blank_at env at w set w.place (ap is_between_rows (sym here) ∙ between)
 
--- ---- what was read before is still in front
+-- ---- the earlier policies stay a prefix of the set
 
--- these policies stand behind those that were read before
+-- the policies that were read before are a prefix of this set
 record IsKept (old set : List BinaryPolicy) : Type 0 where
   own : List BinaryPolicy
   set_is : set ≡ old ++ own
@@ -92,6 +92,6 @@ old_is_kept env old r h =
     let front : take (length old) (old ++ k.own) ≡ take (length old) old = take-append-le (length old) old k.own (omega arith) in
     ap (take (length old)) k.set_is ∙ front ∙ take_all (length old) old (omega arith)
 
--- where a filter ends there is room for it
+-- at a place where a filter may end, there is room for it
 pub has_room : (env : Env) (old : List BinaryPolicy) (r : Reading) → IsReached env old r → ends_filter r.walk.place ≡ true → filters_in r.set < MOST_FILTERS
 has_room env old r h e = room-at env old h.stands.rows h.stands.front r.walk r.set r.walk.place h.stands.facts e

@@ -13,11 +13,11 @@ line-symbol Line e = refl
 line-symbol s e = absurd (cc)
 
 module _ (env : Env) (w : GrammarState) (set : List BinaryPolicy) (at : ℕ) where
-  -- what is no action is an operand at the front of a clause too
+  -- a symbol that begins no action is read as an operand at the beginning of a clause too
   pub clause-operand : (s : Symbol) → is_action s ≡ false → read_step env (reading_at place.Clause w set) at s ≡ read_step env (reading_at place.Operand w set) at s
   clause-operand s e = rw e refl
 
-  -- behind a user, or behind `deny`, may stand what may stand behind an action
+  -- after a user, and after `deny`, what may follow an action may follow
   pub user-tail : (log : Bool) (s : Symbol) → is_colon s ≡ false → read_step env (reading_at (place.User log) w set) at s ≡ read_step env (reading_at (place.Tail false log) w set) at s
   user-tail log Colon e = absurd (cc)
   user-tail log s e = refl

@@ -1,4 +1,4 @@
--- The names that most proofs of the language cite, passed on from one place. Declares nothing.
+-- Re-exports the names that most proofs of the language cite. Declares nothing.
 pub use Rattle.st_base.specs.Errno.{error_named}
 pub use Rattle.st_base.specs.declared.errno.Errno.{Errno}
 pub use Rattle.st_base.specs.declared.errno.Errno.TheVariants.{EPERM}

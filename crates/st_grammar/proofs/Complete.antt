@@ -1,4 +1,4 @@
--- What the grammar says is read.
+-- Completeness: a text that the grammar gives a reading is read so.
 use Rattle.std.proofs.Common.{◌≡◌, ◌↔◌, ℕ, ◌+◌, ◌≤◌, Bool, true, false, List, [], ◌∷◌, ◌++◌, length, map, Option, None, Ok, Err, refl, ap, sym, subst, ◌∙◌, arith, append_assoc, append-nil}
 use Rattle.st_grammar.proofs.Common.{add_filter, AreNew, AreRows, BinaryPolicy, Blank, Env, fault_in, fault_of, FilterRow, filters_in, FilterValue, first_reading, GrammarState, has_policy, Header, IsFilter, IsHeader, lexed_text, LexFault, Line, MOST_FILTERS, NoRow, or_refused, Place, read_from, read_step, Reading, reading_of, Reads, Refusable, Symbol, symbol_of, symbols_in, Token, with_filter}
 use Rattle.st_grammar.specs.declared.place.Place.TheVariants as place
@@ -15,7 +15,7 @@ abbrev pub is_below : List BinaryPolicy → Bool
 is_below [] = false
 is_below (p ∷ ps) = true
 
--- policies that were read behind these
+-- a reading at the beginning of a row, with these policies after the earlier ones
 abbrev pub AtRows : List BinaryPolicy → List BinaryPolicy → Reading → Type 0
 AtRows old ps = At (row_place (is_below ps)) (old ++ ps) (HasFilters (filters_in (old ++ ps)))
 
@@ -76,7 +76,7 @@ module _ (env : Env) (old : List BinaryPolicy) where
 abbrev pub placed : List ℕ → List Token → List Placed
 placed text ts = map (λ t. record { at = t.at; symbol = symbol_of text t }) ts
 
--- the tokens of a text, and its end
+-- the tokens of a text with their places, and its end
 abbrev pub ended : List ℕ → List Token → List Placed
 ended text ts = placed text ts ++ record { at = length text; symbol = Line } ∷ []
 
@@ -103,13 +103,13 @@ first-rows old =
     subst (λ (xs : List BinaryPolicy). At place.Start xs (HasFilters (filters_in xs)) (first_reading old)) (sym (append-nil old))
     (stands (first_reading old).walk (record { filters_are = refl }))
 
--- the symbols of a text that is read lead to its policies, wherever they stand
+-- the symbols of a text that is read lead to its policies, at any offsets
 pub rows-read : (text : List ℕ) (env : Env) (old set : List BinaryPolicy) (h : Reads text env old set) (zs : List Placed) → symbols zs ≡ symbols_in text ++ Line ∷ [] → Leads env (first_reading old) zs (AtRows old h.policies)
 rows-read text env old set h zs e =
     let few : filters_in (old ++ h.policies) ≤ MOST_FILTERS = subst (λ (ps : List BinaryPolicy). filters_in ps ≤ MOST_FILTERS) h.set_is h.few in
     (passes-rows env old h.rows h.new few).pass zs e (first_reading old) (first-rows old)
 
--- what the grammar says is read
+-- a text that the grammar gives a reading is read so
 pub reading-is_complete : (text : List ℕ) (env : Env) (old set : List BinaryPolicy) → Reads text env old set → (r : Reading) × (reading_of text env old ≡ Ok r) × (r.set ≡ set)
 reading-is_complete text env old set h =
     let ts : List Token = (lexed_text text).tokens in
@@ -121,7 +121,7 @@ reading-is_complete text env old set h =
 pub reads-iff : (text : List ℕ) (env : Env) (old set : List BinaryPolicy) → filters_in old ≤ MOST_FILTERS → Reads text env old set ↔ ((r : Reading) × (reading_of text env old ≡ Ok r) × (r.set ≡ set))
 reads-iff text env old set few = (reading-is_complete text env old set, λ h. subst (Reads text env old) h.2 (reading-is_sound text env old h.0 few h.1))
 
--- a text is read as one set at most
+-- a text is read as at most one set
 pub reads-once : (text : List ℕ) (env : Env) (old a b : List BinaryPolicy) → Reads text env old a → Reads text env old b → a ≡ b
 reads-once text env old a b p q =
     let x : (r : Reading) × (reading_of text env old ≡ Ok r) × (r.set ≡ a) = reading-is_complete text env old a p in
@@ -135,13 +135,13 @@ no-error : (x : Refusable) → fault_of x ≡ None → (r : Reading) × (x ≡ O
 no-error (Ok r) e = (r, refl)
 no-error (Err refusal) e = absurd (cc)
 
--- where there is no fault a set is read
+-- if there is no fault, a set is read
 pub faultless-reads : (text : List ℕ) (env : Env) (old : List BinaryPolicy) → filters_in old ≤ MOST_FILTERS → fault_in text env old ≡ None → (set : List BinaryPolicy) × Reads text env old set
 faultless-reads text env old few e =
     let x : (r : Reading) × (reading_of text env old ≡ Ok r) = no-error (reading_of text env old) e in
     (x.0.set, reading-is_sound text env old x.0 few x.1)
 
--- where a set is read there is no fault
+-- if a set is read, there is no fault
 pub reads-faultless : (text : List ℕ) (env : Env) (old set : List BinaryPolicy) → Reads text env old set → fault_in text env old ≡ None
 reads-faultless text env old set h =
     let x : (r : Reading) × (reading_of text env old ≡ Ok r) × (r.set ≡ set) = reading-is_complete text env old set h in

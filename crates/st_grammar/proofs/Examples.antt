@@ -1,4 +1,4 @@
--- Texts that the definitions read as they should.
+-- Texts that the definitions read as expected.
 use Rattle.std.proofs.Common.{◌≡◌, ℕ, List, [], ◌∷◌, ◌++◌, None, Some, Ok, true, false, refl, codes}
 use Rattle.st_grammar.proofs.Common.{And, Call, Deny, DuplicatePolicy, ElevateOnSetId, ElevateWithoutIds, Env, fault_in, FilterValue, FsRead, Lex, Not, NotSupported, Or, Permit, policies_in, refusal_in, Test, True}
 use Rattle.st_grammar.specs.declared.place.Place.TheVariants as place

@@ -1,4 +1,4 @@
--- What spells an expression is read as that expression.
+-- Symbols that spell an expression are read as that expression.
 use Rattle.std.proofs.Common.{◌≡◌, ℕ, ◌+◌, ◌-◌, ◌≤◌, true, false, nat_lt, List, [], ◌∷◌, ◌++◌, None, Some, codes, sum_by, refl, ap, subst, ◌∙◌, arith}
 use Rattle.std.proofs.lemmas.Bool.{lt-ltb}
 use Rattle.st_grammar.proofs.Common.{Always, And, BinaryPolicy, Both, Close, close_either, close_group, CloseBracket, completed, Conjunction, Disjunction, Either, Env, FilterName, filter_of, FilterValue, First, Formula, GrammarState, Grouped, index_in, Indexed, is_join, is_label, joins_both, joins_either, Level, may_test, most_joins, Negated, OneConjunction, OneOperand, Op, op_named, Open, OpenBracket, Operand, PendingOperand, Permit, Quoted, Reading, Reduced, reduced, settle, Spells, Symbol, Test, True, unquoted, waits, without_either, Word}
@@ -15,7 +15,7 @@ pub record Kept : Type 0 where
   pub filters : ℕ
   pub set : List BinaryPolicy
 
--- a filter of this name and expression, of which nothing else is read
+-- a filter with this name and expression, of which nothing else is read yet
 abbrev pub blank : FilterName → Formula → FilterValue
 blank name f = record { name = name; formula = f; action = Permit; grant = None; log = false; predicate = None }
 
@@ -53,7 +53,7 @@ module _ (env : Env) (k : Kept) (s : List PendingOperand) (parens n : ℕ) where
 
   -- ---- tests
 
-  -- the argument that a test looks at
+  -- the argument that a test is of
   record IsArgumentOf (Front : Type 0) (label : List ℕ) (index : ℕ) (read : List ℕ) (i : ℕ) : Type 0 where
     front : Front
     label_is : read ≡ label
@@ -75,7 +75,7 @@ module _ (env : Env) (k : Kept) (s : List PendingOperand) (parens n : ℕ) where
     holds = record { front = h; label_is = refl; index_is = refl };
   })
 
-  -- the operator behind a label without an index
+  -- the operator after a label without an index
   step-first : (label op : List ℕ) (o : Op) → may_test k.name label 0 ≡ true → op_named op ≡ Some o → Step1 env (At place.Label k.set (IsArgument label 0)) (Word op) (At place.Text k.set (IsTest label 0 o))
   step-first label op o a e = goes (λ at w h. record { walk = record w { op = o }; step = let m = allowed w label 0 h.front h.label_is a in rw (m, e) refl; holds = (h, refl) })
 
@@ -152,7 +152,7 @@ step-close env k s parens n e f c = goes (λ at w h. record {
 
 -- ---- expressions
 
--- where a conjunction may begin: nothing waits that binds closer
+-- where a conjunction may begin: no pending operand binds closer
 abbrev pub BindsLooser : List PendingOperand → Type 0
 BindsLooser s = (f : Formula) → settle s f ≡ reduced s f
 
@@ -169,7 +169,7 @@ base-close : {s : List PendingOperand} → IsBase s → (f : Formula) → close_
 base-close Outermost f = refl
 base-close Inside f = refl
 
--- a joint where a whole expression may end: what is left to close gives it
+-- a place after an operand where a whole expression may end: closing the pending operands gives the expression
 pub data AtEnd (k : Kept) (s : List PendingOperand) (f : Formula) (parens n : ℕ) : Reading → Type 0 where
   ends : {r : Reading} (e : Reduced) → without_either e ≡ reduced s f → AtJoint k e parens n r → AtEnd k s f parens n r
 

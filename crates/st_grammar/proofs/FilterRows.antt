@@ -1,4 +1,4 @@
--- What spells a row is read as that row.
+-- Symbols that spell a row are read as that row.
 use Rattle.std.proofs.Common.{◌≡◌, ℕ, ◌+◌, ◌≤◌, Bool, true, false, ◌==◌, nat_lt, List, [], ◌∷◌, ◌++◌, Option, Some, Ok, codes, sum_by, refl, ap, sym, subst, ◌∙◌, arith, append_assoc}
 use Rattle.std.specs.Str.{bytes_eq}
 use Rattle.std.specs.List.{list_any}
@@ -14,7 +14,7 @@ use Rattle.st_grammar.proofs.Policies.{any-binaries, fresh_policy}
 
 -- ---- conditions
 
--- symbols of which the first is no action
+-- symbols of which the first begins no action
 record Beginning (ts : List Symbol) : Type 0 where
   first : Symbol
   rest : List Symbol
@@ -91,7 +91,7 @@ module _ (env : Env) (set : List BinaryPolicy) (n : ℕ) where
         holds = record { fresh = ap (λ (n : ℕ). fresh place.NameColon (n + 1) name) h.filters_are };
       })
 
-  -- a filter's row adds it
+  -- a filter's row adds the filter
   pub passes-filter : (row : List Symbol) (f : FilterValue) → IsFilter env row f → n + 1 ≤ MOST_FILTERS → Passes env (At place.Row set (HasFilters n)) (row ++ Line ∷ []) (At place.Row (add_filter set f) (HasFilters (n + 1)))
   passes-filter row f h few =
       let k : Kept = record { name = f.name; filters = n + 1; set = set } in
@@ -104,7 +104,7 @@ module _ (env : Env) (set : List BinaryPolicy) (n : ℕ) where
 
 -- ---- headers
 
--- before the first header, and below one
+-- the place before the first header, and the place after a header
 abbrev pub row_place : Bool → Place
 row_place true = place.Row
 row_place false = place.Start

@@ -1,4 +1,4 @@
--- What spells a predicate, and what spells an action and what follows it, is read so.
+-- Symbols that spell a predicate, or an action and what follows it, are read so.
 use Rattle.std.proofs.Common.{◌≡◌, ℕ, Bool, true, false, List, [], ◌∷◌, ◌++◌, Option, None, Some, option_map, Ok, codes, refl, ap, sym, subst, ◌∙◌, append_assoc}
 use Rattle.st_grammar.proofs.Common.{Action, add_filter, Ask, Asks, Cmp, Colon, Comma, comparison, Denies, DeniesWith, Deny, Env, EPERM, filter_of, FilterName, FilterValue, Formula, fresh, GrammarState, Grant, Grants, GrantsAndLogs, grants, id_in, If, is_colon, IsAction, IsGrant, IsPredicate, IsTail, Line, Logs, LogsAndGrants, MayGrant, names_for, OfBoth, OfGroup, OfUser, Permit, Permits, Place, Plain, Predicate, read_step, Reading, sets_ids, Symbol, Who, Whoever, with_group, Word}
 use Rattle.st_grammar.specs.declared.place.Place.TheVariants as place
@@ -6,11 +6,11 @@ use Rattle.st_grammar.proofs.Readings.{Step1, Passes, passes-one, passes-step, p
 use Rattle.st_grammar.proofs.Expressions.{Kept, blank}
 use Rattle.st_grammar.proofs.Clauses.{user-tail, denial-tail, is_open_bracket}
 
--- so many filters are read
+-- this many filters are read
 pub record HasFilters (n : ℕ) (w : GrammarState) : Type 0 where
   pub filters_are : w.filters ≡ n
 
--- so many filters are read, and the last is this one so far
+-- this many filters are read, and the last is this filter so far
 pub record IsFilterSo (n : ℕ) (v : FilterValue) (w : GrammarState) : Type 0 where
   pub filters_are : w.filters ≡ n
   pub filter_is : filter_of w ≡ v
@@ -22,12 +22,12 @@ AtFilter k p v = At p k.set (IsFilterSo k.filters v)
 abbrev pub AtAdded : Kept → FilterValue → Reading → Type 0
 AtAdded k v = At place.Row (add_filter k.set v) (HasFilters k.filters)
 
--- behind `then`, and where no expression is, at the front of a clause
+-- the place after `then`, or, without an expression, at the beginning of a clause
 abbrev pub action_place : Bool → Place
 action_place true = place.Action
 action_place false = place.Clause
 
--- ---- what is left of a filter
+-- ---- the rest of a filter
 
 module _ (env : Env) (k : Kept) where
   -- the end of a row adds the filter that was read
@@ -82,7 +82,7 @@ module _ (env : Env) (k : Kept) where
       Step1 env (AtFilter k (place.Group log) (record v { grant = Some (record { user = user; group = None }) })) (Word group) (AtFilter k (place.Tail false log) (record v { grant = Some (record { user = user; group = Some g }) }))
   step-group v log user group g e = goes (λ at w h. record { walk = record w { grant = option_map (with_group g) w.grant }; step = rw e refl; holds = record { filters_are = h.filters_are; filter_is = ap (λ (v : FilterValue). record v { grant = option_map (with_group g) v.grant }) h.filter_is } })
 
-  -- symbols whose first is none that goes on with a user or with `deny`
+  -- symbols whose first doesn't continue a user or `deny`
   record Opening (ts : List Symbol) : Type 0 where
     first : Symbol
     rest : List Symbol
@@ -104,7 +104,7 @@ module _ (env : Env) (k : Kept) where
   tail-opening (GrantsAndLogs {ts} m p) us o = opening (Word (codes "as")) ((ts ++ Word (codes "log") ∷ []) ++ us) refl refl
   tail-opening (LogsAndGrants {ts} m p) us o = opening (Word (codes "log")) (Word (codes "as") ∷ (ts ++ us)) refl refl
 
-  -- behind a user, and behind `deny`, such symbols are read as behind an action
+  -- after a user, and after `deny`, such symbols are read as after an action
   passes-user : (v : FilterValue) (log : Bool) (Q : Reading → Type 0) (us : List Symbol) → Opening us → Passes env (AtFilter k (place.Tail false log) v) us Q → Passes env (AtFilter k (place.User log) v) us Q
   passes-user v log Q us o p = subst (λ (us : List Symbol). Passes env (AtFilter k (place.User log) v) us Q) (sym o.parts)
       (passes-alike alike (subst (λ (us : List Symbol). Passes env (AtFilter k (place.Tail false log) v) us Q) o.parts p)) where

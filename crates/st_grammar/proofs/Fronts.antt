@@ -8,11 +8,11 @@ use Rattle.st_grammar.proofs.Readings.{Read}
 use Rattle.st_grammar.proofs.Expressions.{blank}
 use Rattle.st_grammar.proofs.Stacks.{Opens, Ends, groups}
 
--- a filter of which nothing is read behind its name
+-- a filter of which nothing is read after its name
 abbrev pub IsFirst : GrammarState → Type 0
 IsFirst w = record w { place = place.Start } ≡ fresh place.Start w.filters w.name
 
--- a filter of which its name, expression and action are read at most
+-- a filter of which at most its name, expression and action are read
 abbrev pub IsPlain : GrammarState → Type 0
 IsPlain w = record (filter_of w) { formula = True; action = Permit } ≡ blank w.name True
 
@@ -41,7 +41,7 @@ pub record HeaderFront (env : Env) (old : List BinaryPolicy) (rows front more : 
   pub filters_are : filters ≡ filters_in set
   pub few : filters ≤ MOST_FILTERS
 
--- rows of which the last header's policy takes filters
+-- rows after a header, whose policy takes filters
 pub record Behind (env : Env) (old : List BinaryPolicy) (rows : List Symbol) (set : List BinaryPolicy) : Type 0 where
   pub before : List BinaryPolicy
   pub last : BinaryPolicy
@@ -76,7 +76,7 @@ pub record FilterFront (env : Env) (old : List BinaryPolicy) (rows front : List 
   pub name_is : filter_name spelled ≡ Some name
   pub rest : P us
 
--- symbols of which some are of one kind, and those behind them of another
+-- symbols of which the first are of one kind, and those after them of another
 pub record Parts (P Q : List Symbol → Type 0) (us : List Symbol) : Type 0 where
   pub front : List Symbol
   pub back : List Symbol
@@ -84,7 +84,7 @@ pub record Parts (P Q : List Symbol → Type 0) (us : List Symbol) : Type 0 wher
   pub first : P front
   pub rest : Q back
 
--- with no symbol, and where nothing is read
+-- no symbol, if nothing is read yet
 abbrev pub FirstFront : GrammarState → List Symbol → Type 0
 FirstFront w us = (us ≡ []) × IsFirst w
 
@@ -99,7 +99,7 @@ pub record TestFront (P : List Symbol → Type 0) (begun : List Symbol) : Type 0
   pub none : sum_by is_join begun ≡ 0
   pub rest : P begun
 
--- with an operator and a text it is a test of this argument
+-- with an operator and a text the symbols are a test of this argument
 abbrev pub EndsByOp : Env → FilterName → List ℕ → ℕ → List Symbol → Type 0
 EndsByOp env name label index begun = (op source : List ℕ) (o : Op) → op_named op ≡ Some o →
     Spells env name Operand (begun ++ Word op ∷ Quoted source ∷ []) (Test label index o (unquoted env.dollars source))
@@ -138,7 +138,7 @@ pub record ErrorFront (action : Action) (begun : List Symbol) : Type 0 where
   pub errno_is : error_named word ≡ Some errno
   pub action_is : action ≡ Deny errno
 
--- `log` before `as`, unless it may still come
+-- `log` before `as`, unless `log` may still come
 abbrev pub logged : Bool → List Symbol
 logged true = []
 logged false = Word (codes "log") ∷ []
@@ -155,7 +155,7 @@ pub record TailFront (env : Env) (name : FilterName) (may_grant may_log : Bool) 
   pub logging : may_log ≡ true → IsTail env name action (begun ++ Word (codes "log") ∷ []) grant true
   pub no_predicate : predicate ≡ None
 
--- with ids these symbols are what may stand behind an action
+-- with ids these symbols may follow an action
 abbrev pub EndsByGrant : Env → GrammarState → Bool → List Symbol → Type 0
 EndsByGrant env w log begun = (ts : List Symbol) (g : Grant) → IsGrant env ts g → TailFront env w.name false log w.action (Some g) w.log w.predicate (begun ++ ts)
 
@@ -191,7 +191,7 @@ pub record ComparedFront (who : Who) (cmp : Cmp) (begun : List Symbol) : Type 0 
 abbrev pub Filtered : Env → List BinaryPolicy → List Symbol → List Symbol → GrammarState → List BinaryPolicy → (List Symbol → Type 0) → Type 0
 Filtered env old rows front w set P = FilterFront env old rows front w.filters w.name set P
 
--- what waits, and a test that has begun
+-- the pending operands, and a test that has begun
 abbrev pub Tested : Env → GrammarState → (List Symbol → Type 0) → List Symbol → Type 0
 Tested env w P = Parts (OperandFront env w.name w.expression.pending w.parens w.joins) (TestFront P)
 
@@ -203,7 +203,7 @@ Conditioned env w P = Parts (λ ts. IsCondition env w.name ts w.expression.formu
 abbrev pub Acted : Env → GrammarState → (List Symbol → Type 0) → List Symbol → Type 0
 Acted env w P = Conditioned env w (Parts (λ ts. IsAction env ts w.action) P)
 
--- all before a predicate, and what is read of that
+-- all before a predicate, and the part of the predicate that is read
 abbrev pub Tailed : Env → GrammarState → (List Symbol → Type 0) → List Symbol → Type 0
 Tailed env w P = Acted env w (Parts (λ ts. IsTail env w.name w.action ts w.grant w.log) P)
 
@@ -241,14 +241,14 @@ Facts env old rows front (place.Comparison who) w set = (w.predicate ≡ None) �
 Facts env old rows front (place.Id who) w set = (w.predicate ≡ None) × Filtered env old rows front w set (Tailed env w (ComparedFront who w.cmp))
 Facts env old rows front place.FilterEnd w set = Filtered env old rows front w set (Tailed env w (λ begun. IsPredicate env begun w.predicate))
 
--- the facts of what is read, unless it is a fault
+-- the facts of a reading, unless it is a fault
 abbrev pub HasFacts : Env → List BinaryPolicy → List Symbol → List Symbol → Read → Type 0
 HasFacts env old rows front (Ok r) = Facts env old rows front r.walk.place r.walk r.set
 HasFacts env old rows front (Err fault) = Unit {0}
 
 -- ---- steps
 
--- a keyword, or another word
+-- a word is this keyword, or another word
 pub by-word : {X : Type 0} (w k : List ℕ) → (w ≡ k → X) → (bytes_eq w k ≡ false → X) → X
 by-word {X} w k p q = by (bytes_eq w k) refl where
   by : (b : Bool) → bytes_eq w k ≡ b → X
@@ -267,15 +267,15 @@ by-some (Some x) f n = f x refl
 pub parts-more : {P Q R : List Symbol → Type 0} {us : List Symbol} (s : Symbol) → Parts P Q us → ((back : List Symbol) → Q back → R (back ++ s ∷ [])) → Parts P R (us ++ s ∷ [])
 parts-more s h f = record { front = h.front; back = h.back ++ s ∷ []; parts = ap (λ (ts : List Symbol). ts ++ s ∷ []) h.parts ∙ append_assoc h.front h.back (s ∷ []); first = h.first; rest = f h.back h.rest }
 
--- the same symbols in another light
+-- the same symbols, with the second part seen as another kind
 pub parts-map : {P Q R : List Symbol → Type 0} {us : List Symbol} → Parts P Q us → ((back : List Symbol) → Q back → R back) → Parts P R us
 parts-map h f = record { front = h.front; back = h.back; parts = h.parts; first = h.first; rest = f h.back h.rest }
 
--- what is spelled, and no more
+-- all symbols are the first part, and the second is empty
 pub parts-whole : {P Q : List Symbol → Type 0} (us : List Symbol) → P us → Q [] → Parts P Q us
 parts-whole us p q = record { front = us; back = []; parts = sym (append-nil us); first = p; rest = q }
 
--- one more symbol of a filter, and the same symbols in another light
+-- one more symbol of a filter, with the second part seen as another kind
 pub filter-more : {env : Env} {old : List BinaryPolicy} {rows front : List Symbol} {filters : ℕ} {name : FilterName} {set : List BinaryPolicy} {P Q : List Symbol → Type 0} (s : Symbol) →
     FilterFront env old rows front filters name set P → ((us : List Symbol) → P us → Q (us ++ s ∷ [])) → FilterFront env old rows (front ++ s ∷ []) filters name set Q
 filter-more s h f = record {

@@ -1,4 +1,4 @@
--- A symbol that may stand where it stands spells more of its row.
+-- A symbol that may follow at its place spells one more part of its row.
 use Rattle.std.proofs.Common.{◌≡◌, ℕ, ◌+◌, ◌-◌, ◌<◌, ◌≤◌, Bool, true, false, ◌==◌, nat_lt, List, [], ◌∷◌, ◌++◌, Option, None, Some, option_map, Ok, Err, if◌then◌else◌, codes, sum_by, refl, ap, sym, subst, ◌∙◌, arith, append_assoc, append-nil}
 use Rattle.std.specs.Str.{bytes_eq}
 use Rattle.std.specs.List.{list_any}
@@ -68,7 +68,7 @@ module _ (env : Env) (name : FilterName) (parens n : ℕ) (e : Reduced) (us : Li
 
 -- ---- what follows an action
 
--- an action that is complete, of a filter of which no more is read
+-- a complete action, of a filter of which no more is read
 acted-now : (env : Env) (w : GrammarState) (may_grant : Bool) {begun : List Symbol} → IsAction env begun w.action → (may_grant ≡ true → w.action ≡ Permit) → IsPlain w → Parts (λ ts. IsAction env ts w.action) (TailFront env w.name may_grant true w.action w.grant w.log w.predicate) begun
 acted-now env w may_grant {begun} a m p =
     let no_grant : w.grant ≡ None = ap (λ (v : FilterValue). v.grant) p in
@@ -80,7 +80,7 @@ acted-now env w may_grant {begun} a m p =
       no_predicate = ap (λ (v : FilterValue). v.predicate) p;
     })
 
--- `as` behind a permit
+-- `as` after a permit
 granting : (env : Env) (w : GrammarState) (log : Bool) {begun : List Symbol} → env.elevate ≡ true → sets_ids w.name ≡ false → w.predicate ≡ None → MayAs log w.action w.grant w.log begun → EndsByGrant env w log (begun ++ Word (codes "as") ∷ [])
 granting env w true {begun} a b none m ts g is =
     let may : MayGrant env w.name w.action = rw m.permits (a, b) in
@@ -92,7 +92,7 @@ granting env w false {begun} a b none m ts g is =
 -- ---- symbols
 
 module _ (env : Env) (old : List BinaryPolicy) (rows front : List Symbol) (w : GrammarState) (set : List BinaryPolicy) (at : ℕ) where
-  -- what has been spelled at a place, what has been spelled behind a symbol, and what that comes to
+  -- what has been spelled at a place, what has been spelled after a symbol, and the result of the symbol
   abbrev Has : Place → Type 0
   Has p = Facts env old rows front p w set
 
@@ -115,7 +115,7 @@ module _ (env : Env) (old : List BinaryPolicy) (rows front : List Symbol) (w : G
   header-more : {more : List Symbol} (s : Symbol) → HeaderFront env old rows front more w.filters set → HeaderFront env old rows (front ++ s ∷ []) (more ++ s ∷ []) w.filters set
   header-more s h = record { spelled = h.spelled; front_is = ap (λ (ts : List Symbol). ts ++ s ∷ []) h.front_is; binary = h.binary; binary_is = h.binary_is; policies = h.policies; are_rows = h.are_rows; set_is = h.set_is; new = h.new; filters_are = h.filters_are; few = h.few }
 
-  -- below a header stands what may stand anywhere
+  -- what may follow anywhere may follow after a header
   pub below-row : BelowHeader env old rows front w.filters set → RowFront env old rows front [] w.filters set
   below-row h = record {
     front_is = h.front_is;
@@ -385,7 +385,7 @@ module _ (env : Env) (old : List BinaryPolicy) (rows front : List Symbol) (w : G
     no_predicate = x.no_predicate;
   })))
 
-  -- a comma before a predicate
+  -- a comma that begins a predicate
   predicating : (grant log : Bool) → Has (place.Tail grant log) → Gets Comma place.If w
   predicating grant log h = (h.rest.rest.rest.no_predicate, filter-more Comma h (λ us c. parts-more Comma c (λ begun d. parts-more Comma d (λ ts x. record { front = ts; back = Comma ∷ []; parts = refl; first = x.tail_is; rest = refl }))))
 

@@ -11,7 +11,7 @@ use Rattle.st_grammar.specs.Words.{reserved_words}
 pub same-word : (a b : List ℕ) → bytes_eq a b ≡ true → a ≡ b
 same-word a b e = (bytes_eq-Decides a b).0 e
 
--- what means something where the keyword means nothing is not the keyword
+-- a word that has a meaning which the keyword doesn't have is not the keyword
 pub not-keyword : {A : Type 0} (f : List ℕ → Option A) (w k : List ℕ) (x : A) → f k ≡ None → f w ≡ Some x → bytes_eq w k ≡ false
 not-keyword f w k x n e = false_from_ne_true (bytes_eq w k) (λ h. let same : f w ≡ f k = ap f (same-word w k h) in absurd (cc))
 
@@ -25,7 +25,7 @@ pub record IsOther (w : List ℕ) : Type 0 where
   pub no_deny : bytes_eq w (codes "deny") ≡ false
   pub no_ask : bytes_eq w (codes "ask") ≡ false
 
--- a label is no reserved word
+-- a label is not a reserved word
 pub label-other : (w : List ℕ) → is_label w ≡ true → IsOther w
 label-other w e =
     let none : list_any (bytes_eq w) reserved_words ≡ false = not-true (list_any (bytes_eq w) reserved_words) e in

@@ -1,4 +1,4 @@
--- One filter alone is read as in a file, behind a header.
+-- One filter alone is read as in a file, after a header.
 use Rattle.std.proofs.Common.{◌≡◌, ℕ, Bool, true, false, ◌&&◌, if◌then◌else◌, List, [], ◌∷◌, ◌++◌, length, map, Option, None, Some, Ok, Err, codes, refl, ap, sym, subst, ◌∙◌, arith, append_assoc, append-nil}
 use Rattle.st_grammar.proofs.Common.{add_filter, as_reading, binaries, BinaryPolicy, Broken, Colon, Comma, ends_filter, Env, filter_in, filter_name, filter_of, FilterName, FilterValue, fresh, GrammarState, Header, is_binary_place, is_line, IsFilter, lexed_text, LexFault, Line, next, NoRow, Place, read_step, Reading, reading_behind, reading_step, step, step_name, step_to, StepResult, Symbol, symbol_of, taken, Token, Word}
 use Rattle.st_filter.specs.declared.filter.FilterName.TheVariants as name
@@ -9,7 +9,7 @@ use Rattle.st_grammar.proofs.Fronts.{Behind, Facts, HasFacts, by-test}
 use Rattle.st_grammar.proofs.Kept.{denial-tails, user-tails, predicate-filter, tail-filter, line-keeps}
 use Rattle.st_grammar.proofs.Policies.{fresh_policy}
 
--- ---- a header in front
+-- ---- a header before it
 
 abbrev pub rows_before : List Symbol
 rows_before = Word (codes "Policy") ∷ Colon ∷ Word (codes "/") ∷ Comma ∷ Word (codes "Emulation") ∷ Colon ∷ Word (codes "native") ∷ Line ∷ []
@@ -51,12 +51,12 @@ named-not front more h e =
     cc
 
 module _ (env : Env) (rows front : List Symbol) (w : GrammarState) (set : List BinaryPolicy) (named : IsNamed front) where
-  -- no binary stands in a filter
+  -- no place in a filter is that of a binary
   pub no-binary : (p : Place) → Facts env [] rows front p w set → is_binary_place p ≡ false
   no-binary place.Binary h = absurd (named-not front (Colon ∷ []) named h.front_is)
   no-binary _ h = refl
 
-  -- where a Line may stand a filter has been spelled
+  -- where a Line may stand, a whole filter has been spelled
   pub spelled : (at : ℕ) (known : List (List ℕ)) (v : GrammarState) (p : Place) → Facts env [] rows front p w set → step env known w at Line p ≡ Ok v → IsFilter env front (filter_of v)
   spelled at known v p h e = by p h e where
     so : IsFilter env front (filter_of w) → step_to w place.Row ≡ Ok v → IsFilter env front (filter_of v)
@@ -72,12 +72,12 @@ module _ (env : Env) (rows front : List Symbol) (w : GrammarState) (set : List B
     by place.FilterEnd h e = so (predicate-filter env [] rows front w set at h) e
     by _ h e = absurd (cc)
 
--- symbols that begin with a filter's name have spelled this
+-- symbols that begin with a filter's name spell what this state has read
 pub record Spelled (env : Env) (front : List Symbol) (w : GrammarState) : Type 0 where
   pub named : IsNamed front
   pub facts : Facts env [] rows_before front w.place w one_policy
 
--- some symbols have spelled this
+-- some symbols spell what this state has read
 pub record InFilter (env : Env) (w : GrammarState) : Type 0 where
   pub front : List Symbol
   pub spelled : Spelled env front w
@@ -130,7 +130,7 @@ next_same : (env : Env) (known : List (List ℕ)) (w : GrammarState) (at : ℕ) 
 next_same env known w at s place.Binary e = absurd (cc)
 next_same env known w at s _ e = refl
 
--- symbols behind others are the whole of a filter
+-- symbols complete the symbols before them to a whole filter
 record IsWhole (env : Env) (broken : Option LexFault) (front symbols : List Symbol) (f : FilterValue) : Type 0 where
   pub whole : broken ≡ None
   pub row : List Symbol
@@ -186,7 +186,7 @@ sound_tokens env text broken f (t ∷ ts) e = by (begin_filter t.at (symbol_of t
       let l = sound_from env text broken f ts (symbol_of text t ∷ []) w (begins env t.at (symbol_of text t) w b) (rw (b, filter_of_tokens) at e) in
       record { whole = l.whole; row = l.row; one_row = l.one_row; is = l.is }
 
--- what is read is what the grammar says
+-- a filter that is read is one by the grammar
 pub filter_is_sound : (text : List ℕ) (env : Env) (f : FilterValue) → filter_in text env ≡ Ok f → ReadsFilter text env f
 filter_is_sound text env f e =
     let r = sound_tokens env text (lexed_text text).fault f (lexed_text text).tokens e in

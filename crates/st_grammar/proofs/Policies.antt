@@ -22,7 +22,7 @@ new-before known (q ∷ qs) p a =
     let b : AreNew (known ++ q ∷ []) qs × (has_policy ((known ++ q ∷ []) ++ qs) p.binary ≡ false) = new-before (known ++ q ∷ []) qs p a.1 in
     ((a.0, b.0), ap (λ (xs : List BinaryPolicy). has_policy xs p.binary) (sym (append_assoc known (q ∷ []) qs)) ∙ b.1)
 
--- whether the last has been there before is said of its binary alone
+-- whether the last policy's binary is new depends on its binary alone
 pub new-with : (known ps : List BinaryPolicy) (p : BinaryPolicy) (f : FilterValue) → AreNew known (ps ++ p ∷ []) → AreNew known (ps ++ with_filter p f ∷ [])
 new-with known [] p f a = (a.0, tt)
 new-with known (q ∷ qs) p f a = (a.0, new-with (known ++ q ∷ []) qs p f a.1)

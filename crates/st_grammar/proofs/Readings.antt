@@ -1,8 +1,8 @@
--- Readings of placed symbols, joined end to end.
+-- Readings of symbols with their offsets, joined end to end.
 use Rattle.std.proofs.Common.{◌≡◌, ℕ, List, [], ◌∷◌, ◌++◌, map, Result, Ok, Err, refl, ap, sym, ◌∙◌}
 use Rattle.st_grammar.proofs.Common.{BinaryPolicy, Env, GrammarState, Place, PolicyFault, read_step, Reading, Symbol}
 
--- a symbol, and where it stands
+-- a symbol, and its offset
 pub record Placed : Type 0 where
   pub at : ℕ
   pub symbol : Symbol
@@ -29,7 +29,7 @@ pub over-append : (env : Env) (xs ys : List Placed) (r : Reading) → read_over 
 over-append env [] ys r = refl
 over-append env (x ∷ xs) ys r = followed-step env ys (λ r. read_over env r (xs ++ ys)) (λ r. read_over env r xs) (over-append env xs ys) (read_step env r x.at x.symbol)
 
--- ---- parts of placed symbols
+-- ---- parts of symbols with offsets
 
 record Cut (zs : List Placed) (ts us : List Symbol) : Type 0 where
   front : List Placed
@@ -47,7 +47,7 @@ cut (t ∷ ts) us (z ∷ zs) e =
     let c : Cut zs ts us = cut ts us zs same in
     record { front = z ∷ c.front; back = c.back; parts = ap (λ (xs : List Placed). z ∷ xs) c.parts; front_is = ap (λ (xs : List Symbol). z.symbol ∷ xs) c.front_is ∙ ap (λ (s : Symbol). s ∷ ts) first; back_is = c.back_is }
 
--- ---- what symbols lead to, wherever they stand
+-- ---- what symbols lead to, at any offset
 
 pub record Steps (env : Env) (r : Reading) (at : ℕ) (s : Symbol) (Q : Reading → Type 0) : Type 0 where
   pub reading : Reading
@@ -59,7 +59,7 @@ pub record Leads (env : Env) (r : Reading) (zs : List Placed) (Q : Reading → T
   pub over : read_over env r zs ≡ Ok reading
   pub holds : Q reading
 
--- from a reading of one kind a symbol, or some symbols, lead to one of another
+-- a symbol, or some symbols, lead from any reading of one kind to a reading of another
 abbrev pub Step1 : Env → (Reading → Type 0) → Symbol → (Reading → Type 0) → Type 0
 Step1 env P s Q = (at : ℕ) (r : Reading) → P r → Steps env r at s Q
 
@@ -108,7 +108,7 @@ passes-more {env} {P} {Q} p f = record {
 pub passes-from : {env : Env} {P Q R : Reading → Type 0} {ts : List Symbol} → ((r : Reading) → Q r → P r) → Passes env P ts R → Passes env Q ts R
 passes-from f p = record { pass = λ zs e r h. p.pass zs e r (f r h) }
 
--- a place where the first symbol is read as at another
+-- at this reading the symbol is read as at some reading of this kind
 pub record Alike (env : Env) (r : Reading) (s : Symbol) (P : Reading → Type 0) : Type 0 where
   pub other : Reading
   pub holds : P other
@@ -130,11 +130,11 @@ passes-alike {env} {P} {Q} {R} {s} {ts} f p = record { pass = alike } where
 abbrev pub reading_at : Place → GrammarState → List BinaryPolicy → Reading
 reading_at p w set = record { walk = record w { place = p }; set = set }
 
--- a reading at this place, with this set and with a walk of this kind
+-- a reading at this place, with this set and a state of this kind
 pub data At (p : Place) (set : List BinaryPolicy) (H : GrammarState → Type 0) : Reading → Type 0 where
   stands : (w : GrammarState) → H w → At p set H (reading_at p w set)
 
--- a step to a place, with this set and a walk of this kind
+-- a step to a place, with this set and a state of this kind
 pub record Goes (env : Env) (r : Reading) (at : ℕ) (s : Symbol) (q : Place) (next : List BinaryPolicy) (K : GrammarState → Type 0) : Type 0 where
   pub walk : GrammarState
   pub step : read_step env r at s ≡ Ok (reading_at q walk next)

@@ -1,4 +1,4 @@
--- What is read is what the grammar says.
+-- Soundness: a text is read as the grammar says.
 use Rattle.std.proofs.Common.{◌≡◌, ℕ, ◌+◌, ◌≤◌, Bool, true, false, List, [], ◌∷◌, ◌++◌, length, map, Option, None, Some, Ok, Err, refl, ap, sym, subst, ◌∙◌, arith, append_assoc, append-nil}
 use Rattle.st_grammar.proofs.Common.{add_filter, AreRows, BinaryPolicy, Blank, Broken, Env, filter_of, FilterRow, filters_in, FilterValue, first_reading, fresh, GrammarState, Header, IsFilter, lexed_text, LexFault, Line, MOST_FILTERS, NoRow, or_refused, Place, read_from, read_step, Reading, reading_of, Reads, Refusable, Symbol, symbol_of, symbols_in, Token, unless_lexical, with_filter}
 use Rattle.st_grammar.specs.declared.place.Place.TheVariants as place
@@ -61,7 +61,7 @@ module _ (env : Env) (old : List BinaryPolicy) (rows front : List Symbol) (w : G
 
 -- ---- texts
 
--- what the symbols so far have spelled
+-- what the symbols read so far spell
 pub record Stands (env : Env) (old : List BinaryPolicy) (done : List Symbol) (r : Reading) : Type 0 where
   pub rows : List Symbol
   pub front : List Symbol
@@ -87,7 +87,7 @@ stands-step env old done r at s h = by-holds env old h.rows h.front done s h.par
 line-step : (env : Env) (old : List BinaryPolicy) (done : List Symbol) (r : Reading) (at : ℕ) → Stands env old done r → LineHolds env old (done ++ Line ∷ []) (read_step env r at Line)
 line-step env old done r at h = subst (λ (ts : List Symbol). LineHolds env old (ts ++ Line ∷ []) (read_step env r at Line)) (sym h.parts) (line-is_sound env old h.rows h.front r.walk r.set r.walk.place at h.facts)
 
--- what is read of a whole text has ended its last row
+-- after a whole text its last row has ended
 abbrev pub Sounds : Env → List BinaryPolicy → List Symbol → Refusable → Type 0
 Sounds env old rows (Ok r) = RowEnded env old rows r
 Sounds env old rows (Err refusal) = Unit {0}
@@ -116,7 +116,7 @@ module _ (env : Env) (text : List ℕ) (old : List BinaryPolicy) where
     facts = record { front_is = refl; policies = []; are_rows = NoRow; set_is = sym (append-nil old); new = tt; filters_are = refl; few = few };
   }
 
--- ---- what is no token fits nowhere
+-- ---- bytes that form no token are never accepted
 
 abbrev pub IsFault : Read → Type 0
 IsFault (Ok r) = ⊥
@@ -152,6 +152,6 @@ sound-by text env old r None w few e =
       few = omega (arith, h.rowed.filters_are, h.rowed.few);
     }
 
--- what is read is what the grammar says
+-- a text is read as the grammar says
 pub reading-is_sound : (text : List ℕ) (env : Env) (old : List BinaryPolicy) (r : Reading) → filters_in old ≤ MOST_FILTERS → reading_of text env old ≡ Ok r → Reads text env old r.set
 reading-is_sound text env old r few e = sound-by text env old r (lexed_text text).fault refl few e

@@ -1,17 +1,17 @@
--- What the stack of an expression that is read has spelled.
+-- What the stack of an expression that is being read has spelled.
 use Rattle.std.proofs.Common.{◌≡◌, ℕ, suc, ◌+◌, ◌<◌, List, [], ◌∷◌, ◌++◌, codes, refl, ap, sym, subst, ◌∙◌, arith, append_assoc}
 use Rattle.st_grammar.proofs.Common.{And, Both, Close, close_either, close_group, Conjunction, Disjunction, Either, Env, FilterName, Formula, Grouped, Negated, Not, OneConjunction, OneOperand, Open, Operand, PendingOperand, Reduced, settle, Spells, Symbol, Word}
 use Rattle.st_grammar.specs.Expression.{reduced, Negation, Group}
 use Rattle.st_grammar.specs.Expression as stack
 use Rattle.st_grammar.proofs.Expressions.{IsBase, Outermost, Inside}
 
--- neither `not` nor `and` waits for the operand that is read
+-- neither a `not` nor an `and` is pending for the operand that is read
 pub data IsSettled : List PendingOperand → Type 0 where
   NoneWaits : IsSettled []
   GroupWaits : {s : List PendingOperand} → IsSettled (Group ∷ s)
   EitherWaits : {f : Formula} {s : List PendingOperand} → IsSettled (stack.Either f ∷ s)
 
--- the symbols before an operand, as they left the stack
+-- the symbols before an operand, which left this stack
 pub data Opens (env : Env) (name : FilterName) : List PendingOperand → List Symbol → Type 0 where
   Front : Opens env name [] []
   Negates : {s : List PendingOperand} {us : List Symbol} → Opens env name s us → Opens env name (Negation ∷ s) (us ++ Word (codes "not") ∷ [])
@@ -45,7 +45,7 @@ settled-same GroupWaits f = refl
 settled-same EitherWaits f = refl
 
 module _ (env : Env) (name : FilterName) where
-  -- an operand behind what waits for it
+  -- an operand after the pending operands that take it
   pub settle-ends : {s : List PendingOperand} {us : List Symbol} → Opens env name s us → {vs : List Symbol} {f : Formula} → Spells env name Operand vs f → Ends env name (settle s f) (us ++ vs)
   settle-ends Front {vs} p = record { front = []; back = vs; parts = refl; settled = NoneWaits; opens = Front; spells = OneOperand p }
   settle-ends (Negates {s} {us} o) {vs} {f} p =
@@ -63,13 +63,13 @@ module _ (env : Env) (name : FilterName) where
   close-whole EitherWaits (Chooses {s} {us} {vs = ws} {f = g} base o q) {vs} p =
       record { front = us; back = ws ++ Word (codes "or") ∷ vs; parts = simp append_assoc; base = base; opens = o; spells = Either q p }
 
-  -- a conjunction behind an `or` that waits for it
+  -- a conjunction after a pending `or` that takes it
   pub close-ends : (e : Reduced) (us : List Symbol) → Ends env name e us → EndsWhole env name (close_either e.pending e.formula) us
   close-ends e us h = subst (λ (ws : List Symbol). EndsWhole env name (close_either e.pending e.formula) ws) (sym h.parts) (close-whole h.settled h.opens h.spells)
 
 -- ---- parentheses
 
--- how many parentheses wait to be closed
+-- how many parentheses are open
 abbrev pub groups : List PendingOperand → ℕ
 groups [] = 0
 groups (Negation ∷ s) = groups s
@@ -110,7 +110,7 @@ module _ (env : Env) (name : FilterName) where
   all-closed Outermost Front none = refl
   all-closed Inside o none = absurd (omega arith)
 
-  -- where no parenthesis is open the whole has been read
+  -- if no parenthesis is open, the whole expression has been read
   pub whole-spelled : (e : Reduced) (us : List Symbol) → EndsWhole env name e us → groups e.pending ≡ 0 → Spells env name Disjunction us e.formula
   whole-spelled e us h none =
       let same : us ≡ h.back = h.parts ∙ ap (λ (ws : List Symbol). ws ++ h.back) (all-closed h.base h.opens none) in

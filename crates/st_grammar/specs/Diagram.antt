@@ -1,4 +1,4 @@
--- What may stand at each place of the grammar, what it spells, where it leads, and the fault of everything else.
+-- The symbols that may follow at each place of the grammar, what each spells, where it leads, and the fault of any other symbol.
 use Rattle.std.specs.Prelude.{◌≡◌, ◌≢◌, ℕ, ◌+◌, ◌-◌, Bool, true, false, ◌&&◌, ◌||◌, ◌==◌, if◌then◌else◌, nat_lt, List, [], codes, Option, Some, None, option_map, Result, Ok, Err}
 use Rattle.std.specs.List.{list_any}
 use Rattle.std.specs.Str.{bytes_eq}
@@ -30,14 +30,14 @@ use Rattle.st_grammar.specs.Grammar.{most_joins, binary_of, who_named, compariso
 use Rattle.st_grammar.specs.Symbol.{Symbol, Word, Quoted, Colon, Comma, Open, Close, OpenBracket, CloseBracket, Line}
 use Rattle.st_grammar.specs.Words.{is_label, filter_name, may_test, may_test_label, sets_ids, op_named, index_in, id_in, names_for}
 
--- how far the grammar has come
+-- how far the reader has come in the grammar
 pub record GrammarState : Type 0 where
   pub place : Place
-  -- how many filters there are, this one and those of earlier files too
+  -- how many filters have been read, those of earlier files and the current one included
   pub filters : ℕ
-  -- the name of the filter that is read
+  -- the name of the current filter
   pub name : FilterName
-  -- the label that is read, and where it stands
+  -- the current label, and its offset in the text
   pub label : List ℕ
   pub label_at : ℕ
   pub index : ℕ
@@ -45,7 +45,7 @@ pub record GrammarState : Type 0 where
   -- how many parentheses are open, and how many joins the filter's expression has
   pub parens : ℕ
   pub joins : ℕ
-  -- what is read of the filter behind its name
+  -- the parts of the current filter that were read after its name
   pub expression : Reduced
   pub action : Action
   pub grant : Option Grant
@@ -53,7 +53,7 @@ pub record GrammarState : Type 0 where
   pub cmp : Cmp
   pub predicate : Option Predicate
 
--- nothing is read at this place, behind so many filters and the name of the last
+-- the state at this place after so many filters, with the name of the last, before anything else of the row is read
 abbrev pub fresh : Place → ℕ → FilterName → GrammarState
 fresh at filters name = record {
   place = at;
@@ -73,29 +73,29 @@ fresh at filters name = record {
   predicate = None;
 }
 
--- what a symbol comes to: how far the grammar has come behind it, or a fault
+-- the result of a symbol: the state of the reader after it, or a fault
 abbrev pub StepResult : Type 0
 StepResult = Result GrammarState PolicyFault
 
--- a step of the reader that answers so and leaves this state behind comes to this, unless memory was wanting
+-- the result of a step of the reader and the state after it agree with a result of the grammar, unless it ran out of memory
 abbrev pub IsStepped : Result (Unit {0}) PolicyFault → GrammarState → StepResult → Type 0
 IsStepped (Ok nothing) w step = step ≡ Ok w
 IsStepped (Err fault) w step = fault ≢ NoMemory → step ≡ Err fault
 
--- the symbol may stand here, and this place is next
+-- the symbol may stand here, and this is the next place
 abbrev pub step_to : GrammarState → Place → StepResult
 step_to w then_at = Ok (record w { place = then_at })
 
--- something else has to stand here
+-- the symbol isn't one that may stand here
 abbrev pub expected : ℕ → StepResult
 expected at = Err (Expected at)
 
--- what is understood leads on, and where nothing is the fault is this
+-- goes on with what was understood; otherwise this is the fault
 abbrev pub found : {A : Type 0} → PolicyFault → (A → StepResult) → Option A → StepResult
 found fault leads (Some x) = leads x
 found fault leads None = Err fault
 
--- one thing alone may stand here
+-- only one symbol may stand here
 abbrev pub only : GrammarState → ℕ → Bool → Place → StepResult
 only w at fits then_at = if fits then step_to w then_at else expected at
 
@@ -132,24 +132,24 @@ step_start w at Line = step_to w place.Start
 step_start w at (Word word) = only w at (bytes_eq word (codes "Policy")) place.PolicyColon
 step_start w at _ = expected at
 
--- at a filter's name, where there may not be too many filters
+-- at a filter's name, unless there are already too many filters
 abbrev pub step_name : GrammarState → ℕ → List ℕ → StepResult
 step_name w at word =
     found (UnknownCall at) (λ name. if nat_lt w.filters MOST_FILTERS then Ok (fresh place.NameColon (w.filters + 1) name) else Err (TooMany at)) (filter_name word)
 
--- at the front of a row behind a header: a blank line, `Policy`, or a filter's name
+-- at the beginning of a row after a header: a blank line, `Policy`, or a filter's name
 abbrev pub step_row : GrammarState → ℕ → Symbol → StepResult
 step_row w at Line = step_to w place.Row
 step_row w at (Word word) =
     if bytes_eq word (codes "Policy") then step_to w place.PolicyColon else step_name w at word
 step_row w at _ = expected at
 
--- at a header's binary, by the one that the symbol is, if it is one; it may have no policy yet
+-- at a header's binary, if the symbol is one; the binary may not have a policy yet
 abbrev pub step_binary : List (List ℕ) → GrammarState → ℕ → Option (List ℕ) → StepResult
 step_binary known w at binary =
     found (Expected at) (λ binary. if list_any (λ b. bytes_eq b binary) known then Err (DuplicatePolicy at) else step_to w place.Comma) binary
 
--- at the emulation of a header: `native`, and no other is supported
+-- at the emulation of a header: only `native` is supported
 abbrev pub step_system : GrammarState → ℕ → Symbol → StepResult
 step_system w at (Word word) =
     if bytes_eq word (codes "native") then step_to w place.HeaderEnd else Err (NotSupported at unsupported.Emulation)
@@ -162,7 +162,7 @@ abbrev pub joined : GrammarState → ℕ → StepResult
 joined w at =
     if nat_lt w.joins most_joins then Ok (record w { place = place.Operand; joins = w.joins + 1 }) else Err (TooMany at)
 
--- this waits for what comes next
+-- adds a pending operand to the expression
 abbrev pub waits : PendingOperand → GrammarState → GrammarState
 waits p w = record w { expression = with_pending p w.expression }
 
@@ -170,7 +170,7 @@ waits p w = record w { expression = with_pending p w.expression }
 abbrev pub completed : Formula → GrammarState → GrammarState
 completed f w = record w { place = place.Joint; expression = with_operand f w.expression }
 
--- at the front of an operand: `(`, `not`, `true`, or a label
+-- at the beginning of an operand: `(`, `not`, `true`, or a label
 abbrev pub step_operand : GrammarState → ℕ → Symbol → StepResult
 step_operand w at Open = joined (record (waits Group w) { parens = w.parens + 1 }) at
 step_operand w at (Word word) =
@@ -180,7 +180,7 @@ step_operand w at (Word word) =
     else expected at
 step_operand w at _ = expected at
 
--- the fault of a word that names no operator; `re` is one that is not supported
+-- the fault of a word that names no operator; `re` is an operator that isn't supported
 abbrev pub no_operator : ℕ → List ℕ → PolicyFault
 no_operator at word = if bytes_eq word (codes "re") then NotSupported at unsupported.Re else Expected at
 
@@ -189,13 +189,13 @@ abbrev pub step_operator : GrammarState → ℕ → Symbol → StepResult
 step_operator w at (Word word) = found (no_operator at word) (λ op. Ok (record w { place = place.Text; op = op })) (op_named word)
 step_operator w at _ = expected at
 
--- a label without an index means index 0; where the call has no such argument, the fault is the label's
+-- after a label: without an index it means index 0; if the call has no such argument, the fault is the label's
 abbrev pub step_label : GrammarState → ℕ → Symbol → StepResult
 step_label w at OpenBracket = step_to w place.Index
 step_label w at (Word word) = if may_test w.name w.label 0 then step_operator w at (Word word) else Err (UnknownArgument w.label_at)
 step_label w at _ = Err (if may_test w.name w.label 0 then Expected at else UnknownArgument w.label_at)
 
--- behind the bracket that a label's index follows, by the index that is spelled, if one is; the call must have such an argument
+-- after the bracket that opens a label's index, by the index that is spelled, if any; the call must have such an argument
 abbrev pub step_indexed : GrammarState → ℕ → Option ℕ → StepResult
 step_indexed w at index =
     found (if may_test_label w.name w.label then Expected at else UnknownArgument w.label_at)
@@ -215,7 +215,7 @@ step_text env w at _ = expected at
 abbrev pub concluded : GrammarState → GrammarState
 concluded w = record w { expression = without_either w.expression }
 
--- behind an operand: `)`, `and`, `or`, or `then`
+-- after an operand: `)`, `and`, `or`, or `then`
 abbrev pub step_joint : GrammarState → ℕ → Symbol → StepResult
 step_joint w at Close =
     if nat_lt 0 w.parens then Ok (record w { place = place.Joint; parens = w.parens - 1; expression = close_group (without_either w.expression) })
@@ -228,11 +228,11 @@ step_joint w at _ = expected at
 
 -- ---- actions and what follows them
 
--- this action is read
+-- sets the filter's action
 abbrev pub acts : Action → Place → GrammarState → GrammarState
 acts action then_at w = record w { place = then_at; action = action }
 
--- at an action: `permit`, `deny`, which means EPERM until an error follows, or `ask`, which may not stand where filters are learnt
+-- at an action: `permit`, `deny`, which means EPERM unless an error follows, or `ask`, which is refused if filters are learnt
 abbrev pub step_action : Env → GrammarState → ℕ → Symbol → StepResult
 step_action env w at (Word word) =
     if bytes_eq word (codes "permit") then Ok (acts Permit (place.Tail true true) w)
@@ -245,17 +245,17 @@ step_action env w at _ = expected at
 abbrev pub is_action : Symbol → Bool
 is_action s = is_keyword (codes "permit") s || (is_keyword (codes "deny") s || is_keyword (codes "ask") s)
 
--- behind a filter's colon: an action, or the first operand of an expression
+-- after a filter's colon: an action, or the first operand of an expression
 abbrev pub step_clause : Env → GrammarState → ℕ → Symbol → StepResult
 step_clause env w at s = if is_action s then step_action env w at s else step_operand w at s
 
--- at `as`, which needs leave to grant ids, and a call that sets none itself
+-- at `as`, which needs the permission to grant ids, and a call that sets no ids itself
 abbrev pub step_as : Env → GrammarState → ℕ → Bool → StepResult
 step_as env w at log =
     if env.elevate then (if sets_ids w.name then Err (ElevateOnSetId at) else step_to w (place.Grant log))
     else Err (ElevateWithoutIds at)
 
--- behind an action: the row's end, a predicate's comma, or what may still follow of `as` and `log`
+-- after an action: the row's end, a predicate's comma, or what may still follow of `as` and `log`
 abbrev pub step_tail : Env → Bool → Bool → GrammarState → ℕ → Symbol → StepResult
 step_tail env grant log w at Line = step_to w place.Row
 step_tail env grant log w at Comma = step_to w place.If
@@ -264,12 +264,12 @@ step_tail env grant log w at (Word word) =
     else only (record w { log = true }) at (bytes_eq word (codes "log") && log) (place.Tail grant false)
 step_tail env grant log w at _ = expected at
 
--- behind `deny`: the bracket of its error, or what may follow an action
+-- after `deny`: the bracket of its error, or what may follow an action
 abbrev pub step_denial : Env → GrammarState → ℕ → Symbol → StepResult
 step_denial env w at OpenBracket = step_to w place.Error
 step_denial env w at s = step_tail env false true w at s
 
--- behind the bracket that the error of a denial follows
+-- after the bracket that opens the error of a denial
 abbrev pub step_error : GrammarState → ℕ → Symbol → StepResult
 step_error w at (Word word) = found (UnknownError at) (λ errno. Ok (acts (Deny errno) place.ErrorEnd w)) (error_named word)
 step_error w at _ = expected at
@@ -279,21 +279,21 @@ abbrev pub step_id : List NamedId → ℕ → (ℕ → GrammarState) → Symbol 
 step_id names at leads (Word word) = found (UnknownUser at) (λ id. Ok (leads id)) (id_in names word)
 step_id names at leads _ = expected at
 
--- these ids are granted
+-- sets the filter's grant to this user, with no group yet
 abbrev pub grants : Option ℕ → Place → GrammarState → GrammarState
 grants user then_at w = record w { place = then_at; grant = Some (record { user = user; group = None }) }
 
--- behind `as`: a user, or the colon before a group
+-- after `as`: a user, or the colon before a group
 abbrev pub step_grant : Env → Bool → GrammarState → ℕ → Symbol → StepResult
 step_grant env log w at Colon = Ok (grants None (place.Group log) w)
 step_grant env log w at s = step_id env.users at (λ id. grants (Some id) (place.User log) w) s
 
--- behind the user of a grant: the colon before a group, or what may follow a grant
+-- after the user of a grant: the colon before a group, or what may follow a grant
 abbrev pub step_user : Env → Bool → GrammarState → ℕ → Symbol → StepResult
 step_user env log w at Colon = step_to w (place.Group log)
 step_user env log w at s = step_tail env false log w at s
 
--- a grant with this group too
+-- the grant with this group added
 abbrev pub with_group : ℕ → Grant → Grant
 with_group group grant = record { user = grant.user; group = Some group }
 
@@ -301,12 +301,12 @@ with_group group grant = record { user = grant.user; group = Some group }
 abbrev pub step_group : Env → Bool → GrammarState → ℕ → Symbol → StepResult
 step_group env log w at s = step_id env.groups at (λ id. record w { place = place.Tail false log; grant = option_map (with_group id) w.grant }) s
 
--- whose id a symbol says that a predicate looks at
+-- whose id a predicate looks at, if the symbol is a word for it
 abbrev pub word_who : Symbol → Option Who
 word_who (Word word) = who_named word
 word_who _ = None
 
--- behind `if`: whose id is looked at
+-- after `if`: whose id is looked at
 abbrev pub step_who : GrammarState → ℕ → Symbol → StepResult
 step_who w at s = found (Expected at) (λ who. step_to w (place.Comparison who)) (word_who s)
 
@@ -321,7 +321,7 @@ step_predicate env who w at s =
 
 -- ---- all places
 
--- where a symbol leads, read with these binaries known
+-- the result of a symbol at this place, if these binaries have policies
 abbrev pub step : Env → List (List ℕ) → GrammarState → ℕ → Symbol → Place → StepResult
 step env known w at s place.Start = step_start w at s
 step env known w at s place.Row = step_row w at s
@@ -355,11 +355,11 @@ step env known w at s (place.Id who) = step_predicate env who w at s
 step env known w at s place.HeaderEnd = only w at (is_line s) place.Row
 step env known w at s place.FilterEnd = only w at (is_line s) place.Row
 
--- where a symbol leads from the place that the grammar has come to
+-- the result of a symbol at the current place
 abbrev pub next : Env → List (List ℕ) → GrammarState → ℕ → Symbol → StepResult
 next env known w at s = step env known w at s w.place
 
--- what is no token fits nowhere; its fault is the token's own
+-- the fault where no token begins: the lexical fault, if the grammar expected another symbol, otherwise the fault that was found
 abbrev pub lexical : LexFault → PolicyFault → PolicyFault
 lexical fault (Expected at) = Lex fault
 lexical fault other = other

@@ -55,11 +55,11 @@ is_join Open = 1
 is_join (Word w) = if bytes_eq w (codes "not") || (bytes_eq w (codes "and") || bytes_eq w (codes "or")) then 1 else 0
 is_join _ = 0
 
--- how many of these symbols an expression may have
+-- how many such symbols an expression may have
 abbrev pub most_joins : ℕ
 most_joins = 64
 
--- an expression and `then`; without an expression every call is meant
+-- an expression and `then`; without an expression the filter is for every call
 pub data IsCondition (env : Env) (name : FilterName) : List Symbol → Formula → Type 0 where
   Short : IsCondition env name [] True
   Then : {ts : List Symbol} {f : Formula} →
@@ -84,7 +84,7 @@ pub data IsGrant (env : Env) : List Symbol → Grant → Type 0 where
   OfGroup : {group : List ℕ} {g : ℕ} → id_in env.groups group ≡ Some g →
       IsGrant env (Colon ∷ Word group ∷ []) (record { user = None; group = Some g })
 
--- a permit may grant ids, where there are ids to grant them over and the call sets none itself
+-- a permit may grant ids if there are ids to grant them over and the call sets none itself
 abbrev pub MayGrant : Env → FilterName → Action → Type 0
 MayGrant env name Permit = (env.elevate ≡ true) × (sets_ids name ≡ false)
 MayGrant env name (Deny errno) = ⊥
@@ -105,7 +105,7 @@ pub data IsTail (env : Env) (name : FilterName) (action : Action) : List Symbol 
 abbrev pub who_named : List ℕ → Option Who
 who_named w = if bytes_eq w (codes "user") then Some User else if bytes_eq w (codes "group") then Some Group else None
 
--- the comparison of ids that a symbol is
+-- the comparison of ids that a symbol spells
 abbrev pub comparison : Symbol → Option Cmp
 comparison Equal = Some cmp.Same
 comparison NotEqual = Some cmp.Other
@@ -113,7 +113,7 @@ comparison Less = Some cmp.Below
 comparison Greater = Some cmp.Above
 comparison _ = None
 
--- symbols behind a filter's action spell its predicate; no symbols spell none
+-- symbols after a filter's action spell its predicate; no symbols spell no predicate
 pub data IsPredicate (env : Env) : List Symbol → Option Predicate → Type 0 where
   Whoever : IsPredicate env [] None
   If : {w id : List ℕ} {s : Symbol} {who : Who} {c : Cmp} {n : ℕ} →
@@ -140,7 +140,7 @@ pub record IsFilter (env : Env) (row : List Symbol) (f : FilterValue) : Type 0 w
 abbrev pub if_absolute : List ℕ → Option (List ℕ)
 if_absolute name = if starts_with nat_eq name (codes "/") then Some name else None
 
--- the binary that a symbol is: a word or a quoted text that begins with `/`
+-- the binary that a symbol spells: a word or a quoted text that begins with `/`
 abbrev pub binary_of : Env → Symbol → Option (List ℕ)
 binary_of env (Word w) = if_absolute w
 binary_of env (Quoted source) = if_absolute (unquoted env.dollars source)
@@ -152,7 +152,7 @@ pub record IsHeader (env : Env) (row : List Symbol) (binary : List ℕ) : Type 0
   pub parts : row ≡ Word (codes "Policy") ∷ Colon ∷ spelled ∷ Comma ∷ Word (codes "Emulation") ∷ Colon ∷ Word (codes "native") ∷ []
   pub binary_is : binary_of env spelled ≡ Some binary
 
--- rows, each ended by a Line: blank ones, headers, and the filters of the header above
+-- rows, each ended by a Line: blank rows, headers, and the filters of the last header
 pub data AreRows (env : Env) : List Symbol → List BinaryPolicy → Type 0 where
   NoRow : AreRows env [] []
   Blank : (ts : List Symbol) (ps : List BinaryPolicy) → AreRows env ts ps → AreRows env (ts ++ Line ∷ []) ps
@@ -173,7 +173,7 @@ abbrev pub AreNew : List BinaryPolicy → List BinaryPolicy → Type 0
 AreNew known [] = Unit {0}
 AreNew known (p ∷ ps) = (has_policy known p.binary ≡ false) × AreNew (known ++ p ∷ []) ps
 
--- a text read behind the policies that were read before gives this set: those, and behind them its own. Its end ends its last row
+-- a text read after earlier policies gives this set: the earlier policies, then its own. The text's end ends its last row
 pub record Reads (text : List ℕ) (env : Env) (old set : List BinaryPolicy) : Type 0 where
   pub whole : (lexed_text text).fault ≡ None
   pub policies : List BinaryPolicy

@@ -32,28 +32,28 @@ pub record ReadsFilter (text : List ℕ) (env : Env) (filter : FilterValue) : Ty
 abbrev pub FilterResult : Type 0
 FilterResult = Result FilterValue PolicyFault
 
--- behind a filter's Line stands nothing
+-- nothing may follow a filter's Line
 abbrev pub behind_filter : Option LexFault → FilterValue → List Token → FilterResult
 behind_filter broken filter (t ∷ ts) = Err (Expected t.at)
 behind_filter None filter [] = Ok filter
 behind_filter (Some fault) filter [] = Err (Lex fault)
 
--- a filter that the text's end ends, where it may
+-- a filter that the text's end ends, if it may end there
 abbrev pub if_ended : StepResult → FilterResult
 if_ended (Ok w) = Ok (filter_of w)
 if_ended (Err fault) = Err fault
 
--- what is no token fits nowhere
+-- where no token begins no filter ends: the fault is the lexical one, or an earlier one of the grammar
 abbrev pub if_broken : LexFault → StepResult → FilterResult
 if_broken fault (Ok w) = Err (Lex fault)
 if_broken fault (Err found) = Err (lexical fault found)
 
--- a filter at the end of its text's tokens
+-- the result for a filter at the end of the text's tokens
 abbrev pub filter_at_end : Env → ℕ → GrammarState → Option LexFault → FilterResult
 filter_at_end env end w None = if_ended (next env [] w end Line)
 filter_at_end env end w (Some fault) = if_broken fault (next env [] w end Broken)
 
--- a filter of which some symbols are read, with the tokens that follow
+-- the result for a filter of which some symbols are read, with the tokens that follow
 abbrev pub filter_from : Env → List ℕ → Option LexFault → GrammarState → List Token → FilterResult
 filter_from env text broken w [] = filter_at_end env (length text) w broken
 filter_from env text broken w (t ∷ ts) =
@@ -67,12 +67,12 @@ abbrev pub begin_filter : ℕ → Symbol → StepResult
 begin_filter at (Word word) = step_name (fresh place.Start 0 (name.Other [])) at word
 begin_filter at _ = expected at
 
--- where a text has no token
+-- the fault of a text without a token
 abbrev pub no_filter : ℕ → Option LexFault → FilterResult
 no_filter end None = Err (Expected end)
 no_filter end (Some fault) = Err (Lex fault)
 
--- the filter of tokens
+-- the filter that tokens spell, or their first fault
 abbrev pub filter_of_tokens : Env → List ℕ → Option LexFault → List Token → FilterResult
 filter_of_tokens env text broken [] = no_filter (length text) broken
 filter_of_tokens env text broken (t ∷ ts) =

@@ -10,7 +10,7 @@ use Rattle.st_grammar.specs.declared.symbol.Symbol.TheVariants as variant
 -- a token as the grammar of policies sees it
 pub data Symbol : Type 0 where
   Word : List ℕ → Symbol
-  -- a quoted text as it stands, with its quotes
+  -- a quoted text as it was written, with its quotes
   Quoted : List ℕ → Symbol
   Colon : Symbol
   Comma : Symbol
@@ -23,7 +23,7 @@ pub data Symbol : Type 0 where
   Less : Symbol
   Greater : Symbol
   Line : Symbol
-  -- what is no token
+  -- bytes that form no token
   Broken : Symbol
 
 -- the symbol of a token, by its kind and its bytes
@@ -42,11 +42,11 @@ symbol_by kind.Less text = Less
 symbol_by kind.Greater text = Greater
 symbol_by kind.Line text = Line
 
--- the symbol that a token of a text is
+-- the symbol of a token of a text
 abbrev pub symbol_of : List ℕ → Token → Symbol
 symbol_of text token = symbol_by token.kind (text_of_token text token)
 
--- a symbol, without where its bytes lie in memory
+-- a symbol of the code as its abstract symbol, without where its bytes are in memory
 abbrev pub seen : declared.Symbol → Symbol
 seen (variant.Word bytes) = Word bytes.now
 seen (variant.Quoted bytes) = Quoted bytes.now

@@ -19,11 +19,11 @@ use Rattle.st_filter.specs.declared.filter.Op.TheVariants.{Match, Eq, Neq, Sub, 
 use Rattle.st_filter.specs.declared.filter.Who.{Who}
 use Rattle.st_filter.specs.declared.filter.Who.TheVariants.{User, Group}
 
--- the words that are no labels
+-- the words of the grammar that are no labels
 abbrev pub reserved_words : List (List ℕ)
 reserved_words = codes "not" ∷ codes "true" ∷ codes "and" ∷ codes "or" ∷ codes "then" ∷ codes "permit" ∷ codes "deny" ∷ codes "ask" ∷ []
 
--- any word but those is a label
+-- any word but the reserved ones is a label
 abbrev pub is_label : List ℕ → Bool
 is_label word = not (list_any (bytes_eq word) reserved_words)
 
@@ -37,11 +37,11 @@ is_name_byte b = is_ascii_alphanumeric b || (b == 95)
 abbrev pub if_name : List ℕ → Option (List ℕ)
 if_name name = if nat_lt 0 (length name) && list_all is_name_byte name then Some name else None
 
--- what stands behind `native-`
+-- the rest of a word after `native-`, if it can be the name of a call
 abbrev pub native_name : List ℕ → Option (List ℕ)
 native_name word = if starts_with nat_eq word (codes "native-") then if_name (drop 7 word) else None
 
--- what a filter of this word is for, by the rule that it names, if it names one
+-- what a filter of this word is for: the rule that it names, if it names one, otherwise a call outside the model
 abbrev pub name_by : List ℕ → Option Rule → FilterName
 name_by word (Some rule) = name.Rule rule
 name_by word None = name.Other word
@@ -55,7 +55,7 @@ abbrev pub may_test : FilterName → List ℕ → ℕ → Bool
 may_test (name.Rule rule) label index = has_argument rule label index
 may_test (name.Other word) label index = true
 
--- whether it may test an argument of this label with some index
+-- whether a filter may test an argument of this label with some index
 abbrev pub may_test_label : FilterName → List ℕ → Bool
 may_test_label (name.Rule rule) label = has_label rule label
 may_test_label (name.Other word) label = true
@@ -98,20 +98,20 @@ index_in word = option_and_then if_small (number_in word)
 abbrev pub has_name : List ℕ → NamedId → Bool
 has_name word row = bytes_eq row.name word
 
--- the id that a word is, by the number that it spells, if it spells one
+-- the id that a word is: the number that it spells, if it spells one, otherwise that of the first row with this name
 abbrev pub id_by : List NamedId → List ℕ → Option ℕ → Option ℕ
 id_by rows word (Some id) = Some id
 id_by rows word None = option_map (λ row. row.id) (find (has_name word) rows)
 
--- the id that a word is: a decimal number below 2^32, else that of the first user, or group, of this name
+-- the id that a word spells: a decimal number below 2^32, otherwise the id of the first user, or group, of this name
 abbrev pub id_in : List NamedId → List ℕ → Option ℕ
 id_in rows word = id_by rows word (numeral_up_to (2 ^ 32 - 1) 10 word)
 
--- the names that ids of users, or of groups, may have
+-- the known names of users, or of groups, with their ids
 abbrev pub names_for : Env → Who → List NamedId
 names_for env User = env.users
 names_for env Group = env.groups
 
--- nobody is known, nothing is granted or learnt
+-- the environment in which no user or group is known and nothing is granted or learnt
 abbrev pub no_env : Env
 no_env = record { users = []; groups = []; dollars = record { home = []; user = []; cwd = [] }; elevate = false; learn = false }

@@ -11,16 +11,16 @@ pub struct NamedId {
     pub id: u32,
 }
 
-/// What policies are read with.
+/// The environment that policies are read with.
 #[derive(Debug, Drop)]
 pub struct Env {
     pub users: Sequence<NamedId>,
     pub groups: Sequence<NamedId>,
-    /// What stands for `$HOME`, `$USER` and `$CWD` in quoted texts.
+    /// The texts that replace `$HOME`, `$USER` and `$CWD` in quoted texts.
     pub dollars: Dollars,
     /// Whether filters may grant ids: `-c` of systrace(1).
     pub elevate: bool,
-    /// Whether policies are learnt, so that none may ask: `-A` of systrace(1).
+    /// Whether policies are learnt, so that no filter may ask: `-A` of systrace(1).
     pub learn: bool,
 }
 

@@ -5,7 +5,7 @@ use st_lex::LexFault;
 use std::alloc::AllocError;
 use thiserror::Error;
 
-/// What is part of the language and not served.
+/// A part of the language that isn't supported.
 #[derive(Clone, Copy, Debug, PartialEq, Eq)]
 pub enum Unsupported {
     /// The operator `re`, which tests by a regular expression.
@@ -14,10 +14,10 @@ pub enum Unsupported {
     Emulation,
 }
 
-/// Why a policy was not read; each place is a byte's, from 0, of the token where the fault stands.
+/// Why a policy wasn't read. Each number is the offset in the text, in bytes from 0, of the token at fault.
 #[derive(Clone, Copy, Debug, PartialEq, Eq, Drop, Error)]
 pub enum PolicyFault {
-    /// No token stands there.
+    /// No token begins there.
     #[error("not a token")]
     Lex(LexFault),
     /// The token doesn't fit the grammar.
@@ -38,13 +38,13 @@ pub enum PolicyFault {
     /// The binary has a policy already.
     #[error("the binary has a policy already")]
     DuplicatePolicy(u32),
-    /// Ids are granted, and no ids are given to grant them over: `-c` is wanting.
+    /// Ids are granted, but `-c` isn't given, so that there are no ids to grant them over.
     #[error("ids are granted without -c")]
     ElevateWithoutIds(u32),
     /// Ids are granted to a call that sets ids.
     #[error("ids are granted to a call that sets ids")]
     ElevateOnSetId(u32),
-    /// It is part of the language and not served.
+    /// It is part of the language and isn't supported.
     #[error("not supported")]
     NotSupported(u32, Unsupported),
     /// A filter asks, and policies are learnt.
@@ -53,7 +53,7 @@ pub enum PolicyFault {
     /// There are more than 4,096 filters, or more than 64 of `not`, `and`, `or` and `(` in one.
     #[error("too many")]
     TooMany(u32),
-    /// Memory is wanting.
+    /// Out of memory.
     #[error("out of memory")]
     NoMemory,
 }
@@ -68,7 +68,7 @@ impl From<AllocError> for PolicyFault {
     }
 }
 
-/// Why a policy is refused, and where in its grammar the token of the fault stands.
+/// Why a policy is refused, and the place in the grammar where the faulty token is.
 #[derive(Clone, Copy, Debug, PartialEq, Eq)]
 pub struct PolicyRefusal {
     pub fault: PolicyFault,

@@ -2,30 +2,30 @@ ghost use Rattle.std.specs.Prelude.{◌≡◌};
 
 use st_filter::Who;
 
-/// Where in the grammar of policies a token stands.
+/// The place of a token in the grammar of policies.
 #[derive(Clone, Copy, Debug, PartialEq, Eq)]
 pub enum Place {
-    /// The front of a row, before the first header.
+    /// The beginning of a row, before the first header.
     Start,
-    /// The front of a row behind a header.
+    /// The beginning of a row after a header.
     Row,
-    /// Behind `Policy`.
+    /// After `Policy`.
     PolicyColon,
     Binary,
-    /// Behind a header's binary.
+    /// After a header's binary.
     Comma,
     Emulation,
     EmulationColon,
     System,
-    /// Behind a header.
+    /// After a header.
     HeaderEnd,
-    /// Behind the name of a filter.
+    /// After the name of a filter.
     NameColon,
-    /// Behind the colon of a filter: an expression or an action.
+    /// After the colon of a filter: an expression or an action.
     Clause,
     /// An operand of an expression.
     Operand,
-    /// Behind a label.
+    /// After a label.
     Label,
     /// The index of a label.
     Index,
@@ -33,35 +33,35 @@ pub enum Place {
     Operator,
     /// The text that an argument is compared with.
     Text,
-    /// Behind an operand.
+    /// After an operand.
     Joint,
-    /// Behind `then`.
+    /// After `then`.
     Action,
-    /// Behind `deny`.
+    /// After `deny`.
     Denial,
     Error,
     ErrorEnd,
-    /// Behind an action: whether `as` and `log` may come.
+    /// After an action: whether `as` and `log` may follow.
     Tail { grant: bool, log: bool },
-    /// Behind `as`.
+    /// After `as`.
     Grant { log: bool },
-    /// Behind the user of a grant.
+    /// After the user of a grant.
     User { log: bool },
     /// The group of a grant.
     Group { log: bool },
-    /// Behind the comma of a filter.
+    /// After the comma of a filter.
     If,
     Who,
     Comparison(Who),
     Id(Who),
-    /// Behind the predicate of a filter.
+    /// After the predicate of a filter.
     FilterEnd,
 }
 
 impl Place {
     ghost use Rattle.st_grammar.specs.Reading.{ends_filter, is_between_rows, is_binary_place};
 
-    /// Whether the end of a line ends a filter there.
+    /// Whether the end of a line ends a filter at this place.
     pub fn ends_filter(self) -> bool
         ensures { result ≡ ends_filter self }
     {
@@ -74,14 +74,14 @@ impl Place {
         }
     }
 
-    /// Whether a header's binary stands there.
+    /// Whether this is the place of a header's binary.
     pub fn is_binary(self) -> bool
         ensures { result ≡ is_binary_place self }
     {
         matches!(self, Place::Binary)
     }
 
-    /// Whether no row has begun there.
+    /// Whether no row has begun at this place.
     pub fn is_between_rows(self) -> bool
         ensures { result ≡ is_between_rows self }
     {

@@ -11,7 +11,7 @@ use st_lex::{Token, TokenKind};
 #[derive(Drop)]
 pub enum Symbol<'a> {
     Word(&'a [u8]),
-    /// A quoted text as it stands, with its quotes.
+    /// A quoted text as it was written, with its quotes.
     Quoted(&'a [u8]),
     Colon,
     Comma,
@@ -24,12 +24,12 @@ pub enum Symbol<'a> {
     Less,
     Greater,
     Line,
-    /// What is no token.
+    /// Bytes that form no token.
     Broken,
 }
 
 impl<'a> Symbol<'a> {
-    /// The symbol that a token of a text is.
+    /// The symbol of a token of a text.
     pub fn of(text: &'a [u8], token: &Token) -> Self
         ensures { seen result ≡ symbol_of text.now token.now }
     {
@@ -51,35 +51,35 @@ impl<'a> Symbol<'a> {
         }
     }
 
-    /// Whether it is `:`.
+    /// Whether the symbol is `:`.
     pub fn is_colon(&self) -> bool
         ensures { result ≡ is_colon (seen self.now) }
     {
         matches!(*self, Symbol::Colon)
     }
 
-    /// Whether it is `,`.
+    /// Whether the symbol is `,`.
     pub fn is_comma(&self) -> bool
         ensures { result ≡ is_comma (seen self.now) }
     {
         matches!(*self, Symbol::Comma)
     }
 
-    /// Whether it is `]`.
+    /// Whether the symbol is `]`.
     pub fn is_close_bracket(&self) -> bool
         ensures { result ≡ is_close_bracket (seen self.now) }
     {
         matches!(*self, Symbol::CloseBracket)
     }
 
-    /// Whether it is the end of a line.
+    /// Whether the symbol is the end of a line.
     pub fn is_line(&self) -> bool
         ensures { result ≡ is_line (seen self.now) }
     {
         matches!(*self, Symbol::Line)
     }
 
-    /// Whether it is this word.
+    /// Whether the symbol is this keyword.
     pub fn is_keyword(&self, keyword: &[u8]) -> bool
         ensures { result ≡ is_keyword keyword.now (seen self.now) }
     {
@@ -89,14 +89,14 @@ impl<'a> Symbol<'a> {
         }
     }
 
-    /// Whether it is a word that begins an action.
+    /// Whether the symbol is a word that begins an action.
     pub fn is_action(&self) -> bool
         ensures { result ≡ is_action (seen self.now) }
     {
         self.is_keyword(b"permit") || self.is_keyword(b"deny") || self.is_keyword(b"ask")
     }
 
-    /// How a predicate compares whose sign this is.
+    /// The comparison of a predicate that this sign spells.
     pub fn comparison(&self) -> Option<Cmp>
         ensures { result ≡ comparison (seen self.now) }
     {

@@ -9,7 +9,7 @@ use st_base::number::{number_of, numeral_up_to};
 use st_calls::{Rule, SysCall};
 use st_filter::{Op, Who};
 
-/// Whether a word is this one.
+/// Whether a word is this keyword.
 pub fn is_keyword(word: &[u8], keyword: &[u8]) -> bool
     ensures { result ≡ bytes_eq word.now keyword.now }
 {
@@ -48,7 +48,7 @@ fn is_name(name: &[u8]) -> bool
     name.len() > 0 && has_name_bytes(name)
 }
 
-/// What stands behind `native-`, where it is the name of a call.
+/// The rest of a word after `native-`, if it can be the name of a call.
 pub fn native_name(word: &[u8]) -> Option<&[u8]>
     ensures { option_copied result ≡ native_name word.now }
 {
@@ -69,7 +69,7 @@ pub fn may_test(name: &[u8], rule: Option<Rule>, label: &[u8], index: u32) -> bo
     }
 }
 
-/// Whether it may test an argument of this label with some index.
+/// Whether such a filter may test an argument of this label with some index.
 pub fn may_test_label(name: &[u8], rule: Option<Rule>, label: &[u8]) -> bool
     ensures { result ≡ may_test_label (name_by name.now rule) label.now }
 {
@@ -79,7 +79,7 @@ pub fn may_test_label(name: &[u8], rule: Option<Rule>, label: &[u8]) -> bool
     }
 }
 
-/// Whether it is for a call that sets ids, to which no ids may be granted.
+/// Whether such a filter is for a call that sets ids, to which no ids may be granted.
 pub fn sets_ids(name: &[u8], rule: Option<Rule>) -> bool
     ensures { result ≡ sets_ids (name_by name.now rule) }
 {
@@ -113,7 +113,7 @@ pub fn op_named(word: &[u8]) -> Option<Op>
     }
 }
 
-/// Whose id a word names.
+/// Whose id a word names: the user's or the group's.
 pub fn who_named(word: &[u8]) -> Option<Who>
     ensures { result ≡ who_named word.now }
 {
@@ -151,7 +151,7 @@ fn id_named(rows: &[NamedId], word: &[u8]) -> Option<u32>
         .map(|row| row.id)
 }
 
-/// The id that a word is: a decimal number below 2^32, else that of the first user, or group, of this name.
+/// The id that a word spells: a decimal number below 2^32, otherwise the id of the first user, or group, of this name.
 pub fn id_of(rows: &[NamedId], word: &[u8]) -> Option<u32>
     ensures { result ≡ id_in rows.now word.now }
 {
@@ -161,7 +161,7 @@ pub fn id_of(rows: &[NamedId], word: &[u8]) -> Option<u32>
     }
 }
 
-/// The names that ids of users, or of groups, may have.
+/// The known names of users, or of groups, with their ids.
 pub fn names_for(env: &Env, who: Who) -> &[NamedId]
     ensures { result.now ≡ names_for env.now who }
 {

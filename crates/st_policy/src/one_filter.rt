@@ -10,7 +10,7 @@ use st_lex::{LexFault, Lexer, Token};
 use st_steps::Reader;
 use std::alloc::Global;
 
-// Behind a filter's line stands nothing.
+// Nothing may follow a filter's line.
 fn behind_filter(filter: Filter, lexer: &mut Lexer) -> Result<Filter, PolicyFault>
     ensures { result ≡ behind_filter lexer.old.fault filter lexer.old.tokens }
 {
@@ -34,7 +34,7 @@ fn begin_filter<'a>(alloc: Global, at: u32, symbol: &Symbol<'a>) -> Result<Reade
     Ok(reader)
 }
 
-// A filter at the end of its text's tokens: the text's end may end it, and what is no token fits nowhere.
+// A filter at the end of its text's tokens: the text's end may end it. Bytes that form no token are a fault.
 fn filter_at_end<'a>(
     reader: &mut Reader<'a>,
     alloc: Global,
@@ -58,7 +58,7 @@ fn filter_at_end<'a>(
     }
 }
 
-// The filter that begins with the token that was read, and goes on with what the lexer has left.
+// The rest of the filter that begins with the token that was read, from the tokens that the lexer has left.
 #[tactic(auto, using(crate::proofs::Cited::stands_elsewhere))]
 fn rest_of_filter<'a>(
     reader: &mut Reader<'a>,
@@ -88,7 +88,7 @@ fn rest_of_filter<'a>(
     filter_at_end(reader, alloc, env, text.len() as u32, broken)
 }
 
-// The filter whose tokens are this one and those that the lexer has left.
+// The filter that this token and those that the lexer has left spell.
 fn filter_of_tokens<'a>(
     alloc: Global,
     env: &Env,
@@ -104,8 +104,8 @@ fn filter_of_tokens<'a>(
     rest_of_filter(&mut reader, alloc, env, text, first, lexer)
 }
 
-/// Reads one filter without a header: exactly where the whole text is one, ended by a line or by the text's end. Else the fault is
-/// the leftmost, at its token.
+/// Reads one filter without a header. It succeeds exactly when the whole text is one filter, ended by a line or by the text's end.
+/// Otherwise the fault is the leftmost, at its token.
 pub fn read_filter(alloc: Global, text: &[u8], env: &Env) -> Result<Filter, PolicyFault>
     requires { length text.now < 2 ^ 32 }
     ensures ok { IfOk result (λ filter. filter_in text.now env.now ≡ Ok filter) }

@@ -23,7 +23,7 @@ fn if_absolute(name: Text) -> Option<Text>
     }
 }
 
-// The binary that a symbol is.
+// The binary that a symbol spells.
 pub(crate) fn binary_of(
     alloc: Global,
     env: &Env,
@@ -38,7 +38,7 @@ pub(crate) fn binary_of(
     }
 }
 
-// A fault where a token is none: the token's own, unless something stands there that can't.
+// The fault where no token begins: the lexical fault, if the grammar expected another symbol, otherwise the fault that was found.
 pub(crate) fn lexical(fault: LexFault, found: PolicyFault) -> PolicyFault
     ensures is { result ≡ lexical fault found }
     ensures memory { result ≢ PolicyFault.NoMemory → found ≢ PolicyFault.NoMemory }
@@ -49,7 +49,7 @@ pub(crate) fn lexical(fault: LexFault, found: PolicyFault) -> PolicyFault
     }
 }
 
-// Behind `Policy:`. Kept out of line, since few symbols are binaries.
+// A symbol after `Policy:`. Not inlined, since few symbols are binaries.
 #[inline(never)]
 fn read_binary<'a>(
     reader: &mut Reader<'a>,
@@ -72,7 +72,7 @@ fn read_binary<'a>(
     Ok(())
 }
 
-// The end of a filter's row adds it to the policies. Kept out of line, since most symbols end no row.
+// Adds the filter to the policies at the end of its row. Not inlined, since most symbols end no row.
 #[inline(never)]
 fn end_filter<'a>(
     reader: &mut Reader<'a>,
@@ -88,7 +88,7 @@ fn end_filter<'a>(
     set.add_filter(filter)
 }
 
-// At every other place; the end of a filter's row adds it to the policies.
+// A symbol at any other place. The end of a filter's row adds the filter to the policies.
 #[inline]
 fn read_other<'a>(
     reader: &mut Reader<'a>,
@@ -134,7 +134,7 @@ fn read<'a>(
     }
 }
 
-// The text's end ends a row, or what stands there is no token.
+// Reads the text's end, which ends a row, or reports the bytes there that form no token.
 fn end<'a>(
     reader: &mut Reader<'a>,
     alloc: Global,
@@ -159,7 +159,7 @@ fn end<'a>(
     }
 }
 
-// Reads what the lexer has left; where that fails, the set has what was read of it.
+// Reads the tokens that the lexer has left. If that fails, the set contains the policies read up to the fault.
 #[tactic(auto, using(crate::proofs::Cited::old_is_kept, crate::proofs::Cited::has_room))]
 fn read_all<'a>(
     reader: &mut Reader<'a>,
@@ -199,7 +199,7 @@ fn read_all<'a>(
     }
 }
 
-// Reads a text; where that fails, the set has what was read of it.
+// Reads a text. If that fails, the set contains the policies read up to the fault.
 fn read_text(
     alloc: Global,
     text: &[u8],
@@ -217,8 +217,9 @@ fn read_text(
     read_all(&mut reader, alloc, text, env, set, &mut lexer)
 }
 
-/// Reads the policies of a text, as in systrace(1), behind those that the set has: exactly where the grammar has a reading of the
-/// text, and then that one. Else the fault is the leftmost, at its token, with its place in the grammar, and the set is as it was.
+/// Reads the policies of a text, as in systrace(1), and appends them to the set. It succeeds exactly when the grammar has a reading of the
+/// text, and gives that reading. Otherwise the fault is the leftmost, at its token, with its place in the grammar, and the set is
+/// unchanged.
 pub fn read_policies(
     alloc: Global,
     text: &[u8],

@@ -3,6 +3,6 @@ use Rattle.std.proofs.Common.{List, ◌++◌}
 use Rattle.st_law.specs.declared.input.ReadSchedule.{ReadSchedule}
 use Rattle.st_law.specs.declared.input.ScheduleLine.{ScheduleLine}
 
--- lines, and what follows behind them
+-- lines, followed by a schedule
 abbrev pub behind : List ScheduleLine → ReadSchedule → ReadSchedule
 behind lines schedule = record { lines = lines ++ schedule.lines; bad = schedule.bad }

@@ -1,4 +1,4 @@
--- Schedules: in each line a thread, a worker, the operator or the rest, and how often.
+-- Schedules: each line names a thread, a worker, the operator or the rest, and how often it is chosen.
 use Rattle.std.specs.Prelude.{ℕ, ◌&&◌, if◌then◌else◌, nat_le, List, [], ◌∷◌, codes, Option, Some, None, option_map, option_and_then}
 use Rattle.st_law.specs.declared.input.ReadSchedule.{ReadSchedule}
 use Rattle.st_law.specs.declared.input.ScheduleLine.{ScheduleLine}
@@ -17,17 +17,17 @@ use Rattle.st_statements.specs.Values.{number_at}
 abbrev pub times : ℕ → Option ℕ
 times n = if nat_le 1 n && nat_le n MOST_TIMES then Some n else None
 
--- [COUNT]: once, where there is none
+-- [COUNT]: once, if there is none
 abbrev pub count_in : List ℕ → List Token → Option ℕ
 count_in text [] = Some 1
 count_in text (count ∷ []) = option_and_then times (number_at text count)
 count_in text _ = None
 
--- a line that asks for this, as often as the tokens behind it say
+-- a line that chooses this, as often as the tokens after it say
 abbrev pub asked : List ℕ → ℕ → What → List Token → Option ScheduleLine
 asked text line what count = option_map (λ n. record { what = what; count = n; line = line }) (count_in text count)
 
--- N [COUNT] of a thread; a number of more than 32 bits is that of no thread
+-- N [COUNT] of a thread; a number of more than 32 bits is no thread's
 abbrev pub thread_line : List ℕ → ℕ → List Token → Option ScheduleLine
 thread_line text line [] = None
 thread_line text line (number ∷ count) =
@@ -39,7 +39,7 @@ worker_line text line [] = None
 worker_line text line (number ∷ count) =
     option_and_then (λ n. asked text line (Choose (Worker (saturated n))) count) (number_at text number)
 
--- behind `rest` stands nothing
+-- nothing may follow `rest`
 abbrev pub rest_line : ℕ → List Token → Option ScheduleLine
 rest_line line [] = Some (record { what = Rest; count = 1; line = line })
 rest_line line _ = None
@@ -54,16 +54,16 @@ schedule_line text (keyword ∷ more) =
     else if is_keyword text (codes "rest") keyword then rest_line keyword.line more
     else None
 
--- a schedule with a line in front, or one that ends at a bad line
+-- a schedule with a line added before it, or an empty schedule that ends at a bad line
 abbrev pub with_line : ℕ → Option ScheduleLine → ReadSchedule → ReadSchedule
 with_line here (Some line) schedule = record { lines = line ∷ schedule.lines; bad = schedule.bad }
 with_line here None schedule = record { lines = []; bad = Some here }
 
--- the lines of rows up to the first that isn't in the grammar; behind the last row stands this bad line, or none
+-- the lines of rows up to the first row that isn't in the grammar; if all rows are in it, the bad line is the given one, if any
 abbrev pub schedule_lines : List ℕ → Option ℕ → List (List Token) → ReadSchedule
 schedule_lines text bad [] = record { lines = []; bad = bad }
 schedule_lines text bad (row ∷ rows) = with_line (line_of_row row) (schedule_line text row) (schedule_lines text bad rows)
 
--- the schedule that a text is; a line with a lexical fault isn't in the grammar
+-- the schedule that a text spells; a line with a lexical fault isn't in the grammar
 abbrev pub schedule_in : List ℕ → ReadSchedule
 schedule_in text = schedule_lines text (line_of_fault text (lexed_text text).fault) (rows (looked_at (lexed_text text)))

@@ -1,4 +1,4 @@
-//! Reads schedules, which say what choices a run makes.
+//! Reads schedules, which say which choices a run makes.
 #![tactic(auto)]
 
 pub mod schedule;

@@ -20,7 +20,7 @@ fn times(number: u64) -> Option<u32>
     }
 }
 
-// Once, where there is no count.
+// The count that the tokens spell; once, if there is none.
 fn count_in(text: &[u8], count: &[Token]) -> Option<u32>
     ensures { result ≡ count_in text.now count.now }
 {
@@ -72,8 +72,8 @@ fn rest_line(line: u32, more: &[Token]) -> Option<ScheduleLine>
     }
 }
 
-/// The line of a schedule that a row is: `thread N [COUNT]`, `worker N [COUNT]`, `operator [COUNT]`, or `rest`. A number of more
-/// than 32 bits is the largest of 32 bits, which no thread and no worker has.
+/// The line of a schedule that a row spells: `thread N [COUNT]`, `worker N [COUNT]`, `operator [COUNT]`, or `rest`. A number of more than
+/// 32 bits becomes the largest of 32 bits, which no thread and no worker has.
 pub fn schedule_line(text: &[u8], row: &[Token]) -> Option<ScheduleLine>
     ensures { result ≡ schedule_line text.now row.now }
 {
@@ -93,7 +93,7 @@ pub fn schedule_line(text: &[u8], row: &[Token]) -> Option<ScheduleLine>
     }
 }
 
-// The lines up to the first that isn't in the grammar, or to the bad one behind them all.
+// The lines up to the first that isn't in the grammar. If all are in it, the bad line is the given one, if any.
 fn schedule_lines(
     alloc: Global,
     text: &[u8],
@@ -115,7 +115,7 @@ fn schedule_lines(
     Ok(ReadSchedule { lines, bad })
 }
 
-/// The schedule of a text: its lines up to the first that isn't in the grammar, which is told.
+/// The schedule of a text: its lines up to the first that isn't in the grammar, and the number of that line.
 pub fn read_schedule(alloc: Global, text: &[u8]) -> Result<ReadSchedule, AllocError>
     requires { length text.now < 2 ^ 32 }
     ensures { IfOk result (λ schedule. schedule ≡ schedule_in text.now) }

@@ -35,12 +35,12 @@ parted tokens end d some within =
     let n : (end - 1) + 1 ≡ end = omega arith in
     ap (λ k. take k tokens) (sym n) ∙ take_more tokens (end - 1) d (omega arith)
 
--- a last token that stands in a line is left out
+-- a last token that ends no line is left out
 pub without_last : (tokens : List Token) (end : ℕ) (d : Token) → 0 < end → end ≤ length tokens → ends_line (get_or tokens (end - 1) d) ≡ false → up_to_last_line (take (end - 1) tokens) ≡ up_to_last_line (take end tokens)
 without_last tokens end d some within e =
     sym (dropped_last (take (end - 1) tokens) (get_or tokens (end - 1) d) e) ∙ ap up_to_last_line (sym (parted tokens end d some within))
 
--- tokens whose last one ends a line are all kept
+-- if the last token ends a line, all tokens are kept
 pub with_last : (tokens : List Token) (end : ℕ) (d : Token) → 0 < end → end ≤ length tokens → ends_line (get_or tokens (end - 1) d) ≡ true → up_to_last_line (take end tokens) ≡ take end tokens
 with_last tokens end d some within e =
     ap up_to_last_line (parted tokens end d some within) ∙ kept_last (take (end - 1) tokens) (get_or tokens (end - 1) d) e ∙ sym (parted tokens end d some within)

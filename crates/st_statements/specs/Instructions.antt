@@ -11,7 +11,7 @@ use Rattle.st_statements.specs.Values.{number_at, number_below}
 use Rattle.st_statements.specs.declared.statement.Statement.{Statement}
 use Rattle.st_statements.specs.declared.statement.Statement.TheVariants.{Store, Put, Call, Fork, End}
 
--- the place of a word of memory
+-- the word index that a token spells
 abbrev pub word_place_at : List ℕ → Token → Option ℕ
 word_place_at text token = option_and_then (number_below SPACE_WORDS) (number_at text token)
 
@@ -20,11 +20,11 @@ abbrev pub store_row : List ℕ → List Token → Option Statement
 store_row text (place ∷ word ∷ []) = option_and_then (λ p. option_map (Store p) (number_at text word)) (word_place_at text place)
 store_row text _ = None
 
--- the place of the word from which on a text is put at this byte, if it and a zero byte lie in memory and begin with a word
+-- the index of the first word of a text put at this byte, if the byte is a word's first and the text and a zero byte fit into memory
 abbrev pub put_place : List ℕ → ℕ → Option ℕ
 put_place bytes at = if at % 8 == 0 && nat_lt (at + length bytes) SPACE_BYTES then Some (at / 8) else None
 
--- the stores of a text from a byte on
+-- the stores of a text from this byte on
 abbrev pub put_at : List ℕ → ℕ → Option Statement
 put_at bytes at = option_map (λ p. Put p bytes) (put_place bytes at)
 
@@ -33,16 +33,16 @@ abbrev pub put_row : List ℕ → List Token → Option Statement
 put_row text (at ∷ quoted ∷ []) = option_and_then (λ bytes. option_and_then (put_at bytes) (number_at text at)) (quoted_at text quoted)
 put_row text _ = None
 
--- a register: the number of a token, 0 where there is none
+-- a register: the number that a token spells, 0 if there is no token
 abbrev pub register_of : List ℕ → Option Token → Option ℕ
 register_of text None = Some 0
 register_of text (Some token) = number_at text token
 
--- the register at a place among the numbers of a row
+-- the register with this index, among the numbers of a row
 abbrev pub register_at : List ℕ → List Token → ℕ → Option ℕ
 register_at text numbers place = register_of text (slice_get numbers place)
 
--- up to six numbers; the rest are 0
+-- the six registers from up to six numbers; those without a number are 0
 abbrev pub registers : List ℕ → List Token → Option (List ℕ)
 registers text numbers =
     if nat_le (length numbers) 6 then
@@ -57,7 +57,7 @@ abbrev pub unless_fork : SysCall → Option SysCall
 unless_fork calls.Fork = None
 unless_fork call = Some call
 
--- the call of a Word
+-- the call that a Word names
 abbrev pub call_at : List ℕ → Token → Option SysCall
 call_at text token = if is_word token.kind then option_and_then unless_fork (call_named (text_of_token text token)) else None
 
@@ -71,7 +71,7 @@ abbrev pub fork_row : List ℕ → List Token → Option Statement
 fork_row text (name ∷ []) = option_map Fork (word_at text name)
 fork_row text _ = None
 
--- nothing stands behind `end`
+-- nothing may follow `end`
 abbrev pub end_row : List Token → Option Statement
 end_row [] = Some End
 end_row (token ∷ tokens) = None

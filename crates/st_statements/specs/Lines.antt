@@ -1,4 +1,4 @@
--- The lines of a text that are looked at: all of them, or those above its first lexical fault.
+-- The lines of a text that are read: all of them, or those above its first lexical fault.
 use Rattle.std.specs.Prelude.{ℕ, ◌+◌, ◌-◌, ◌^◌, min, if◌then◌else◌, List, [], ◌∷◌, take, Option, Some, None}
 use Rattle.std.specs.List.{list_any}
 use Rattle.st_lex.specs.declared.token.LexFault.{LexFault}
@@ -8,7 +8,7 @@ use Rattle.st_lex.specs.Quoted.{place_of}
 use Rattle.st_lex.specs.Rows.{ends_line}
 use Rattle.st_lex.specs.Slices.{newlines}
 
--- a number as 32 bits have it: one that is larger is the largest
+-- a number in 32 bits: a larger one becomes the largest of 32 bits
 abbrev pub saturated : ℕ → ℕ
 saturated n = min n (2 ^ 32 - 1)
 
@@ -22,11 +22,11 @@ abbrev pub whole_lines : List Token → Option LexFault → List Token
 whole_lines tokens None = tokens
 whole_lines tokens (Some fault) = up_to_last_line tokens
 
--- the tokens that are looked at
+-- the tokens that are read
 abbrev pub looked_at : Lexed → List Token
 looked_at lexed = whole_lines lexed.tokens lexed.fault
 
--- the line on which a place of a text stands, counted from 1
+-- the line of an offset of a text, counted from 1
 abbrev pub line_at : List ℕ → ℕ → ℕ
 line_at text place = saturated (newlines (take place text) + 1)
 

@@ -10,13 +10,13 @@ use Rattle.st_statements.specs.declared.statement.Statement.{Statement}
 use Rattle.st_statements.specs.declared.objects.TheConstants.{LINK_MODE}
 use Rattle.st_statements.specs.declared.statement.Statement.TheVariants.{Object}
 
--- what is made, where its kind, owner, group and mode are there
+-- a new object, if its kind, owner, group and mode were read
 abbrev pub node_of : Option NewKind → Option ℕ → Option ℕ → Option ℕ → Option NewNode
 node_of kind uid gid mode =
     option_and_then (λ k. option_and_then (λ u. option_and_then (λ g. option_map (λ m. record { kind = k; uid = u; gid = g; mode = m })
     mode) gid) uid) kind
 
--- an object at a place, where both are there
+-- an object at a path, if both were read
 abbrev pub object_of : Option (List ℕ) → Option NewNode → Option Statement
 object_of path new = option_and_then (λ p. option_map (Object p) new) path
 
@@ -24,12 +24,12 @@ object_of path new = option_and_then (λ p. option_map (Object p) new) path
 abbrev pub file_at : List ℕ → Token → Option NewKind
 file_at text content = option_map File (quoted_at text content)
 
--- a link with this target
+-- a link with this target, unless it is empty
 abbrev pub link_to : List ℕ → Option NewKind
 link_to [] = None
 link_to (byte ∷ bytes) = Some (Link (byte ∷ bytes))
 
--- a link, whose target isn't empty
+-- the link to a quoted target that isn't empty
 abbrev pub link_at : List ℕ → Token → Option NewKind
 link_at text target = option_and_then link_to (quoted_at text target)
 

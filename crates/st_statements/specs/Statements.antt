@@ -26,7 +26,7 @@ outer_row text keyword row =
     else if is_keyword text (codes "reply") keyword then reply_row text row
     else None
 
--- what a row of a body says
+-- what a row says inside the body of a thread, by its keyword
 abbrev pub inner_row : List ℕ → Token → List Token → Option Statement
 inner_row text keyword row =
     if is_keyword text (codes "store") keyword then store_row text row
@@ -36,27 +36,27 @@ inner_row text keyword row =
     else if is_keyword text (codes "end") keyword then end_row row
     else None
 
--- what a row says inside the body of a thread, or outside; nothing where it isn't in the grammar there
+-- what a row says inside the body of a thread, or outside; nothing if it isn't in the grammar there
 abbrev pub statement_of : List ℕ → Bool → List Token → Option Statement
 statement_of text inside [] = None
 statement_of text inside (keyword ∷ row) = if inside then inner_row text keyword row else outer_row text keyword row
 
--- whether the rows behind a row are inside a body: `thread` opens one, and only `end` closes it
+-- whether the rows after a row are inside a body: `thread` opens one, and only `end` closes it
 abbrev pub is_inside_behind : Bool → Option Statement → Bool
 is_inside_behind inside (Some (Thread name process)) = true
 is_inside_behind inside (Some End) = false
 is_inside_behind inside _ = inside
 
--- a line that says this
+-- the line of a row, with what it says
 abbrev pub line_of : List Token → Option Statement → ScriptLine
 line_of row says = record { number = line_of_row row; says = says }
 
--- the lines of rows, whose first is inside a body or outside
+-- the lines of rows, of which the first is inside a body or outside
 abbrev pub lines_from : List ℕ → Bool → List (List Token) → List ScriptLine
 lines_from text inside [] = []
 lines_from text inside (row ∷ rows) =
     line_of row (statement_of text inside row) ∷ lines_from text (is_inside_behind inside (statement_of text inside row)) rows
 
--- the lines of a script that are looked at
+-- the lines of a script that are read
 abbrev pub lines_in : List ℕ → List ScriptLine
 lines_in text = lines_from text false (rows (looked_at (lexed_text text)))

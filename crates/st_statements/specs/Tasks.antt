@@ -7,7 +7,7 @@ use Rattle.st_statements.specs.Values.{id_at}
 use Rattle.st_statements.specs.declared.statement.Statement.{Statement}
 use Rattle.st_statements.specs.declared.statement.Statement.TheVariants.{Process, Thread, Reply}
 
--- traced, or untraced
+-- `traced`, or `untraced`
 abbrev pub traced_at : List ℕ → Token → Option Bool
 traced_at text token =
     if is_keyword text (codes "traced") token then Some true

@@ -1,4 +1,4 @@
--- What single tokens spell.
+-- The values that single tokens spell.
 use Rattle.std.specs.Prelude.{ℕ, ◌^◌, if◌then◌else◌, nat_lt, List, Option, Some, None, option_and_then}
 use Rattle.st_base.specs.Number.{number_in, mode_in}
 use Rattle.st_lex.specs.declared.token.Token.{Token}
@@ -8,7 +8,7 @@ use Rattle.st_lex.specs.Text.{text_of_token, is_word}
 abbrev pub number_at : List ℕ → Token → Option ℕ
 number_at text token = if is_word token.kind then number_in (text_of_token text token) else None
 
--- a number that is below this one
+-- a number, if it is below this bound
 abbrev pub number_below : ℕ → ℕ → Option ℕ
 number_below bound n = if nat_lt n bound then Some n else None
 

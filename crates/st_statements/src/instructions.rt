@@ -10,7 +10,7 @@ use st_lex::Token;
 use st_model::{SPACE_BYTES, SPACE_WORDS};
 use std::alloc::{AllocError, Global};
 
-// The place of a word of memory.
+// The word index that a token spells.
 fn word_place_at(text: &[u8], token: &Token) -> Option<u32>
     ensures { result ≡ word_place_at text.now token.now }
 {
@@ -34,7 +34,7 @@ pub fn store_row(text: &[u8], row: &[Token]) -> Option<Statement>
     Some(Statement::Store(place, word))
 }
 
-// The place of the word from which on a text is put at this byte.
+// The index of the first word of a text that is put at this byte.
 fn put_place(bytes: &[u8], at: u64) -> Option<u32>
     ensures { result ≡ put_place bytes.now at }
 {
@@ -97,7 +97,7 @@ fn unless_fork(call: SysCall) -> Option<SysCall>
     }
 }
 
-// The call of a Word, which isn't fork.
+// The call that a Word names, other than fork.
 fn call_at(text: &[u8], token: &Token) -> Option<SysCall>
     ensures { result ≡ call_at text.now token.now }
 {
@@ -133,7 +133,7 @@ pub fn fork_row(alloc: Global, text: &[u8], row: &[Token]) -> Result<Option<Stat
     }
 }
 
-/// The end of a body, behind which nothing stands.
+/// The end of a body, which nothing may follow.
 pub fn end_row(row: &[Token]) -> Option<Statement>
     ensures { result ≡ end_row row.now }
 {

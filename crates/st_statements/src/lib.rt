@@ -1,4 +1,4 @@
-//! What each line of a script says.
+//! Reads the rows of a script as statements.
 #![tactic(auto)]
 
 pub mod accounts;

@@ -6,7 +6,7 @@ ghost use Rattle.st_statements.specs.Lines.{saturated, up_to_last_line, whole_li
 
 use st_lex::{LexFault, Lexed, Token, TokenKind};
 
-/// A number of 32 bits: the largest one where the number is larger.
+/// A number in 32 bits: a larger one becomes the largest of 32 bits.
 pub fn saturated(number: u64) -> u32
     ensures { result ≡ saturated number }
 {
@@ -32,7 +32,7 @@ fn up_to_last_line(tokens: &[Token]) -> &[Token]
     &[]
 }
 
-/// The tokens of all lines, or of those above the first lexical fault.
+/// The tokens of all lines, or of the lines above the first lexical fault.
 pub fn looked_at(lexed: &Lexed) -> &[Token]
     ensures { result.now ≡ looked_at lexed.now }
 {

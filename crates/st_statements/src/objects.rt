@@ -12,7 +12,7 @@ use std::alloc::{AllocError, Global};
 /// The mode of every link.
 pub const LINK_MODE: u32 = 0o777;
 
-// What is made, where its kind, owner, group and mode are there.
+// A new object, if its kind, owner, group and mode were read.
 fn node_of(
     kind: Option<NewKind>,
     uid: Option<u32>,
@@ -32,7 +32,7 @@ fn node_of(
     }
 }
 
-// An object at a place, where both are there.
+// An object at a path, if both were read.
 fn object_of(path: Option<Text>, new: Option<NewNode>) -> Option<Statement>
     ensures { result ≡ object_of path new }
 {
@@ -59,7 +59,7 @@ fn link_to(target: Text) -> Option<NewKind>
     }
 }
 
-// A link, whose target isn't empty.
+// A link to a quoted target that isn't empty.
 fn link_at(alloc: Global, text: &[u8], target: &Token) -> Result<Option<NewKind>, AllocError>
     ensures { IfOk result (λ found. found ≡ link_at text.now target.now) }
 {

@@ -8,7 +8,7 @@ use st_lex::{Token, unquote_plain};
 use st_names::{LONGEST_NAME, has_long_part};
 use std::alloc::{AllocError, Global};
 
-/// A Word.
+/// The text of a Word.
 pub fn word_at<'a>(text: &'a [u8], token: &Token) -> Option<&'a [u8]>
     ensures { option_copied result ≡ word_at text.now token.now }
 {
@@ -19,7 +19,7 @@ pub fn word_at<'a>(text: &'a [u8], token: &Token) -> Option<&'a [u8]>
     }
 }
 
-/// What a quoted text holds, its escapes read.
+/// The content of a quoted text, with its escapes replaced.
 pub fn quoted_at(alloc: Global, text: &[u8], token: &Token) -> Result<Option<Text>, AllocError>
     ensures { IfOk result (λ found. found ≡ quoted_at text.now token.now) }
 {
@@ -44,7 +44,7 @@ fn has_plain_parts(names: &[u8]) -> bool
         .all(|part| is_plain_part(part))
 }
 
-/// Whether a name is absolute and in normal form: `/`, or parts behind slashes, none of them empty, `.` or `..`.
+/// Whether a name is absolute and in normal form: `/`, or parts after slashes, none of them empty, `.` or `..`.
 pub fn is_normal(name: &[u8]) -> bool
     ensures { result ≡ is_normal name.now }
 {
@@ -68,7 +68,7 @@ pub fn path_at(alloc: Global, text: &[u8], token: &Token) -> Result<Option<Text>
     }
 }
 
-/// A quoted name in normal form that isn't the root's.
+/// A quoted name in normal form other than the root's.
 pub fn place_at(alloc: Global, text: &[u8], token: &Token) -> Result<Option<Text>, AllocError>
     ensures { IfOk result (λ found. found ≡ place_at text.now token.now) }
 {
@@ -78,7 +78,7 @@ pub fn place_at(alloc: Global, text: &[u8], token: &Token) -> Result<Option<Text
     }
 }
 
-// What stands in a text from one place to another.
+// The bytes of a text from one offset to another.
 fn between(text: &[u8], start: usize, end: usize) -> &[u8]
     ensures is { result.now ≡ between text.now start end }
     ensures few { length result.now ≤ length text.now }
@@ -87,7 +87,7 @@ fn between(text: &[u8], start: usize, end: usize) -> &[u8]
     &rest[..rest.len().min(end.saturating_sub(start))]
 }
 
-// Where the last of some tokens ends.
+// The offset after the last of some tokens.
 fn end_of(first: &Token, behind: &[Token]) -> usize
     ensures { result ≡ end_of first.now behind.now }
 {
@@ -95,7 +95,7 @@ fn end_of(first: &Token, behind: &[Token]) -> usize
     last.at as usize + last.len as usize
 }
 
-/// What stands in a text from the first to the last of some tokens.
+/// The bytes of a text from the first to the last of some tokens.
 pub fn text_of_tokens<'a>(text: &'a [u8], tokens: &[Token]) -> &'a [u8]
     ensures is { result.now ≡ text_of_tokens text.now tokens.now }
     ensures few { length result.now ≤ length text.now }

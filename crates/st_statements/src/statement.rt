@@ -1,4 +1,4 @@
-//! What the rows of a script say.
+//! The statements of a script's rows.
 
 ghost use Rattle.std.specs.Prelude.{◌≡◌, ◌^◌, ◌<◌, length, IfOk};
 
@@ -11,14 +11,14 @@ use std::marker::Model;
 /// A process of a script, whose binary and directory are absolute names.
 #[derive(Debug, Drop)]
 pub struct ScriptProcess {
-    /// By which threads speak of it.
+    /// The name by which threads refer to it.
     pub name: Text,
     /// Whether policies apply to it.
     pub traced: bool,
     pub binary: Text,
     pub uid: u32,
     pub gid: u32,
-    /// Where its names begin that aren't absolute.
+    /// The directory that its relative names begin at.
     pub cwd: Text,
 }
 
@@ -66,13 +66,13 @@ pub enum Statement {
     /// An object of the file tree, at an absolute name other than the root's.
     Object { path: Text, new: NewNode },
     Process(ScriptProcess),
-    /// A thread, whose body are the rows below it; with the process that it starts in, or without one: it waits for a fork.
+    /// A thread, whose body is the rows after it, and the process that it starts in. Without a process it waits for a fork.
     Thread { name: Text, process: Option<Text> },
-    /// A reply, with the quoted text of its binary and the text of its filter as they stand.
+    /// A reply, with the quoted text of its binary and the text of its filter as they were written.
     Reply { binary: Text, filter: FilterText },
-    /// A store of a word at a place of memory.
+    /// A store of a word at this word index.
     Store(u32, u64),
-    /// The stores of a text and a zero byte, from this place on.
+    /// The stores of a text and a zero byte, from this word index on.
     Put(u32, Text),
     Call(SysCall, [u64; 6]),
     /// The call fork, whose child is the thread of this name.
@@ -86,6 +86,6 @@ pub enum Statement {
 pub struct ScriptLine {
     /// Counted from 1.
     pub number: u32,
-    /// What it says; nothing where it isn't in the grammar.
+    /// What it says; nothing if it isn't in the grammar.
     pub says: Option<Statement>,
 }

@@ -43,7 +43,7 @@ fn outer_row(
     }
 }
 
-// What a row of a body says.
+// What a row says inside the body of a thread.
 fn inner_row(
     alloc: Global,
     text: &[u8],
@@ -67,7 +67,7 @@ fn inner_row(
     }
 }
 
-/// What a row says inside the body of a thread, or outside; nothing where it isn't in the grammar there.
+/// What a row says inside the body of a thread, or outside; nothing if it isn't in the grammar there.
 pub fn statement_of(
     alloc: Global,
     text: &[u8],
@@ -87,7 +87,7 @@ pub fn statement_of(
     }
 }
 
-// Whether the rows behind a row are inside a body.
+// Whether the rows after a row are inside a body.
 fn is_inside_behind(inside: bool, says: &Option<Statement>) -> bool
     ensures { result ≡ is_inside_behind inside says.now }
 {
@@ -98,7 +98,7 @@ fn is_inside_behind(inside: bool, says: &Option<Statement>) -> bool
     }
 }
 
-/// The lines of a script, by the tokens that are looked at.
+/// The lines of a script, from the tokens that are read.
 pub fn lines_of_tokens(
     alloc: Global,
     text: &[u8],

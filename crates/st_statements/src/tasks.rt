@@ -57,7 +57,7 @@ pub fn process_row(
     })))
 }
 
-// NAME of a thread that waits for a fork.
+// A thread that waits for a fork, by its name.
 fn waiting_thread(alloc: Global, text: &[u8], name: &Token) -> Result<Option<Statement>, AllocError>
     ensures { IfOk result (λ found. found ≡ waiting_thread text.now name.now) }
 {
@@ -70,7 +70,7 @@ fn waiting_thread(alloc: Global, text: &[u8], name: &Token) -> Result<Option<Sta
     }))
 }
 
-// NAME and PROCESS of a thread that starts there.
+// A thread that starts in a process, by the names of both.
 fn starting_thread(
     alloc: Global,
     text: &[u8],

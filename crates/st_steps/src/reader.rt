@@ -21,17 +21,17 @@ use std::mem::replace;
 // How many of `not`, `and`, `or` and `(` one filter may have.
 const MOST_JOINS: u32 = 64;
 
-/// How far a text is read, but for its policies: where the grammar has come, and what the row has spelled. Parts of the text are named
-/// and not copied.
+/// How far a text has been read, except for its policies: the place in the grammar, and the parts of the current row. Parts of the text are
+/// borrowed and not copied.
 #[derive(Drop)]
 pub struct Reader<'a> {
     pub(crate) place: Place,
-    // How many filters there are, this one and those of earlier files too.
+    // How many filters have been read, those of earlier files and the current one included.
     pub(crate) filters: usize,
-    // The filter's name behind `native-`, and its rule, unless it is a call outside the model.
+    // The filter's name after `native-`, and its rule, unless it is a call outside the model.
     pub(crate) name: &'a [u8],
     pub(crate) rule: Option<Rule>,
-    // The label that is read, where it stands, and what follows it.
+    // The current label, its offset in the text, and its index.
     pub(crate) label: &'a [u8],
     pub(crate) label_at: u32,
     pub(crate) index: u32,
@@ -68,7 +68,7 @@ impl<'a> Model for Reader<'a> {
 }
 
 impl<'a> Reader<'a> {
-    /// The front of a text, with so many filters read before it. It takes no memory.
+    /// The beginning of a text, with so many filters read before it. It takes no memory.
     pub fn new(alloc: Global, filters: usize) -> Self
         ensures { result ≡ fresh Place.Start filters (FilterName.Other []) }
     {
@@ -93,14 +93,14 @@ impl<'a> Reader<'a> {
         }
     }
 
-    /// Where the next token stands.
+    /// The place of the next token.
     pub fn place(&self) -> Place
         ensures { result ≡ self.now.place }
     {
         self.place
     }
 
-    // The front of the next row. The memory of what waits is kept, so that rows of deep expressions don't take it anew.
+    // The beginning of the next row. The memory of the pending operands is kept, so that rows of deep expressions don't allocate it anew.
     fn clear(&mut self)
         ensures { self.new ≡ taken self.old }
     {
@@ -120,7 +120,7 @@ impl<'a> Reader<'a> {
         self.predicate = None;
     }
 
-    // The symbol may stand here, and adds nothing.
+    // The symbol may stand here, and it adds nothing.
     #[inline]
     pub(crate) fn go(&mut self, next: Place) -> Result<(), PolicyFault>
         ensures { IsStepped result self.new (step_to self.old next) }
@@ -129,7 +129,7 @@ impl<'a> Reader<'a> {
         Ok(())
     }
 
-    // One thing alone may stand here.
+    // Only one symbol may stand here.
     pub(crate) fn only(&mut self, at: u32, fits: bool, next: Place) -> Result<(), PolicyFault>
         ensures { IsStepped result self.new (only self.old at fits next) }
     {
@@ -140,7 +140,7 @@ impl<'a> Reader<'a> {
         Ok(())
     }
 
-    /// Behind `Policy:`, where this binary is named.
+    /// After `Policy:`, where this binary is named.
     pub fn begin_policy(
         &mut self,
         known: &PolicySet,
@@ -157,7 +157,7 @@ impl<'a> Reader<'a> {
         Ok(())
     }
 
-    /// At the front of a row, where a filter's name stands.
+    /// At the beginning of a row, at a filter's name.
     pub fn begin_filter(&mut self, at: u32, word: &'a [u8]) -> Result<(), PolicyFault>
         ensures { IsStepped result self.new (step_name self.old at word.now) }
     {
@@ -175,7 +175,7 @@ impl<'a> Reader<'a> {
         Ok(())
     }
 
-    // The name of the filter that is read.
+    // The name of the current filter.
     fn filter_name(&self, alloc: Global) -> Result<FilterName, AllocError>
         ensures { IfOk result (λ name. name ≡ self.now.name) }
     {
@@ -185,7 +185,7 @@ impl<'a> Reader<'a> {
         }
     }
 
-    /// The filter that was read. The next token stands at the front of a row.
+    /// Takes the filter that was read. The next token is at the beginning of a row.
     pub fn take_filter(&mut self, alloc: Global) -> Result<Filter, AllocError>
         ensures filter { IfOk result (λ filter. filter ≡ filter_of self.old) }
         ensures taken { OnOk result (self.new ≡ taken self.old) }
@@ -231,7 +231,7 @@ impl<'a> Reader<'a> {
         Ok(())
     }
 
-    // This waits for what comes next.
+    // Adds a pending operand.
     pub(crate) fn wait(&mut self, pending: PendingOperand) -> Result<(), AllocError>
         ensures { OnOk result (self.new ≡ waits (waiting pending) self.old) }
     {
@@ -247,14 +247,14 @@ impl<'a> Reader<'a> {
         self.pending.settle(alloc, &mut self.expr)
     }
 
-    // A conjunction is complete: `or`, `)` or `then` comes next.
+    // A conjunction is complete, because `or`, `)` or `then` follows.
     pub(crate) fn conclude(&mut self, alloc: Global) -> Result<(), AllocError>
         ensures { OnOk result (self.new ≡ concluded self.old) }
     {
         self.pending.close_either(alloc, &mut self.expr)
     }
 
-    // `and` joins what was read with what comes next.
+    // `and` joins what was read with what follows.
     pub(crate) fn join_both(&mut self, alloc: Global) -> Result<(), AllocError>
         ensures { OnOk result (self.new ≡ record self.old { expression = joins_both self.old.expression }) }
     {
@@ -263,7 +263,7 @@ impl<'a> Reader<'a> {
             .push(PendingOperand::Both(Box::new(alloc, left)?))
     }
 
-    // The same for `or`, behind a complete conjunction.
+    // `or` joins a complete conjunction with what follows.
     pub(crate) fn join_either(&mut self, alloc: Global) -> Result<(), AllocError>
         ensures { OnOk result (self.new ≡ record self.old { expression = joins_either self.old.expression }) }
     {
@@ -272,7 +272,7 @@ impl<'a> Reader<'a> {
             .push(PendingOperand::Either(Box::new(alloc, left)?))
     }
 
-    // A parenthesis is closed, behind a complete conjunction.
+    // A parenthesis is closed after a complete conjunction.
     pub(crate) fn close_group(&mut self, alloc: Global) -> Result<(), AllocError>
         ensures { OnOk result (self.new ≡ record self.old { expression = close_group self.old.expression }) }
     {

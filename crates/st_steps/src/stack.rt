@@ -8,28 +8,28 @@ use std::alloc::{AllocError, Global};
 use std::marker::Model;
 use std::mem::replace;
 
-/// What waits for its right operand, or to be closed.
+/// A pending operand: an operator that waits for its right operand, or a parenthesis that isn't closed yet.
 #[derive(Drop)]
 pub(crate) enum PendingOperand {
     Negation,
     Group,
-    /// Joined by `and` with what comes next.
+    /// Joined by `and` with what follows.
     Both(Box<Expr>),
-    /// Joined by `or` with what comes next.
+    /// Joined by `or` with what follows.
     Either(Box<Expr>),
 }
 
-/// What something that waits takes.
+/// What a pending operand takes.
 #[derive(Clone, Copy)]
 pub(crate) enum Takes {
     Operand,
     Conjunction,
-    /// What stands between its parentheses.
+    /// The expression between its parentheses.
     Expression,
 }
 
 impl PendingOperand {
-    // What it takes as soon as that is complete.
+    // What the pending operand takes once it is complete.
     fn takes(&self) -> Takes
         ensures { result ≡ takes (waiting self.now) }
     {
@@ -41,7 +41,7 @@ impl PendingOperand {
         }
     }
 
-    // What it makes of its right operand.
+    // The expression of the pending operand with its right operand.
     fn with_right_operand(self, alloc: Global, right: Expr) -> Result<Expr, AllocError>
         ensures { IfOk result (λ e. formula e ≡ with_right_operand (waiting self) (formula right)) }
     {
@@ -54,7 +54,7 @@ impl PendingOperand {
     }
 }
 
-/// All that waits.
+/// All pending operands.
 #[derive(Drop)]
 pub(crate) struct Stack {
     // The newest last.
@@ -76,7 +76,7 @@ impl Model for Stack {
 }
 
 impl Stack {
-    /// Nothing waits; it takes no memory.
+    /// A stack without pending operands; it takes no memory.
     pub(crate) fn new(alloc: Global) -> Self
         ensures { result ≡ [] }
     {
@@ -85,7 +85,7 @@ impl Stack {
         }
     }
 
-    /// Nothing waits any more; the memory is kept for the next row.
+    /// Drops all pending operands; the memory is kept for the next row.
     pub(crate) fn clear(&mut self)
         ensures { self.new ≡ [] }
     {
@@ -106,14 +106,14 @@ impl Stack {
         self.items.pop()
     }
 
-    // What the newest takes.
+    // What the newest pending operand takes.
     fn newest(&self) -> Option<Takes>
         ensures { result ≡ newest self.now }
     {
         self.items.last().map(PendingOperand::takes)
     }
 
-    // What waits and binds takes the operand. Kept out of line, since mostly nothing does.
+    // The pending operands that bind take the operand. Not inlined, since mostly there is none.
     #[inline(never)]
     #[tactic(auto, using(crate::proofs::Settling::settle_binds, crate::proofs::Settling::settle_stops))]
     fn bind(&mut self, alloc: Global, operand: &mut Expr) -> Result<(), AllocError>
@@ -129,7 +129,7 @@ impl Stack {
         Ok(())
     }
 
-    /// An operand is complete: what waits and binds takes it.
+    /// An operand is complete: the pending operands that bind take it.
     #[inline]
     #[tactic(auto, using(crate::proofs::Settling::settle_stops))]
     pub(crate) fn settle(&mut self, alloc: Global, operand: &mut Expr) -> Result<(), AllocError>
@@ -141,7 +141,7 @@ impl Stack {
         }
     }
 
-    // An `or` that waits takes the conjunction. Kept out of line, as `bind` is.
+    // A pending `or` takes the conjunction. Not inlined, like `bind`.
     #[inline(never)]
     #[tactic(auto, using(crate::proofs::Settling::close_either_joins))]
     fn bind_either(&mut self, alloc: Global, conjunction: &mut Expr) -> Result<(), AllocError>
@@ -156,7 +156,7 @@ impl Stack {
         Ok(())
     }
 
-    /// A conjunction is complete: an `or` that waits takes it.
+    /// A conjunction is complete: a pending `or` takes it.
     #[inline]
     #[tactic(auto, using(crate::proofs::Settling::close_either_stops))]
     pub(crate) fn close_either(

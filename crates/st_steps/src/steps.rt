@@ -122,14 +122,14 @@ impl<'a> Reader<'a> {
         }
     }
 
-    // Whether the filter may test the label that was read with this index.
+    // Whether the filter may test the argument of the current label with this index.
     fn may_test(&self, index: u32) -> bool
         ensures { result ≡ may_test self.now.name self.now.label index }
     {
         may_test(self.name, self.rule, self.label, index)
     }
 
-    // The call has no such argument.
+    // The fault of a label and index that the call has no argument for.
     fn no_argument(&self) -> PolicyFault
         ensures { result ≡ PolicyFault.UnknownArgument self.now.label_at }
     {
@@ -146,7 +146,7 @@ impl<'a> Reader<'a> {
         }
     }
 
-    // The index that is spelled, if one is.
+    // The index that is spelled, if any.
     fn step_indexed(&mut self, at: u32, index: Option<u32>) -> Result<(), PolicyFault>
         ensures { IsStepped result self.new (step_indexed self.old at index) }
     {
@@ -193,7 +193,7 @@ impl<'a> Reader<'a> {
         Ok(())
     }
 
-    // `and`, `or`, or `then` behind an operand.
+    // `and`, `or`, or `then` after an operand.
     fn step_joint_word(&mut self, alloc: Global, at: u32, word: &'a [u8]) -> Result<(), PolicyFault>
         ensures { IsStepped result self.new (step_joint self.old at (Word word.now)) }
     {
@@ -231,7 +231,7 @@ impl<'a> Reader<'a> {
 
 // Actions and what follows them.
 impl<'a> Reader<'a> {
-    // This action is read.
+    // Sets the filter's action.
     fn act(&mut self, action: Action, next: Place) -> Result<(), PolicyFault>
         ensures { IsStepped result self.new (Ok (acts action next self.old)) }
     {
@@ -298,7 +298,7 @@ impl<'a> Reader<'a> {
         self.go(Place::Grant { log })
     }
 
-    // `as` or `log`, where they may still come.
+    // `as` or `log`, where they may still follow.
     fn step_tail_word(
         &mut self,
         env: &Env,
@@ -361,7 +361,7 @@ impl<'a> Reader<'a> {
 
 // Ids.
 impl<'a> Reader<'a> {
-    // This user is granted, or nobody yet.
+    // The grant begins with this user, or with none.
     fn begin_grant(&mut self, user: Option<u32>, next: Place) -> Result<(), PolicyFault>
         ensures { IsStepped result self.new (Ok (grants user next self.old)) }
     {
@@ -475,7 +475,7 @@ impl<'a> Reader<'a> {
 
 // All places.
 impl<'a> Reader<'a> {
-    /// Takes in a symbol at every place but a header's binary.
+    /// Reads a symbol at every place but a header's binary.
     pub fn step(
         &mut self,
         alloc: Global,

@@ -3,7 +3,7 @@ use Rattle.st_command.specs.Given.{count_of}
 use Rattle.st_command.specs.Reading.{shown}
 use Rattle.st_command.proofs.given.count_of.Given as goal
 
--- those so far, and those that are left
+-- the options counted so far, and those that are left
 abbrev pub invariant-loop-option : goal.invariant-loop-option
 invariant-loop-option l = record {
   few : l.count ≤ l.option-index;

@@ -3,6 +3,6 @@ use Rattle.st_command.specs.Command.{ids_of}
 use Rattle.st_command.specs.Reading.{shown}
 use Rattle.st_command.proofs.given.ids_of.Given as goal
 
--- what is left gives the answer
+-- the options that are left give the answer
 abbrev pub invariant-loop-option : goal.invariant-loop-option
 invariant-loop-option l = ids_of (map shown (drop l.option-index l.options)) ≡ ids_of (map shown l.options)

@@ -4,7 +4,7 @@ use Rattle.st_schedule.specs.Schedule.{schedule_lines}
 use Rattle.st_schedule.proofs.Scheduled.{behind}
 use Rattle.st_schedule.proofs.schedule.schedule_lines.Given as goal
 
--- the lines so far, and what the rest gives behind them, are what all rows give
+-- the lines so far, followed by what the rest of the rows gives, are what all rows give
 abbrev pub invariant-loop-row : goal.invariant-loop-row
 invariant-loop-row l = behind l.lines (schedule_lines l.text l.bad (rows l.rest)) ≡ schedule_lines l.text l.bad (rows l.tokens)
 

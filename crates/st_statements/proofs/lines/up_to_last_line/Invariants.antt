@@ -2,7 +2,7 @@ use Rattle.std.proofs.Common.{◌≡◌, ◌≤◌, length, take}
 use Rattle.st_statements.specs.Lines.{up_to_last_line}
 use Rattle.st_statements.proofs.lines.up_to_last_line.Given as goal
 
--- no line ends behind the first tokens
+-- no token after the first `end` ones ends a line
 abbrev pub invariant-loop-end : goal.invariant-loop-end
 invariant-loop-end l = record {
   within : l.end ≤ length l.tokens;

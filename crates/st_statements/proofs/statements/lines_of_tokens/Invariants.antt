@@ -3,7 +3,7 @@ use Rattle.st_lex.specs.Rows.{rows}
 use Rattle.st_statements.specs.Statements.{lines_from}
 use Rattle.st_statements.proofs.statements.lines_of_tokens.Given as goal
 
--- the lines so far, and those of the rest behind them, are the lines of all rows
+-- the lines so far, followed by those of the rest, are the lines of all rows
 abbrev pub invariant-loop-row : goal.invariant-loop-row
 invariant-loop-row l = l.lines ++ lines_from l.text l.inside (rows l.rest) ≡ lines_from l.text false (rows l.tokens)
 
