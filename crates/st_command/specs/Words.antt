@@ -17,7 +17,7 @@ abbrev pub decimal_in : ℕ → Word → Option ℕ
 decimal_in most digits =
     if bytes_eq digits (codes "0") || not (starts_with nat_eq digits (codes "0")) then numeral_up_to most 10 digits else None
 
--- the greatest id
+-- the largest id
 abbrev pub most_id : ℕ
 most_id = 2 ^ 32 - 1
 

@@ -11,13 +11,13 @@ use std::alloc::{AllocError, Global};
 /// What is printed of a run.
 #[derive(Clone, Copy, Debug, PartialEq, Eq)]
 pub enum Print {
-    /// A line for each call of a traced process.
+    /// The audit: a line for each call of a traced process that was made or denied.
     Audit,
-    /// All that happened.
+    /// The trace: each entry, as text.
     Trace,
-    /// The choices that were made.
+    /// The schedule: the choices that were made.
     Schedule,
-    /// The policies, with what was learnt.
+    /// The policies, with the filters that the session has added.
     Policy,
 }
 
@@ -45,7 +45,7 @@ pub enum Given<'a> {
     Print(Print),
 }
 
-/// The option that stands alone as this word.
+/// The option that this word is without a value.
 pub(crate) fn alone<'a>(word: &[u8]) -> Option<Given<'a>>
     ensures { option_map shown result ≡ alone word.now }
 {
@@ -80,7 +80,7 @@ fn print_in(word: &[u8]) -> Option<Print>
     }
 }
 
-/// The option that a word is with its value behind it.
+/// The option that this word is with this value.
 pub(crate) fn valued<'a>(word: &[u8], value: &'a Text) -> Option<Given<'a>>
     ensures { option_map shown result ≡ valued word.now value.now }
 {

@@ -1,4 +1,4 @@
-//! Reads the words of the command line: which command they spell, and with which options.
+//! Reads the words of the command line as a command: which command they spell, and with which options.
 #![tactic(auto)]
 
 pub mod command;

@@ -56,7 +56,7 @@ module _ (env : Env) (rows front : List Symbol) (w : GrammarState) (set : List B
   no-binary place.Binary h = absurd (named-not front (Colon ∷ []) named h.front_is)
   no-binary _ h = refl
 
-  -- where a Line may stand, a whole filter has been spelled
+  -- where a Line may occur, a whole filter has been spelled
   pub spelled : (at : ℕ) (known : List (List ℕ)) (v : GrammarState) (p : Place) → Facts env [] rows front p w set → step env known w at Line p ≡ Ok v → IsFilter env front (filter_of v)
   spelled at known v p h e = by p h e where
     so : IsFilter env front (filter_of w) → step_to w place.Row ≡ Ok v → IsFilter env front (filter_of v)
@@ -186,7 +186,7 @@ sound_tokens env text broken f (t ∷ ts) e = by (begin_filter t.at (symbol_of t
       let l = sound_from env text broken f ts (symbol_of text t ∷ []) w (begins env t.at (symbol_of text t) w b) (rw (b, filter_of_tokens) at e) in
       record { whole = l.whole; row = l.row; one_row = l.one_row; is = l.is }
 
--- a filter that is read is one by the grammar
+-- a text that is read as a filter is a filter by the grammar
 pub filter_is_sound : (text : List ℕ) (env : Env) (f : FilterValue) → filter_in text env ≡ Ok f → ReadsFilter text env f
 filter_is_sound text env f e =
     let r = sound_tokens env text (lexed_text text).fault f (lexed_text text).tokens e in

@@ -53,7 +53,7 @@ pub record GrammarState : Type 0 where
   pub cmp : Cmp
   pub predicate : Option Predicate
 
--- the state at this place after so many filters, with the name of the last, before anything else of the row is read
+-- the state at this place after this many filters, with the name of the last, before anything else of the row is read
 abbrev pub fresh : Place → ℕ → FilterName → GrammarState
 fresh at filters name = record {
   place = at;
@@ -82,11 +82,11 @@ abbrev pub IsStepped : Result (Unit {0}) PolicyFault → GrammarState → StepRe
 IsStepped (Ok nothing) w step = step ≡ Ok w
 IsStepped (Err fault) w step = fault ≢ NoMemory → step ≡ Err fault
 
--- the symbol may stand here, and this is the next place
+-- the symbol may occur here, and this is the next place
 abbrev pub step_to : GrammarState → Place → StepResult
 step_to w then_at = Ok (record w { place = then_at })
 
--- the symbol isn't one that may stand here
+-- the symbol isn't one that may occur here
 abbrev pub expected : ℕ → StepResult
 expected at = Err (Expected at)
 
@@ -95,7 +95,7 @@ abbrev pub found : {A : Type 0} → PolicyFault → (A → StepResult) → Optio
 found fault leads (Some x) = leads x
 found fault leads None = Err fault
 
--- only one symbol may stand here
+-- only one symbol may occur here
 abbrev pub only : GrammarState → ℕ → Bool → Place → StepResult
 only w at fits then_at = if fits then step_to w then_at else expected at
 

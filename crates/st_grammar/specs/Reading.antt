@@ -86,7 +86,7 @@ reading_step env r s (Ok w) = Ok (reading_behind env r.walk.place s r.set w)
 abbrev pub read_step : Env → Reading → ℕ → Symbol → Result Reading PolicyFault
 read_step env r at s = reading_step env r s (next env (binaries r.set) r.walk at s)
 
--- the same where no token begins: the lexical fault replaces the grammar's
+-- the same where no token begins: the lexical fault replaces that of an unexpected symbol
 abbrev pub unless_lexical : LexFault → Result Reading PolicyFault → Result Reading PolicyFault
 unless_lexical fault (Ok r) = Ok r
 unless_lexical fault (Err found) = Err (lexical fault found)

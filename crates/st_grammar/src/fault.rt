@@ -50,7 +50,7 @@ pub enum PolicyFault {
     /// A filter asks, and policies are learnt.
     #[error("a policy that is learnt can't ask")]
     AskWithLearn(u32),
-    /// There are more than 4,096 filters, or more than 64 of `not`, `and`, `or` and `(` in one.
+    /// There are more than 4,096 filters, or more than 64 of `not`, `and`, `or` and `(` in one filter.
     #[error("too many")]
     TooMany(u32),
     /// Out of memory.

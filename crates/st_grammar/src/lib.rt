@@ -1,5 +1,5 @@
-//! The language of policies: its words and symbols, its grammar as definitions, and the faults of texts. Following the grammar place by
-//! place is proved to agree with its definitions.
+//! Defines the language of policies: its words and symbols, its grammar, and the faults of texts. Following the grammar place by place is
+//! proved to agree with its definitions.
 #![tactic(auto)]
 
 pub mod env;

@@ -69,7 +69,7 @@ pub fn may_test(name: &[u8], rule: Option<Rule>, label: &[u8], index: u32) -> bo
     }
 }
 
-/// Whether such a filter may test an argument of this label with some index.
+/// Whether a filter for this rule, or for a call outside the model, may test an argument of this label with some index.
 pub fn may_test_label(name: &[u8], rule: Option<Rule>, label: &[u8]) -> bool
     ensures { result ≡ may_test_label (name_by name.now rule) label.now }
 {
@@ -79,7 +79,7 @@ pub fn may_test_label(name: &[u8], rule: Option<Rule>, label: &[u8]) -> bool
     }
 }
 
-/// Whether such a filter is for a call that sets ids, to which no ids may be granted.
+/// Whether a filter for this rule, or for a call outside the model, is for a call that sets ids, to which no ids may be granted.
 pub fn sets_ids(name: &[u8], rule: Option<Rule>) -> bool
     ensures { result ≡ sets_ids (name_by name.now rule) }
 {

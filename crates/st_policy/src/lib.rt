@@ -1,4 +1,4 @@
-//! Policies are read: for each binary a list of filters, in order.
+//! Reads the text of policies: for each binary a list of filters, in order.
 #![tactic(auto)]
 
 pub mod one_filter;

@@ -1,4 +1,4 @@
--- What is read is bounded: it isn't too long, its stores lie in memory, and its threads start in one way at most.
+-- A script that is read is bounded: it isn't too long, its stores are in memory, and its threads start in at most one way.
 use Rattle.std.proofs.Common.{◌≡◌, ℕ, ◌≤◌, false, List, [], length, None, Ok, refl, ap, arith}
 use Rattle.std.proofs.lemmas.List.Concat.{length-flat_map}
 use Rattle.std.proofs.lemmas.List.Elements.{All-from_recursion}
@@ -45,7 +45,7 @@ bounded whole lines uncut threads_are started_are none said placed =
       starts = starts_once whole ps lines uncut threads_are started_are few ok placed;
     }
 
--- what is read is bounded
+-- a script that is read is bounded
 pub script_is_bounded : (text : List ℕ) (options : Options) (script : ReadScript) → script_in text options ≡ Ok script → IsBounded script.start
 script_is_bounded text options = read_has IsBoundedScript text options (λ uncut none.
     let lines_rows = rows (looked_at (lexed_text text)) in

@@ -32,7 +32,7 @@ use Rattle.st_statements.specs.declared.statement.Statement.TheVariants as says
 
 -- ---- no fault
 
--- nothing is wrong with a row
+-- a row has no fault
 pub record IsFaultless (whole : Whole) (above : Names) (statement : Statement) : Type 0 where
   pub known : is_unknown whole above statement ≡ false
   pub new : is_duplicate whole above statement ≡ false
@@ -256,7 +256,7 @@ processes_within lines = let e = names_within [] lines in omega (arith, e)
 
 -- ---- names of threads
 
--- the threads of lines, by where the thread starts that the line above them says, if it says one
+-- the threads of a line and of those after it, given where the line's thread starts, if it has one
 abbrev pub threads_with : List Name → List Name → List ScriptLine → Option (Option Name) → List ThreadRow
 threads_with ps ts lines (Some process) = thread_with ps process (body_in ts lines) ∷ threads_in ps ts lines
 threads_with ps ts lines None = threads_in ps ts lines
@@ -271,7 +271,7 @@ pub threads_within : (ps ts names : List Name) (lines : List ScriptLine) → len
 threads_within ps ts names [] = omega arith
 threads_within ps ts names (line ∷ lines) = threads_by ps ts names line.says lines (threads_within ps ts (with_thread names line.says) lines)
 
--- ---- all of it
+-- ---- all bounds together
 
 pub within_bounds : (whole : Whole) (env : Env) (lines : List ScriptLine) (script : ReadScript) → first_fault whole no_names lines ≡ None → script ≡ script_with env lines → IsWithinBounds script
 within_bounds whole env lines script none is =

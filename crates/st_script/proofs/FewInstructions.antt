@@ -1,4 +1,4 @@
--- Lines without a fault say no more instructions than a script may have.
+-- Lines without a fault have no more instructions than a script may have.
 use Rattle.std.proofs.Common.{◌+◌, ◌≤◌, List, length, Some, arith}
 use Rattle.std.proofs.lemmas.Bool.{ltb-false}
 use Rattle.std.proofs.lemmas.List.{length-append}

@@ -1,4 +1,4 @@
--- What the bodies of a script store lies in memory.
+-- The stores of a script's bodies are in memory.
 use Rattle.std.proofs.Common.{ℕ, zero, suc, ◌+◌, ◌*◌, ◌^◌, ◌-◌, ◌<◌, ◌≤◌, Bool, true, false, if◌then◌else◌, List, [], ◌∷◌, ◌++◌, length, map, Option, Some, None, arith}
 use Rattle.std.proofs.Math.Nat.{min-le_left}
 use Rattle.std.proofs.lemmas.List.Elements.{All-append, All-from_recursion}
@@ -18,7 +18,7 @@ use Rattle.st_script.specs.Reading.{body_in, instructions_said, store_of, stores
 use Rattle.st_script.proofs.Counted.{threads_with}
 use Rattle.st_script.proofs.Said.{AreSaid, IsSaid}
 
--- a store of a text that lies in memory, with its zero byte
+-- each store of a text that fits into memory, with its zero byte, is in memory
 store_within : (first k : ℕ) (bytes : List ℕ) → 8 * first + length bytes < SPACE_BYTES → k < store_count bytes → saturated (first + k) < SPACE_WORDS
 store_within first k bytes within few = let most = min-le_left (first + k) (2 ^ 32 - 1) in omega (arith, within, few, most)
 
@@ -53,7 +53,7 @@ threads_by : (ps ts : List Name) (lines : List ScriptLine) (o : Option (Option N
 threads_by ps ts lines None body rest = rest
 threads_by ps ts lines (Some process) body rest = (body, rest)
 
--- the stores of a script's threads lie in memory
+-- the stores of a script's threads are in memory
 pub stores_in_memory : (ps ts : List Name) (lines : List ScriptLine) → AreSaid lines → AllByRecursion StoresWithin (threads_in ps ts lines)
 stores_in_memory ps ts [] said = tt
 stores_in_memory ps ts (line ∷ lines) said = threads_by ps ts lines (thread_said line.says) (body_within ts lines said.1) (stores_in_memory ps ts lines said.1)

@@ -1,4 +1,4 @@
--- The bodies of a script's threads have, one behind the other, what its lines say.
+-- The bodies of a script's threads, one after the other, are the instructions of its lines.
 use Rattle.std.proofs.Common.{◌≡◌, Bool, true, false, if◌then◌else◌, List, [], ◌∷◌, ◌++◌, Option, Some, None, refl, ap, ◌∙◌, append_assoc}
 use Rattle.std.specs.List.{flat_map}
 use Rattle.std.specs.Prelude.{IfSome}
@@ -22,7 +22,7 @@ all_bodies rows = flat_map (λ row. row.body) rows
 abbrev pub all_said : List Name → List ScriptLine → List Instr
 all_said ts lines = flat_map (λ line. instructions_said ts line.says) lines
 
--- what lines add to the body that they begin inside of
+-- the instructions that lines add to the body that they begin in
 abbrev begun : Bool → List Instr → List Instr
 begun inside body = if inside then body else []
 
@@ -47,12 +47,12 @@ placed_by ps ts false (Some (says.Fork name)) lines is ih = absurd (cc)
 placed_by ps ts false (Some says.End) lines is ih = absurd (cc)
 placed_by ps ts false (Some s) lines is ih = ih
 
--- where the first line may stand inside a body, what is added to it comes first
+-- if the first lines are inside a body, what they add to it comes first
 bodies_from : (ps ts : List Name) (inside : Bool) (lines : List ScriptLine) → ArePlaced inside lines → begun inside (body_in ts lines) ++ all_bodies (threads_in ps ts lines) ≡ all_said ts lines
 bodies_from ps ts true [] placed = refl
 bodies_from ps ts false [] placed = refl
 bodies_from ps ts inside (line ∷ lines) placed = placed_by ps ts inside line.says lines placed.0 (bodies_from ps ts (is_inside_behind inside line.says) lines placed.1)
 
--- each instruction that a line says is one of one body
+-- the instructions of all bodies, in order, are those of all lines
 pub bodies_are_said : (ps ts : List Name) (lines : List ScriptLine) → ArePlaced false lines → all_bodies (threads_in ps ts lines) ≡ all_said ts lines
 bodies_are_said ps ts lines placed = bodies_from ps ts false lines placed

@@ -10,7 +10,7 @@ use Rattle.st_script.specs.Reading.{store_of}
 use Rattle.st_trace.specs.declared.start.Instr.{Instr}
 use Rattle.st_trace.specs.declared.start.Instr.TheVariants.{Store}
 
--- one store more
+-- one more store
 pub stores-more : (first : ℕ) (bytes : List ℕ) (i place word : ℕ) (old now more : List Instr) → now ≡ old ++ map (store_of first bytes) (range_with_len 0 i) → place ≡ saturated (first + i) → word ≡ word_of (slice_index bytes) i → more ≡ now ++ Store place word ∷ [] → more ≡ old ++ map (store_of first bytes) (range_with_len 0 (i + 1))
 stores-more first bytes i place word old now more so_far at next is =
     let f : ℕ → Instr = store_of first bytes in

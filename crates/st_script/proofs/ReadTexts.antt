@@ -1,4 +1,4 @@
--- What is read of a text is what its lines say, and these have no fault.
+-- A script that is read from a text is what the text's lines say, and these have no fault.
 use Rattle.std.proofs.Common.{◌≡◌, ℕ, false, List, Option, Some, None, Result, Ok, Err, refl, subst}
 use Rattle.std.specs.Prelude.{IfOk, is_some}
 use Rattle.st_law.specs.declared.input.Options.{Options}
@@ -32,7 +32,7 @@ module _ (P : ReadScript → Type 0) (text : List ℕ) (options : Options)
       let same : script_with (whole_in text options).env (lines_in text) ≡ script = cc in
       subst P same (faultless (not_cut (lexed_text text).fault none.1) none.0)
 
-  -- it holds of what is read, if it holds of what lines without a fault say, which no lexical fault cuts off
+  -- a property holds of a script that is read, if it holds of every script of lines without a fault and without a lexical fault after them
   pub read_has : (script : ReadScript) → script_in text options ≡ Ok script → P script
   read_has script is = by_fault (script_fault options (lexed_text text).fault (lines_in text)) refl script is
 

@@ -27,7 +27,7 @@ use Rattle.st_script.proofs.Ungranted.{filter_ungranted}
 abbrev IsUngrantedReply : Reply → Type 0
 IsUngrantedReply reply = IsUngrantedForSetting reply.filter
 
--- what is read as a filter is one by the grammar
+-- a text that is read as a filter is a filter by the grammar
 abbrev pub IsSound : Type 0
 IsSound = (text : List ℕ) (env : Env) (filter : FilterValue) → filter_in text env ≡ Ok filter → ReadsFilter text env filter
 
@@ -63,7 +63,7 @@ module _ (sound : IsSound) where
   lines_ungranted env [] = tt
   lines_ungranted env (line ∷ lines) = with_reply (reply_said env line.says) (filter_map (λ line. reply_said env line.says) lines) (said_ungranted env line.says) (lines_ungranted env lines)
 
-  -- what is read grants none
+  -- the replies of a script that is read grant no ids for setting ids
   pub replies_ungranted : (text : List ℕ) (options : Options) (script : ReadScript) → script_in text options ≡ Ok script → RepliesUngranted script.replies
   replies_ungranted text options =
       read_has (λ (script : ReadScript). RepliesUngranted script.replies) text options (λ uncut none. All-from_recursion IsUngrantedReply _ (lines_ungranted (whole_in text options).env (lines_in text)))

@@ -1,4 +1,4 @@
--- The replies that lines say, as they are gathered from the first line on.
+-- The replies of lines, as they are collected from the first line on.
 use Rattle.std.proofs.Common.{◌≡◌, ◌∙◌, ◌++◌, List, [], ◌∷◌, Option, Some, None, refl, sym}
 use Rattle.std.proofs.lemmas.List.{append_assoc, append-nil}
 use Rattle.std.specs.List.{cons_option, filter_map}
@@ -19,6 +19,6 @@ module _ (env : Env) where
   behind replies [] = sym (append-nil replies)
   behind replies (line ∷ lines) = behind (with_reply replies (reply_said env line.says)) lines ∙ behind_one replies (reply_said env line.says) lines
 
-  -- they are those of the lines, in order
+  -- the replies are those of the lines, in order
   pub replies_are : (lines : List ScriptLine) → replies_behind env [] lines ≡ said lines
   replies_are lines = behind [] lines

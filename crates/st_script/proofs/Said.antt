@@ -1,5 +1,5 @@
--- What the lines of a script say: names in normal form, stores that lie in memory, and no call that forks; and what they say inside the
--- body of a thread, and outside.
+-- What the lines of a script say: names in normal form, stores in memory, and no call that forks; and what they may say inside the body of
+-- a thread, and outside.
 use Rattle.std.proofs.Common.{◌≡◌, ◌≢◌, ℕ, ◌+◌, ◌*◌, ◌/◌, ◌%◌, ◌<◌, ◌==◌, Bool, true, false, ◌&&◌, if◌then◌else◌, nat_lt, List, [], ◌∷◌, codes, length, Option, Some, None, refl, arith}
 use Rattle.std.proofs.lemmas.Bool.{ltb-true}
 use Rattle.std.specs.List.{AllByRecursion}
@@ -24,7 +24,7 @@ use Rattle.st_statements.specs.declared.statement.ScriptLine.{ScriptLine}
 use Rattle.st_statements.specs.declared.statement.Statement.{Statement}
 use Rattle.st_statements.specs.declared.statement.Statement.TheVariants as says
 
--- the paths of a statement are in normal form, what it stores lies in memory, and its call isn't fork
+-- the paths of a statement are in normal form, its stores are in memory, and its call isn't fork
 abbrev pub IsSaid : Statement → Type 0
 IsSaid (says.Object path new) = is_normal path ≡ true
 IsSaid (says.Process process) = is_normal process.cwd ≡ true
@@ -33,11 +33,11 @@ IsSaid (says.Put place bytes) = 8 * place + length bytes < SPACE_BYTES
 IsSaid (says.Call call regs) = call ≢ calls.Fork
 IsSaid _ = Unit {0}
 
--- the same, where a row says something
+-- the same of each line that says something
 abbrev pub AreSaid : List ScriptLine → Type 0
 AreSaid lines = AllByRecursion (λ line. IfSome line.says IsSaid) lines
 
--- whether a statement is one of a thread's body
+-- whether a statement belongs into a thread's body
 abbrev pub is_of_body : Statement → Bool
 is_of_body (says.Store place word) = true
 is_of_body (says.Put place bytes) = true
@@ -46,7 +46,7 @@ is_of_body (says.Fork name) = true
 is_of_body says.End = true
 is_of_body _ = false
 
--- the statements of lines, whose first is inside a body or outside, stand where they may
+-- the statements of lines, the first of which is inside a body or outside, are where they may be
 abbrev pub ArePlaced : Bool → List ScriptLine → Type 0
 ArePlaced inside [] = Unit {0}
 ArePlaced inside (line ∷ lines) = IfSome line.says (λ s. is_of_body s ≡ inside) × ArePlaced (is_inside_behind inside line.says) lines
@@ -229,7 +229,7 @@ lines_said text inside [] = tt
 lines_said text inside (row ∷ rows) =
     (if_first IsSaid (λ s. is_of_body s ≡ inside) (statement_of text inside row) (row_said text inside row), lines_said text (is_inside_behind inside (statement_of text inside row)) rows)
 
--- and says it where it may
+-- and the statement is where it may be
 pub lines_placed : (text : List ℕ) (inside : Bool) (rows : List (List Token)) → ArePlaced inside (lines_from text inside rows)
 lines_placed text inside [] = tt
 lines_placed text inside (row ∷ rows) =

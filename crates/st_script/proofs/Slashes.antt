@@ -1,4 +1,4 @@
--- Absolute names as their bytes: the directory of one, and how long it is printed.
+-- Absolute names as bytes: the directory of a name, and the length of its printed form.
 use Rattle.std.proofs.Common.{◌≡◌, ℕ, zero, suc, ◌+◌, ◌≤◌, ◌<◌, ◌==◌, Bool, true, false, if◌then◌else◌, List, [], ◌∷◌, length, drop, refl, sym, ap, ◌∙◌, subst, arith, length-append}
 use Rattle.std.proofs.Math.Seq.{drop-length}
 use Rattle.std.proofs.lemmas.Bool.{and_parts, eqb-true}
@@ -16,15 +16,15 @@ use Rattle.st_script.specs.Reading.{object_name}
 abbrev pub IsSlashed : List ℕ → Type 0
 IsSlashed text = text ≡ slash ∷ drop 1 text
 
--- a name in normal form does
+-- a name in normal form begins with a slash
 pub normal_slashed : (name : List ℕ) → is_normal name ≡ true → IsSlashed name
 normal_slashed name e = (starts_is Decides-eqb name (codes "/") (starts_with nat_eq name (codes "/")) refl).0 (and_parts _ _ e).0
 
--- its parts, one by one
+-- the parts of a name, one by one
 pub slashed_parts : (text : List ℕ) → IsSlashed text → parts_behind text ≡ object_name text
 slashed_parts text is = ap parts_behind is
 
--- what stands between its slashes tells it
+-- the parts between its slashes determine a name
 pub same_text : (a b : List ℕ) → IsSlashed a → IsSlashed b → object_name a ≡ object_name b → a ≡ b
 same_text a b is other same = is ∙ sym (slashed-parts (drop 1 a)) ∙ ap (flat_map with_slash) same ∙ slashed-parts (drop 1 b) ∙ sym other
 
@@ -49,7 +49,7 @@ last_slashed rest = (last_is rest (length (slash ∷ rest)) (omega arith) (ap ha
 pub directory_parts : (path : List ℕ) → IsSlashed path → parts_behind (directory_of path) ≡ parent (object_name path)
 directory_parts path is = ap (λ p. parts_behind (directory_of p)) is ∙ last_slashed (drop 1 path)
 
--- ---- its length
+-- ---- the length of a name
 
 kept_by : (part : List ℕ) (parts : Components) (b : Bool) → length (flat_map with_slash (filter is_component parts)) ≤ length (flat_map with_slash parts) →
     length (flat_map with_slash (if b then part ∷ filter is_component parts else filter is_component parts)) ≤ length (flat_map with_slash (part ∷ parts))
@@ -70,6 +70,6 @@ short_by rest =
     let few = kept_short (split_at_slashes rest) in
     printed_by (components_of (slash ∷ rest)) (length (slash ∷ rest)) (omega arith) (omega (arith, spelled, few))
 
--- it is printed no longer than it is
+-- the printed form of a name is no longer than the name
 pub printed_short : (text : List ℕ) → IsSlashed text → length (printed_name (components_of text)) ≤ length text
 printed_short text is = subst (λ t. length (printed_name (components_of t)) ≤ length t) (sym is) (short_by (drop 1 text))

@@ -1,4 +1,4 @@
--- The objects of lines without a fault can be made one behind the other.
+-- The objects of lines without a fault can be created one after the other.
 use Rattle.std.proofs.Common.{◌≡◌, ◌≢◌, ◌⊎◌, inl, inr, ℕ, zero, suc, ◌<◌, Bool, true, false, ◌||◌, if◌then◌else◌, nat_le, List, [], ◌∷◌, ◌++◌, length, take, drop, slice_get, Option, Some, None, refl, sym, ap, ◌∙◌, subst, arith, append_assoc, length-append}
 use Rattle.std.proofs.lemmas.Bool.{leb-false, lt-leb}
 use Rattle.std.proofs.lemmas.List.{append-nil}
@@ -35,9 +35,9 @@ use Rattle.st_script.specs.Reading.{object_name, object_said}
 use Rattle.st_script.proofs.Counted.{NoFault, AtEnd, Behind, added, not_false, or_left, or_right}
 use Rattle.st_script.proofs.Slashes.{IsSlashed, directory_parts, normal_slashed, same_text, slashed_parts}
 
--- ---- what is seen of a name, with an object more
+-- ---- what is seen of a name after one more object
 
--- something is there that is seen as a directory
+-- there is an object, and it is seen as a directory
 pub record IsSeen (o : Option Node) (rest : SeenText) : Type 0 where
   pub node : Node
   pub there : o ≡ Some node
@@ -65,7 +65,7 @@ seen_behind : (o : Option Node) (rest : SeenText) → seen_through o rest ≡ Di
 seen_behind None rest e = absurd (cc)
 seen_behind (Some node) rest e = through_by node rest (is_directory_kind node.kind) refl e
 
--- a name that nothing has is given to a new object
+-- a name that no object has is given to a new object
 module _ (tree : Tree) (name : Components) (node : Node) (free : object_of tree name ≡ None) where
   abbrev more : Tree
   more = add_object tree name node
@@ -87,7 +87,7 @@ module _ (tree : Tree) (name : Components) (node : Node) (free : object_of tree 
       let still : node_of more done ≡ node_of tree done = node_kept done s.node s.there ∙ sym s.there in
       ap (λ o. seen_through o (look_along more (done ++ part ∷ []) rest)) still ∙ s.passes (look_along more (done ++ part ∷ []) rest) ∙ look_kept (done ++ part ∷ []) rest s.behind
 
--- what is seen of a name in a directory is what it has
+-- what is seen of a name in a directory is the name's object
 look_pushed : (tree : Tree) (done front : Components) (part : List ℕ) → look_along tree done front ≡ Dir → look_along tree done (front ++ part ∷ []) ≡ seen_of (node_of tree ((done ++ front) ++ part ∷ []))
 look_pushed tree done [] part is =
     passes (node_of tree done) (seen_of (node_of tree (done ++ part ∷ []))) is ∙ ap (λ (d : Components). seen_of (node_of tree (d ++ part ∷ []))) (sym (append-nil done))
@@ -109,9 +109,9 @@ not_refused tree name is free few =
     let count : nat_le MOST_OBJECTS (length tree.objects) ≡ false = lt-leb MOST_OBJECTS (length tree.objects) few in
     λ k. first_error (first_error (first_error (error_if (is_missing (is k)) ENOENT ∷ error_if (is_no_directory (is k)) ENOTDIR ∷ []) ∷ error_if (is_some (free k)) EEXIST ∷ []) ∷ error_if (count k) ENOSPC ∷ [])
 
--- ---- the tree that rows above make
+-- ---- the tree of the rows above
 
--- a tree has the paths that rows gave, and no other
+-- a tree has the paths that rows defined, and no others
 record Stands (above : Names) (tree : Tree) : Type 0 where
   pub objects : length tree.objects ≡ suc (length above.paths)
   pub root : look tree [] ≡ Dir
@@ -200,7 +200,7 @@ module _ (above : Names) (tree : Tree) (path : List ℕ) (new : NewNode) (s : St
 
 -- ---- row by row
 
--- rows can be put into a tree, each behind those before it
+-- rows can be put into a tree, each after the rows before it
 abbrev StandAlong : Tree → List TreeRow → Type 0
 StandAlong tree [] = Unit {0}
 StandAlong tree (row ∷ rows) = (add_refused tree row.name ≡ None) × StandAlong (tree_with_row tree row) rows

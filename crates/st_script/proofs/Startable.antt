@@ -86,7 +86,7 @@ directories_short whole above _ (Behind _ n (says.Process process) lines ok rest
     (omega (arith, few, printed), directories_short whole (with_says above (Some (says.Process process))) lines rest said.1)
 directories_short whole above _ (Behind _ n s lines ok rest) said = directories_short whole (with_says above (Some s)) lines rest said.1
 
--- ---- all of it
+-- ---- all conditions together
 
 startable : (whole : Whole) (lines : List ScriptLine) → whole.is_cut ≡ false → whole.threads ≡ threads_behind [] lines → NoFault whole no_names lines → AreSaid lines → IsWithinBounds (script_with whole.env lines) →
     (policies : List BinaryPolicy) (options : Options) → 1 ≤ options.workers → options.workers ≤ 8 → IsStartable (input_with policies options (script_with whole.env lines))
@@ -116,6 +116,6 @@ can_start whole lines uncut threads_are none said =
       directories = All-from_recursion _ _ (directories_short whole no_names lines ok said);
     }
 
--- a run can start with what is read
+-- a run can start with a script that is read
 pub script_can_start : (text : List ℕ) (options : Options) (script : ReadScript) → script_in text options ≡ Ok script → CanStart script
 script_can_start text options = read_has CanStart text options (λ uncut none. can_start (whole_in text options) (lines_in text) uncut refl none (lines_said text false (rows (looked_at (lexed_text text)))))

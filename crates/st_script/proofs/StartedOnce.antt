@@ -1,4 +1,4 @@
--- Each thread of a script without a fault starts in one way at most: by its row, or by one fork.
+-- Each thread of a script without a fault starts in at most one way: by its row, or by one fork.
 use Rattle.std.proofs.Common.{◌≡◌, ℕ, zero, suc, ◌+◌, ◌-◌, ◌^◌, ◌≤◌, Bool, true, false, ◌||◌, ◌==◌, not, if◌then◌else◌, cond, List, [], ◌∷◌, ◌++◌, length, map, slice_get, Option, Some, None, refl, sym, ap, ◌∙◌, subst, arith}
 use Rattle.std.proofs.Math.Nat.{min-eq_left}
 use Rattle.std.proofs.lemmas.Bool.{eqb-true}
@@ -50,7 +50,7 @@ name_at_place : (names : List Name) (name : Name) → has_name names name ≡ tr
 name_at_place [] name has = absurd (cc)
 name_at_place (first ∷ names) name has = place_by names name first (bytes_eq name first) refl has (name_at_place names name)
 
--- the number of a name is that of the place where it stands, where there are no more names than threads may be
+-- the number of a name determines the name, if there are no more names than a script may have threads
 name_of_number : (names : List Name) (name : Name) → length names ≤ MOST_THREADS → has_name names name ≡ true → item_at_number names (number_of names name) ≡ Some name
 name_of_number names name few has =
     let place : ℕ = position_or_len (bytes_eq name) names in
@@ -61,7 +61,7 @@ name_of_number names name few has =
 
 -- ---- forks
 
--- how often a thread may be forked yet
+-- how often a thread may still be forked
 abbrev room : Bool → ℕ
 room started = if started then 0 else 1
 
@@ -79,7 +79,7 @@ room_less false false c more = room_most c
 room_less false true true more = omega arith
 room_less false true false more = let clash : false ≡ true = more refl in absurd (cc)
 
--- how many instructions start thread t
+-- the number of instructions that start thread t
 abbrev starts : ℕ → List Instr → ℕ
 starts t instructions = count_by (is_start_of t) instructions
 
@@ -129,7 +129,7 @@ module _ (whole : Whole) (ts : List Name) (uncut : whole.is_cut ≡ false) (thre
 
 -- ---- rows
 
--- the name at a place is that of a thread that starts in a process
+-- the name with this index is that of a thread that starts in a process
 record IsStartedAt (names started : List Name) (k : ℕ) : Type 0 where
   pub name : Name
   pub at : slice_get names k ≡ Some name
@@ -162,7 +162,7 @@ name_last : (names : List Name) (name : Name) (b : Bool) → b ≡ false → sli
 name_last names name true new = absurd (cc)
 name_last names name false new = let place : length names + 0 ≡ length names = omega arith in ap (slice_get (names ++ name ∷ [])) place ∙ get_last names name
 
--- a row that has its thread start in a process is that of such a name
+-- a row that has its thread start in a process is such a thread's
 rows_started : (whole : Whole) (ps ts : List Name) (above : Names) (lines : List ScriptLine) → NoFault whole above lines → (started : List Name) (k : ℕ) (row : ThreadRow) → slice_get (threads_in ps ts lines) k ≡ Some row → is_some row.process ≡ true →
     IsStartedAt (threads_behind above.threads lines) (started_behind started lines) (length above.threads + k)
 rows_started whole ps ts above _ (AtEnd _) started k row is starts_it = absurd (cc)
@@ -182,7 +182,7 @@ rows_started whole ps ts above _ (Behind _ n (says.Thread name process) lines ok
     subst (IsStartedAt (threads_behind (with_name above.threads name) lines) (started_behind (with_started started (Some (says.Thread name process))) lines)) place ih
 rows_started whole ps ts above _ (Behind _ n s lines ok rest) started k row is starts_it = rows_started whole ps ts (with_says above (Some s)) lines rest started k row is starts_it
 
--- ---- both
+-- ---- rows and forks together
 
 total : (f : Instr → ℕ) (rows : List ThreadRow) → sum_by (λ row. sum_by f row.body) rows ≡ sum_by f (all_bodies rows)
 total f [] = refl

@@ -66,7 +66,7 @@ rows_ungranted env (FilterRow ts row ps p f rows is) =
     let one : All IsUngrantedForSetting (f ∷ []) = All-from_recursion IsUngrantedForSetting (f ∷ []) (filter_ungranted env row f is, tt) in
     each-append IsUngrantedPolicy ps (with_filter p f ∷ []) before.0 (All-append IsUngrantedForSetting p.filters (f ∷ []) before.1.0 one, tt)
 
--- what is read grants none, if what was read before doesn't
+-- policies that are read grant no ids for setting ids, if those that were read before grant none
 pub read_ungranted : (text : List ℕ) (env : Env) (old set : List BinaryPolicy) → Reads text env old set → SetIdsUngranted old → SetIdsUngranted set
 read_ungranted text env old set read before =
     let policies : All IsUngrantedPolicy read.policies = All-from_recursion IsUngrantedPolicy read.policies (rows_ungranted env read.rows) in

@@ -6,7 +6,7 @@ use Rattle.st_law.specs.Inputs.{HasProcess, HasShortTarget}
 use Rattle.st_script_faults.specs.declared.limits.TheConstants.{MOST_PROCESSES, MOST_THREADS, MOST_TREE_ROWS}
 use Rattle.st_script.specs.declared.reading.ReadScript.{ReadScript}
 
--- there are no more rows than a script may have, threads start in processes that are there, targets are short, and no reply asks
+-- there are no more rows than a script may have, threads start in existing processes, targets are short, and no reply asks
 pub record IsWithinBounds (script : ReadScript) : Type 0 where
   pub few_threads : length script.start.threads ≤ MOST_THREADS
   pub few_processes : length script.start.processes ≤ MOST_PROCESSES

@@ -1,4 +1,4 @@
--- What a script's text is read as: where a run starts, and what the operator replies.
+-- What a script's text is read as: the start of a run, the environment of policies, and the operator's replies.
 use Rattle.std.specs.Prelude.{ℕ, ◌+◌, if◌then◌else◌, List, [], ◌∷◌, ◌++◌, drop, map, slice_index, Option, Some, None, option_map, Result, Ok, Err}
 use Rattle.std.specs.List.{filter_map, range_with_len}
 use Rattle.st_filter.specs.declared.set.Reply.{Reply}
@@ -30,7 +30,7 @@ use Rattle.st_trace.specs.declared.start.UserRow.{UserRow}
 
 -- ---- accounts, objects and processes
 
--- the user of a line, if it says one
+-- the user of a line, if it has one
 abbrev pub user_said : Option Statement → Option UserRow
 user_said (Some (says.User user)) = Some user
 user_said _ = None
@@ -49,7 +49,7 @@ abbrev pub object_said : Option Statement → Option TreeRow
 object_said (Some (says.Object path new)) = Some (record { name = object_name path; new = new })
 object_said _ = None
 
--- a process as a run starts it
+-- the row of a process, as a run starts with it
 abbrev pub started_process : ScriptProcess → ProcessRow
 started_process process = record {
   traced = process.traced;
@@ -65,7 +65,7 @@ process_said statement = option_map started_process (process_of statement)
 
 -- ---- threads
 
--- the store of word i of a text that zeros follow, where the text begins at this place
+-- the store of word i of a text that begins at this word index and that zeros follow
 abbrev pub store_of : ℕ → List ℕ → ℕ → Instr
 store_of first bytes i = Store (saturated (first + i)) (word_of (slice_index bytes) i)
 
@@ -73,7 +73,7 @@ store_of first bytes i = Store (saturated (first + i)) (word_of (slice_index byt
 abbrev pub stores : ℕ → List ℕ → List Instr
 stores first bytes = map (store_of first bytes) (range_with_len 0 (store_count bytes))
 
--- the instructions of a line, where these are the threads of the script
+-- the instructions of a line, given the threads of the script
 abbrev pub instructions_said : List Name → Option Statement → List Instr
 instructions_said threads (Some (says.Store place word)) = Store place word ∷ []
 instructions_said threads (Some (says.Put place bytes)) = stores place bytes
@@ -81,12 +81,12 @@ instructions_said threads (Some (says.Call call regs)) = Call call regs ∷ []
 instructions_said threads (Some (says.Fork name)) = Fork (number_of threads name) ∷ []
 instructions_said threads _ = []
 
--- the body of a thread, which are the lines up to the next `end`
+-- the body of a thread: the instructions of the lines up to the next `end`
 abbrev pub body_in : List Name → List ScriptLine → List Instr
 body_in threads [] = []
 body_in threads (line ∷ lines) = if ends_body line then [] else instructions_said threads line.says ++ body_in threads lines
 
--- where a thread starts, if a line says one: in the process of this name, or nowhere
+-- the process that the thread of a line starts in, by its name, if it starts in one; nothing if the line isn't a thread's
 abbrev pub thread_said : Option Statement → Option (Option Name)
 thread_said (Some (says.Thread name process)) = Some process
 thread_said _ = None
@@ -95,7 +95,7 @@ thread_said _ = None
 abbrev pub thread_with : List Name → Option Name → List Instr → ThreadRow
 thread_with processes process body = record { process = option_map (number_of processes) process; body = body }
 
--- the threads of lines, where these are the processes and threads of the script
+-- the threads of lines, given the processes and threads of the script
 abbrev pub threads_in : List Name → List Name → List ScriptLine → List ThreadRow
 threads_in processes threads [] = []
 threads_in processes threads (line ∷ lines) =
@@ -104,19 +104,19 @@ threads_in processes threads (line ∷ lines) =
       | None ↦ threads_in processes threads lines
     ]
 
--- names with that of a process, if a row is one
+-- names, with that of a row's process added, if the row is a process's
 abbrev pub with_process : List Name → Option Statement → List Name
 with_process names (Some (says.Process process)) = with_name names process.name
 with_process names _ = names
 
--- the processes of lines, behind these
+-- these processes, with those of lines added after them
 abbrev pub processes_behind : List Name → List ScriptLine → List Name
 processes_behind names [] = names
 processes_behind names (line ∷ lines) = processes_behind (with_process names line.says) lines
 
 -- ---- scripts
 
--- where the run of a script starts
+-- the start of a script's run
 abbrev pub start_of : List ScriptLine → Start
 start_of lines = record {
   users = filter_map (λ line. user_said line.says) lines;
@@ -126,7 +126,7 @@ start_of lines = record {
   threads = threads_in (processes_behind [] lines) (threads_behind [] lines) lines;
 }
 
--- what lines without a fault say, read with this environment
+-- what lines without a fault are read as, with this environment
 abbrev pub script_with : Env → List ScriptLine → ReadScript
 script_with env lines = record {
   start = start_of lines;
@@ -134,12 +134,12 @@ script_with env lines = record {
   replies = filter_map (λ line. reply_said env line.says) lines;
 }
 
--- what is read, unless there is a fault
+-- the script that was read, unless there is a fault
 abbrev pub unless_faulty : Option ScriptFault → ReadScript → Result ReadScript ScriptFault
 unless_faulty (Some fault) script = Err fault
 unless_faulty None script = Ok script
 
--- what lines are read as, which a lexical fault may follow
+-- what lines are read as, if this lexical fault, or none, follows them
 abbrev pub read_lines : Options → Option LexFault → List ScriptLine → Result ReadScript ScriptFault
 read_lines options broken lines = unless_faulty (script_fault options broken lines) (script_with (environment_of options lines) lines)
 

@@ -15,11 +15,11 @@ use Rattle.st_trace.specs.declared.start.TreeRow.{TreeRow}
 use Rattle.st_tree.specs.Refusals.{add_refused}
 use Rattle.st_script.specs.declared.reading.ReadScript.{ReadScript}
 
--- what a run is of: a script, under these policies and options
+-- the input of a run: a script, with these policies and options
 abbrev pub input_with : List BinaryPolicy → Options → ReadScript → Input
 input_with policies options script = record { policies = policies; start = script.start; replies = script.replies; options = options }
 
--- nothing refuses an object of some rows behind those of the rows before it
+-- each object of some rows can be added after the objects of the rows before it
 abbrev pub CanStand : List TreeRow → Type 0
 CanStand rows = (k : ℕ) (row : TreeRow) → slice_get rows k ≡ Some row → add_refused (fold tree_with_row root_only (take k rows)) row.name ≡ None
 

@@ -63,7 +63,7 @@ fn push_said(
     }
 }
 
-// The body of a thread: the lines below it up to the next `end`.
+// The body of a thread: the instructions of the lines below it up to the next `end`.
 fn body_in(
     alloc: Global,
     threads: &NameIndex,
@@ -81,7 +81,7 @@ fn body_in(
     Ok(body)
 }
 
-// The process of the thread that a line says, if it says one.
+// The process that the thread of a line starts in, if it starts in one; nothing if the line isn't a thread's.
 fn thread_said(says: &Option<Statement>) -> Option<Option<&Text>>
     ensures { option_map option_copied result ≡ thread_said says.now }
 {
@@ -127,7 +127,7 @@ fn processes_of<'a>(alloc: Global, lines: &'a [ScriptLine]) -> Result<NameIndex<
     Ok(names)
 }
 
-// The threads of lines, by the script's processes and threads.
+// The threads of lines, given the script's processes and threads.
 fn threads_among(
     alloc: Global,
     processes: &NameIndex,

@@ -1,4 +1,4 @@
-//! Reads whole scripts, which say where a run starts, what policies are read with, and what the operator replies.
+//! Reads whole scripts as the start of a run, the environment that policies are read with, and the operator's replies.
 #![tactic(auto)]
 
 pub mod bodies;

@@ -1,4 +1,4 @@
-//! What policies and replies that are read keep to.
+//! What holds of all policies and replies that are read.
 
 ghost use Rattle.std.specs.Prelude.{◌≡◌, ℕ, List, Ok};
 ghost use Rattle.st_filter.specs.declared.set.BinaryPolicy.{BinaryPolicy};
@@ -11,7 +11,7 @@ ghost use Rattle.st_script.specs.declared.reading.ReadScript.{ReadScript};
 
 use st_grammar::what_is_read_is_a_filter;
 
-/// Policies that are read grant no ids to a call that sets ids, if those that were read before don't.
+/// Policies that are read grant no ids to a call that sets ids, if the policies that were read before grant none.
 pub fn what_is_read_grants_no_ids_for_setting()
     ensures { (text : List ℕ) (env : Env) (old set : List BinaryPolicy) → Reads text env old set → SetIdsUngranted old → SetIdsUngranted set }
 {}

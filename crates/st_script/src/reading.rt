@@ -27,11 +27,11 @@ use std::alloc::{AllocError, Global};
 /// A script that was read.
 #[derive(Debug, Drop)]
 pub struct ReadScript {
-    /// Where its run starts.
+    /// The start of its run.
     pub start: Start,
-    /// What policies are read with.
+    /// The environment that policies are read with.
     pub env: Env,
-    /// What the operator replies, in order.
+    /// The operator's replies, in order.
     pub replies: Sequence<Reply>,
 }
 
@@ -106,7 +106,7 @@ fn copied_node(alloc: Global, node: &NewNode) -> Result<NewNode, AllocError>
     })
 }
 
-// The name that a path spells; the root's where the path is empty.
+// The name that a path spells, or the root's if the path is empty.
 fn name_of_path(alloc: Global, path: &Text) -> Result<AbsName, AllocError>
     ensures { IfOk result (λ name. name ≡ object_name path.now) }
 {
@@ -194,7 +194,7 @@ fn processes_and_threads(
     Ok((processes_in(alloc, lines)?, threads))
 }
 
-// Where the run of a script starts.
+// The start of a script's run.
 fn start_of(alloc: Global, lines: &[ScriptLine]) -> Result<Start, AllocError>
     ensures { IfOk result (λ start. start ≡ start_of lines.now) }
 {
@@ -209,7 +209,7 @@ fn start_of(alloc: Global, lines: &[ScriptLine]) -> Result<Start, AllocError>
     })
 }
 
-// What lines without a fault say, with their replies.
+// What lines without a fault are read as, with their replies.
 #[tactic(auto, using(crate::proofs::RepliesSaid::replies_are))]
 fn script_with(
     alloc: Global,
@@ -227,7 +227,7 @@ fn script_with(
     })
 }
 
-// The same of lines without a fault, which are within the bounds of a script.
+// What lines without a fault, which are within the bounds of a script, are read as.
 fn faultless_script(
     alloc: Global,
     whole: Whole,
@@ -243,7 +243,7 @@ fn faultless_script(
     script_with(alloc, env, lines, replies)
 }
 
-// What lines are read as, which a lexical fault may follow.
+// What lines are read as, if this lexical fault, or none, follows them.
 fn read_lines(
     alloc: Global,
     options: &Options,
@@ -265,8 +265,8 @@ fn read_lines(
     }
 }
 
-/// Reads a script: where its run starts, what its policies are read with, and the operator's replies. Else the fault is that of the
-/// first line that has one, and on it the first of its kinds, a lexical fault before all of them.
+/// Reads a script: the start of its run, the environment that policies are read with, and the operator's replies. Otherwise the fault is
+/// that of the first line that has one. If the line has several, it is the first kind of them, and a lexical fault before all others.
 pub fn read_script(alloc: Global, text: &[u8], options: &Options) -> Result<ReadScript, ScriptFault>
     requires { length text.now < 2 ^ 32 }
     ensures ok { IfOk result (λ script. script_in text.now options.now ≡ Ok script) }
@@ -280,12 +280,12 @@ pub fn read_script(alloc: Global, text: &[u8], options: &Options) -> Result<Read
     read_lines(alloc, options, lexed.fault, lines.as_slice())
 }
 
-/// A run can start with what is read, under any policies and with one to eight workers.
+/// A run can start with a script that was read, under any policies and with one to eight workers.
 pub fn what_is_read_can_start()
     ensures { (text : List ℕ) (options : Options) (script : ReadScript) → script_in text options ≡ Ok script → CanStart script }
 {}
 
-/// What is read isn't too long, stores into memory only, and starts each thread in one way at most.
+/// A script that was read isn't too long, stores into memory only, and starts each thread in at most one way.
 pub fn what_is_read_is_bounded()
     ensures { (text : List ℕ) (options : Options) (script : ReadScript) → script_in text options ≡ Ok script → IsBounded script.start }
 {}

@@ -34,7 +34,7 @@ prefix_shown : (f : List ℕ → Bool) (keys : List (Bor (List ℕ))) → prefix
 prefix_shown f [] = refl
 prefix_shown f (key ∷ keys) = ap (λ n. if f key.now then 1 + n else 0) (prefix_shown f keys)
 
--- the place of a name, or behind all of them
+-- the index of a name, or the count of names if it isn't among them
 pub place_shown : (keys : List (Bor (List ℕ))) (name : List ℕ) → unwrap_or (position (λ key. bytes_eq name key.now) keys) (length keys) ≡ position_or_len (bytes_eq name) (shown keys)
 place_shown keys name =
     place_by _ _ _ refl (prefix_len-le-length (λ key. not (bytes_eq name key.now)) keys) ∙ prefix_shown (λ other. not (bytes_eq name other)) keys

@@ -18,7 +18,7 @@ binary_by binary true (Some f) (Some r) is expected = let e : r ≡ record { bin
 binary_by binary true None (Some r) is expected = absurd (cc)
 binary_by binary false filter (Some r) is expected = absurd (cc)
 
--- where nothing else has to stand in a row, the reply that it says has its binary
+-- if a row is expected, the reply that was read of it has the row's binary
 pub has_binary : (whole : Whole) (below : List ScriptLine) (statement : Statement) (reply : Option Reply) →
     reply ≡ reply_said whole.env (Some statement) → expects_other whole below statement ≡ false → HasBinaryOf reply whole.env statement
 has_binary whole below (says.Reply binary filter) reply is expected =

@@ -1,4 +1,4 @@
--- What the filters of a script's replies are read with, as policies are: what all its rows give.
+-- The environment that policies and the filters of a script's replies are read with: what all rows of the script define.
 use Rattle.std.specs.Prelude.{ℕ, Bool, true, false, ◌||◌, ◌&&◌, not, ◌==◌, if◌then◌else◌, nat_le, List, [], ◌∷◌, length, map, codes, decimal, find, Option, Some, None, is_some}
 use Rattle.st_law.specs.declared.input.Mode.{Mode}
 use Rattle.st_law.specs.declared.input.Mode.TheVariants.{Enforce, Learn, AskText}
@@ -16,12 +16,12 @@ use Rattle.st_statements.specs.declared.statement.Statement.TheVariants as says
 use Rattle.st_trace.specs.declared.start.GroupRow.{GroupRow}
 use Rattle.st_trace.specs.declared.start.UserRow.{UserRow}
 
--- the user that a row gives, where no row above has its name
+-- the user that a row defines, if no row above has its name
 abbrev pub new_user : List Name → Option Statement → Option UserRow
 new_user known (Some (says.User user)) = if has_name known user.name then None else Some user
 new_user known _ = None
 
--- the users that lines give, below rows with these names: of each name the first
+-- the users that lines define, below rows that define these names: of each name the first
 abbrev pub users_below : List Name → List ScriptLine → List UserRow
 users_below known [] = []
 users_below known (line ∷ lines) =
@@ -30,12 +30,12 @@ users_below known (line ∷ lines) =
       | None ↦ users_below known lines
     ]
 
--- the group that a row gives, where no row above has its name
+-- the group that a row defines, if no row above has its name
 abbrev pub new_group : List Name → Option Statement → Option GroupRow
 new_group known (Some (says.Group group)) = if has_name known group.name then None else Some group
 new_group known _ = None
 
--- the groups that lines give, below rows with these names: of each name the first
+-- the groups that lines define, below rows that define these names: of each name the first
 abbrev pub groups_below : List Name → List ScriptLine → List GroupRow
 groups_below known [] = []
 groups_below known (line ∷ lines) =
@@ -44,21 +44,22 @@ groups_below known (line ∷ lines) =
       | None ↦ groups_below known lines
     ]
 
--- the process that a row says
+-- the process of a row, if it has one
 abbrev pub process_of : Option Statement → Option ScriptProcess
 process_of (Some (says.Process process)) = Some process
 process_of _ = None
 
--- whether a process can't be taken where these are above: its name is one of them, there are too many, or a name of it is too long
+-- whether a process is refused, given the processes above: its name is one of theirs, there are too many, or its binary or directory is too
+-- long
 abbrev pub is_refused : List Name → ScriptProcess → Bool
 is_refused known process =
     has_name known process.name || (nat_le MOST_PROCESSES (length known) || (is_long process.binary || is_long process.cwd))
 
--- whether a process is traced and can be taken
+-- whether a process is traced and isn't refused
 abbrev pub is_given : List Name → ScriptProcess → Bool
 is_given known process = process.traced && not (is_refused known process)
 
--- the first traced process that lines give, below rows with these processes
+-- the first traced process of lines, below rows with these processes
 abbrev pub first_traced : List Name → List ScriptLine → Option ScriptProcess
 first_traced known [] = None
 first_traced known (line ∷ lines) =
@@ -67,22 +68,22 @@ first_traced known (line ∷ lines) =
       | None ↦ first_traced known lines
     ]
 
--- the user of a traced process: its own, or the one of `-c`
+-- the user of a traced process: that of `-c` if given, otherwise its own
 abbrev pub user_of : Options → ScriptProcess → ℕ
 user_of options process = elim options.ids [ Some ids ↦ ids.0 | None ↦ process.uid ]
 
--- the home and the name of an id: those of the first user with it, else `/` and its digits
+-- the home and the name of an id: those of the first user with it, otherwise `/` and the id in digits
 abbrev pub dollars_by : ℕ → Name → Option UserRow → Dollars
 dollars_by uid cwd (Some user) = record { home = user.home; user = user.name; cwd = cwd }
 dollars_by uid cwd None = record { home = codes "/"; user = decimal uid; cwd = cwd }
 
--- what stands for the three names: those of the first traced process, or of root where there is none
+-- the texts that replace `$HOME`, `$USER` and `$CWD`: those of the first traced process, or of root if there is none
 abbrev pub dollars_of : Options → List UserRow → Option ScriptProcess → Dollars
 dollars_of options users None = record { home = codes "/root"; user = codes "root"; cwd = codes "/" }
 dollars_of options users (Some process) =
     dollars_by (user_of options process) process.cwd (find (λ user. user.uid == user_of options process) users)
 
--- a user, and a group, by its name and id
+-- the name and the id of a user, and of a group
 abbrev pub user_id : UserRow → NamedId
 user_id user = record { name = user.name; id = user.uid }
 
@@ -95,7 +96,7 @@ learns Learn = true
 learns Enforce = false
 learns AskText = false
 
--- the environment that the lines of a script give
+-- the environment that the lines of a script define
 abbrev pub environment_of : Options → List ScriptLine → Env
 environment_of options lines = record {
   users = map user_id (users_below [] lines);

@@ -23,7 +23,7 @@ use Rattle.st_statements.specs.declared.statement.ScriptLine.{ScriptLine}
 use Rattle.st_statements.specs.declared.statement.Statement.{Statement}
 use Rattle.st_statements.specs.declared.statement.Statement.TheVariants as says
 
--- what each row is read with, wherever it stands
+-- what each row is read with, from the whole script
 pub record Whole : Type 0 where
   -- whether a lexical fault cuts the script off
   pub is_cut : Bool
@@ -34,41 +34,41 @@ pub record Whole : Type 0 where
 
 -- ---- replies
 
--- a filter that doesn't ask
+-- a filter, unless it asks
 abbrev pub unless_ask : FilterValue → Action → Option FilterValue
 unless_ask filter Permit = Some filter
 unless_ask filter (Deny errno) = Some filter
 unless_ask filter Ask = None
 
--- the filter of a reply, where it is read and doesn't ask
+-- the filter of a reply, if it is read and doesn't ask
 abbrev pub answer_of : FilterResult → Option FilterValue
 answer_of (Ok filter) = unless_ask filter filter.action
 answer_of (Err fault) = None
 
--- a reply to questions about this binary
+-- a reply to questions about this binary, if its name is normal
 abbrev pub reply_for : Name → Option FilterValue → Option Reply
 reply_for binary filter = if is_normal binary then option_map (λ f. record { binary = binary; filter = f }) filter else None
 
--- the reply of a row's quoted binary and filter, if it is one
+-- the reply of a row's quoted binary and filter, if they are valid
 abbrev pub reply_in : Env → List ℕ → List ℕ → Option Reply
 reply_in env binary filter = reply_for (unquoted env.dollars binary) (answer_of (filter_in filter env))
 
--- the reply that a line says
+-- the reply of a line, if it has one
 abbrev pub reply_said : Env → Option Statement → Option Reply
 reply_said env (Some (says.Reply binary filter)) = reply_in env binary filter
 reply_said env _ = None
 
--- where a row says a reply, this is one, with the row's binary
+-- if a row is a reply, this is a reply with the row's binary
 abbrev pub HasBinaryOf : Option Reply → Env → Statement → Type 0
 HasBinaryOf reply env (says.Reply binary filter) = IsSomeAnd reply (λ r. r.binary ≡ unquoted env.dollars binary)
 HasBinaryOf reply env _ = Unit {0}
 
--- replies, and one more behind them, if it is there
+-- replies, with one more added if it is given
 abbrev pub with_reply : List Reply → Option Reply → List Reply
 with_reply replies None = replies
 with_reply replies (Some reply) = replies ++ reply ∷ []
 
--- the replies that lines say, behind these
+-- these replies, with those of lines added after them
 abbrev pub replies_behind : Env → List Reply → List ScriptLine → List Reply
 replies_behind env replies [] = replies
 replies_behind env replies (line ∷ lines) = replies_behind env (with_reply replies (reply_said env line.says)) lines
@@ -82,15 +82,16 @@ is_end _ = false
 abbrev pub ends_body : ScriptLine → Bool
 ends_body line = is_end line.says
 
--- ---- what is wrong with a row, by what stands above and below it
+-- ---- what is wrong with a row, by the rows above and below it
 
--- a thread that no `end` follows, unless the script is cut off, and a reply that is none
+-- a thread that no `end` follows, unless the script is cut off, or a reply that isn't valid
 abbrev pub expects_other : Whole → List ScriptLine → Statement → Bool
 expects_other whole below (says.Thread name process) = not whole.is_cut && not (list_any ends_body below)
 expects_other whole below (says.Reply binary filter) = not (is_some (reply_in whole.env binary filter))
 expects_other whole below _ = false
 
--- an object that stands in no directory, a thread in no process, and a fork of no thread
+-- an object whose directory doesn't exist, a thread whose process doesn't exist, or, unless the script is cut off, a fork of a thread that
+-- doesn't exist
 abbrev pub is_unknown : Whole → Names → Statement → Bool
 is_unknown whole above (says.Object path new) = not (is_directory above.directories (directory_of path))
 is_unknown whole above (says.Thread name (Some process)) = not (has_name above.processes process)
@@ -101,7 +102,7 @@ is_unknown whole above _ = false
 abbrev pub is_started : Whole → Names → Name → Bool
 is_started whole above name = has_name whole.started name || has_name above.forked name
 
--- a name again, and a fork of a thread that is started already
+-- a name that is defined again, or a fork of a thread that is started already
 abbrev pub is_duplicate : Whole → Names → Statement → Bool
 is_duplicate whole above (says.User user) = has_name above.users user.name
 is_duplicate whole above (says.Group group) = has_name above.groups group.name
@@ -122,11 +123,11 @@ abbrev pub is_long_reply : Option Reply → Bool
 is_long_reply (Some reply) = is_long reply.binary
 is_long_reply None = false
 
--- whether so many instructions more are too many
+-- whether this many more instructions are too many
 abbrev pub exceeds : Names → ℕ → Bool
 exceeds above count = nat_lt MOST_INSTRUCTIONS (above.instructions + count)
 
--- too many rows or instructions, or too many bytes
+-- too many rows or instructions, or too many bytes, up to this row
 abbrev pub is_too_many : Whole → Names → Statement → Bool
 is_too_many whole above (says.Object path new) = nat_le MOST_TREE_ROWS (length above.paths) || (is_long path || is_large new.kind)
 is_too_many whole above (says.Process process) =
@@ -141,7 +142,7 @@ is_too_many whole above _ = false
 
 -- ---- faults
 
--- what is wrong with a row: the first kind that is met
+-- the fault of a row: the first kind that applies
 abbrev pub fault_of : Whole → Names → List ScriptLine → ℕ → Statement → Option ScriptFault
 fault_of whole above below line statement =
     if expects_other whole below statement then Some (Expected line)
@@ -150,16 +151,16 @@ fault_of whole above below line statement =
     else if is_too_many whole above statement then Some (TooMany line)
     else None
 
--- what is wrong with a line, by what it says
+-- the fault of a line, by what it says; a line that says nothing isn't in the grammar
 abbrev pub fault_by : Whole → Names → List ScriptLine → ℕ → Option Statement → Option ScriptFault
 fault_by whole above below line None = Some (Expected line)
 fault_by whole above below line (Some statement) = fault_of whole above below line statement
 
--- what is wrong with a line
+-- the fault of a line
 abbrev pub line_fault : Whole → Names → List ScriptLine → ScriptLine → Option ScriptFault
 line_fault whole above below line = fault_by whole above below line.number line.says
 
--- the fault of the first line that has one, below rows that give these names
+-- the fault of the first line that has one, below rows that define these names
 abbrev pub first_fault : Whole → Names → List ScriptLine → Option ScriptFault
 first_fault whole above [] = None
 first_fault whole above (line ∷ lines) =
@@ -168,27 +169,27 @@ first_fault whole above (line ∷ lines) =
       | None ↦ first_fault whole (with_says above line.says) lines
     ]
 
--- names with that of a thread, if a row is one
+-- names, with that of a row's thread added, if the row is a thread's
 abbrev pub with_thread : List Name → Option Statement → List Name
 with_thread names (Some (says.Thread name process)) = with_name names name
 with_thread names _ = names
 
--- the threads of lines, behind these
+-- these threads, with those of lines added after them
 abbrev pub threads_behind : List Name → List ScriptLine → List Name
 threads_behind names [] = names
 threads_behind names (line ∷ lines) = threads_behind (with_thread names line.says) lines
 
--- names with that of a thread that starts in a process, if a row is one
+-- names, with that of a row's thread added, if the thread starts in a process
 abbrev pub with_started : List Name → Option Statement → List Name
 with_started names (Some (says.Thread name (Some process))) = with_name names name
 with_started names _ = names
 
--- the threads of lines that start in a process, behind these
+-- these threads, with those of lines that start in a process added after them
 abbrev pub started_behind : List Name → List ScriptLine → List Name
 started_behind names [] = names
 started_behind names (line ∷ lines) = started_behind (with_started names line.says) lines
 
--- what the rows of a script are read with
+-- what the rows of a script are read with, from the whole script
 abbrev pub whole_of : Bool → Options → List ScriptLine → Whole
 whole_of is_cut options lines = record {
   is_cut = is_cut;
@@ -201,12 +202,12 @@ whole_of is_cut options lines = record {
 abbrev pub lexical : Option LexFault → Option ScriptFault
 lexical fault = option_map Lex fault
 
--- the first of two faults
+-- the first of two faults, if any
 abbrev pub first_of : Option ScriptFault → Option ScriptFault → Option ScriptFault
 first_of (Some fault) other = Some fault
 first_of None other = other
 
--- the fault of a script: that of its first line that has one, and behind all lines the lexical fault
+-- the fault of a script: that of its first line that has one, otherwise the lexical fault
 abbrev pub script_fault : Options → Option LexFault → List ScriptLine → Option ScriptFault
 script_fault options broken lines =
     first_of (first_fault (whole_of (is_some broken) options lines) no_names lines) (lexical broken)

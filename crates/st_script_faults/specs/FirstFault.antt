@@ -1,16 +1,16 @@
--- That a fault is the first of some lines.
+-- What it means that a fault is the first of some lines.
 use Rattle.std.specs.Prelude.{◌≡◌, List, [], ◌∷◌, ◌++◌, Some, None}
 use Rattle.st_script_faults.specs.Faults.{Whole, line_fault}
 use Rattle.st_script_faults.specs.Names.{Names, with_says}
 use Rattle.st_script_faults.specs.declared.fault.ScriptFault.{ScriptFault}
 use Rattle.st_statements.specs.declared.statement.ScriptLine.{ScriptLine}
 
--- what lines give too
+-- these names, with those that lines define added
 abbrev pub names_behind : Names → List ScriptLine → Names
 names_behind names [] = names
 names_behind names (line ∷ lines) = names_behind (with_says names line.says) lines
 
--- none of these lines has a fault, by what stands above and below it
+-- none of these lines has a fault, given the rows above and below each
 abbrev pub AreFaultless : Whole → Names → List ScriptLine → List ScriptLine → Type 0
 AreFaultless whole above [] below = Unit {0}
 AreFaultless whole above (line ∷ lines) below =

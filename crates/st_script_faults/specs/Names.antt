@@ -1,4 +1,4 @@
--- What the rows above a row of a script give: names, each once and in order, and instructions.
+-- What the rows above a row of a script define: names, each once and in order, and the number of instructions.
 use Rattle.std.specs.Prelude.{ℕ, zero, suc, ◌+◌, ◌/◌, ◌==◌, Bool, true, if◌then◌else◌, List, [], ◌∷◌, ◌++◌, length, take, slice_index, Option, Some, None}
 use Rattle.std.specs.List.{list_any, position_or_len}
 use Rattle.std.specs.Str.{bytes_eq}
@@ -17,15 +17,15 @@ Name = List ℕ
 abbrev pub has_name : List Name → Name → Bool
 has_name names name = list_any (bytes_eq name) names
 
--- names with one more, which is told once
+-- names with one more, unless it is among them already
 abbrev pub with_name : List Name → Name → List Name
 with_name names name = if has_name names name then names else names ++ name ∷ []
 
--- the number of a name among some, counted from 1
+-- the number of a name among some, counted from 1; one more than their count if it isn't among them
 abbrev pub number_of : List Name → Name → ℕ
 number_of names name = saturated (position_or_len (bytes_eq name) names + 1)
 
--- what rows give
+-- what rows define
 pub record Names : Type 0 where
   pub users : List Name
   pub groups : List Name
@@ -38,21 +38,21 @@ pub record Names : Type 0 where
   pub forked : List Name
   pub instructions : ℕ
 
--- what no rows give
+-- what no rows define
 abbrev pub no_names : Names
 no_names = record { users = []; groups = []; paths = []; directories = []; processes = []; threads = []; forked = []; instructions = 0 }
 
--- the directories with what is made at a path
+-- the directories, with this path added if the new object there is a directory
 abbrev pub with_object : List Name → Name → NewKind → List Name
 with_object directories path kind.Dir = with_name directories path
 with_object directories path (kind.File content) = directories
 with_object directories path (kind.Link target) = directories
 
--- how many instructions a text is that is put into memory: the stores of it and of a zero byte, in whole words
+-- how many instructions it takes to put a text into memory: the stores of the text and of a zero byte, in whole words
 abbrev pub store_count : List ℕ → ℕ
 store_count bytes = length bytes / 8 + 1
 
--- what a row gives too
+-- the names, with what a row defines added
 abbrev pub with_statement : Names → Statement → Names
 with_statement names (says.User user) = record names { users = with_name names.users user.name }
 with_statement names (says.Group group) = record names { groups = with_name names.groups group.name }
@@ -67,21 +67,21 @@ with_statement names (says.Call call regs) = record names { instructions = names
 with_statement names (says.Fork name) = record names { forked = with_name names.forked name; instructions = names.instructions + 1 }
 with_statement names says.End = names
 
--- the same, where a row says something
+-- the same, if a row says something
 abbrev pub with_says : Names → Option Statement → Names
 with_says names None = names
 with_says names (Some statement) = with_statement names statement
 
--- the last slash among the first n bytes; 0 where there is none
+-- the index of the last slash among the first n bytes; 0 if there is none
 abbrev pub last_slash : List ℕ → ℕ → ℕ
 last_slash path zero = 0
 last_slash path (suc n) = if slice_index path n == slash then n else last_slash path n
 
--- what stands before the last slash: the path of the directory, and nothing where that is the root
+-- the bytes before the last slash: the path of the directory, which is empty if the directory is the root
 abbrev pub directory_of : List ℕ → List ℕ
 directory_of path = take (last_slash path (length path)) path
 
--- whether a directory has no name, as the root, or is among those of rows
+-- whether a directory exists: its path is empty, as the root's, or among these
 abbrev pub is_directory : List Name → Name → Bool
 is_directory directories [] = true
 is_directory directories (byte ∷ bytes) = has_name directories (byte ∷ bytes)

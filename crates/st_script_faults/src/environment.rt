@@ -12,7 +12,7 @@ use st_statements::{ScriptLine, ScriptProcess, Statement};
 use st_trace::{GroupRow, UserRow};
 use std::alloc::{AllocError, Global};
 
-// The user that a row gives, where no row above has its name.
+// The user that a row defines, if no row above has its name.
 fn new_user<'a>(known: &NameIndex, says: &'a Option<Statement>) -> Option<&'a UserRow>
     ensures { option_copied result ≡ new_user known.now says.now }
 {
@@ -48,7 +48,7 @@ fn users_of<'a>(alloc: Global, lines: &'a [ScriptLine]) -> Result<Sequence<&'a U
     Ok(users)
 }
 
-// The group that a row gives, where no row above has its name.
+// The group that a row defines, if no row above has its name.
 fn new_group<'a>(known: &NameIndex, says: &'a Option<Statement>) -> Option<&'a GroupRow>
     ensures { option_copied result ≡ new_group known.now says.now }
 {
@@ -94,7 +94,7 @@ fn group_ids(alloc: Global, lines: &[ScriptLine]) -> Result<Sequence<NamedId>, A
     Ok(groups)
 }
 
-/// The process that a row says.
+/// The process of a row, if it has one.
 pub fn process_of(says: &Option<Statement>) -> Option<&ScriptProcess>
     ensures { option_copied result ≡ process_of says.now }
 {
@@ -104,7 +104,7 @@ pub fn process_of(says: &Option<Statement>) -> Option<&ScriptProcess>
     }
 }
 
-// Whether a process can't be taken where these are above.
+// Whether a process is refused, given the processes above.
 fn is_refused(known: &NameIndex, process: &ScriptProcess) -> bool
     ensures { result ≡ is_refused known.now process.now }
 {
@@ -114,7 +114,7 @@ fn is_refused(known: &NameIndex, process: &ScriptProcess) -> bool
         || is_long(process.cwd.bytes())
 }
 
-// The first traced process of lines that can be taken, below rows with these processes.
+// The first traced process of lines that isn't refused, below rows with these processes.
 fn first_traced<'a>(
     known: &mut NameIndex<'a>,
     lines: &'a [ScriptLine],
@@ -132,7 +132,7 @@ fn first_traced<'a>(
     Ok(None)
 }
 
-// The user of a traced process: its own, or the one of `-c`.
+// The user of a traced process: that of `-c` if given, otherwise its own.
 fn user_of(options: &Options, process: &ScriptProcess) -> u32
     ensures { result ≡ user_of options.now process.now }
 {
@@ -142,7 +142,7 @@ fn user_of(options: &Options, process: &ScriptProcess) -> u32
     }
 }
 
-// The user of an id.
+// The first user with an id.
 fn user_with<'a>(users: &[&'a UserRow], uid: u32) -> Option<&'a UserRow>
     ensures { option_copied result ≡ find (λ user. user.uid == uid) (map (λ user. user.now) users.now) }
 {
@@ -154,7 +154,7 @@ fn user_with<'a>(users: &[&'a UserRow], uid: u32) -> Option<&'a UserRow>
     None
 }
 
-// What stands for the three names, from these bytes.
+// The texts that replace `$HOME`, `$USER` and `$CWD`, from these bytes.
 fn dollars_with(alloc: Global, home: &[u8], user: &[u8], cwd: &[u8]) -> Result<Dollars, AllocError>
     ensures { IfOk result (λ dollars. dollars ≡ record { home = home.now; user = user.now; cwd = cwd.now }) }
 {
@@ -191,7 +191,7 @@ fn dollars_by(
     }
 }
 
-// What stands for the three names: those of the first traced process, or of root.
+// The texts that replace `$HOME`, `$USER` and `$CWD`: those of the first traced process, or of root if there is none.
 fn dollars_of(
     alloc: Global,
     options: &Options,
@@ -238,7 +238,7 @@ fn learns(mode: Mode) -> bool
     }
 }
 
-// The users of lines by name, and what stands for the three names.
+// The users of lines by name, and the texts that replace `$HOME`, `$USER` and `$CWD`.
 fn users_and_dollars(
     alloc: Global,
     options: &Options,
@@ -253,8 +253,8 @@ fn users_and_dollars(
     Ok((ids, dollars_of(alloc, options, users.as_slice(), process)?))
 }
 
-/// What policies, and the filters of replies, are read with: users and groups of all lines, of each name the first, and the three texts
-/// of the first traced process. Lines that can't be taken give nothing.
+/// The environment that policies and the filters of replies are read with: users and groups of all lines, of each name the first, and the
+/// three texts of the first traced process. A process that is refused is skipped.
 pub fn environment_of(
     alloc: Global,
     options: &Options,

@@ -7,22 +7,22 @@ use thiserror::Error;
 /// Why a script was not read; each line is counted from 1.
 #[derive(Clone, Copy, Debug, PartialEq, Eq, Drop, Error)]
 pub enum ScriptFault {
-    /// No token stands there.
+    /// No token begins there.
     #[error("not a token")]
     Lex(LexFault),
     /// The line isn't in the grammar.
     #[error("not expected here")]
     Expected(u32),
-    /// The line names a directory, a process or a thread that isn't there.
+    /// The line names a directory, a process or a thread that doesn't exist.
     #[error("not a known name")]
     UnknownName(u32),
-    /// The line gives a name that is given already, or starts a thread that is started already.
+    /// The line defines a name that is defined already, or starts a thread that is started already.
     #[error("given already")]
     Duplicate(u32),
     /// There are too many rows, instructions or bytes.
     #[error("too many")]
     TooMany(u32),
-    /// Memory is wanting.
+    /// Out of memory.
     #[error("out of memory")]
     NoMemory,
 }

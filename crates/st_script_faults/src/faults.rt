@@ -26,7 +26,7 @@ use st_trace::NewKind;
 use std::alloc::{AllocError, Global};
 use std::marker::Model;
 
-/// What each row is read with, wherever it stands.
+/// What each row is read with, from the whole script.
 #[derive(Drop)]
 pub struct Whole<'a> {
     /// Whether a lexical fault cuts the script off.
@@ -45,7 +45,7 @@ impl<'a> Model for Whole<'a> {
     ghost view = { λ w. record { is_cut = w.is_cut; threads = w.threads; started = w.started; env = w.env } };
 }
 
-// A filter that doesn't ask.
+// A filter, unless it asks.
 fn unless_ask(filter: Filter) -> Option<Filter>
     ensures { result ≡ answer_of (Ok filter) }
 {
@@ -56,7 +56,7 @@ fn unless_ask(filter: Filter) -> Option<Filter>
     }
 }
 
-// The filter of a reply, where it is read and doesn't ask.
+// The filter of a reply, if it is read and doesn't ask.
 fn answer_of(alloc: Global, text: &FilterText, env: &Env) -> Result<Option<Filter>, AllocError>
     ensures { IfOk result (λ found. found ≡ answer_of (filter_in text.now env.now)) }
 {
@@ -67,7 +67,7 @@ fn answer_of(alloc: Global, text: &FilterText, env: &Env) -> Result<Option<Filte
     }
 }
 
-// A reply to questions about this binary.
+// A reply to questions about this binary, if its name is normal.
 fn reply_for(binary: Text, filter: Option<Filter>) -> Option<Reply>
     ensures { result ≡ reply_for binary filter }
 {
@@ -80,7 +80,7 @@ fn reply_for(binary: Text, filter: Option<Filter>) -> Option<Reply>
     }
 }
 
-// The reply of a row's quoted binary and filter, if it is one.
+// The reply of a row's quoted binary and filter, if they are valid.
 fn reply_in(
     alloc: Global,
     env: &Env,
@@ -94,7 +94,7 @@ fn reply_in(
     Ok(reply_for(binary, filter))
 }
 
-// The reply that a row says, if it says one.
+// The reply of a row, if it has one.
 fn reply_said(alloc: Global, env: &Env, statement: &Statement) -> Result<Option<Reply>, AllocError>
     ensures { IfOk result (λ found. found ≡ reply_said env.now (Some statement.now)) }
 {
@@ -104,7 +104,7 @@ fn reply_said(alloc: Global, env: &Env, statement: &Statement) -> Result<Option<
     }
 }
 
-// Adds a reply, if it is there.
+// Adds a reply, if one is given.
 fn add_reply(replies: &mut Sequence<Reply>, reply: Option<Reply>) -> Result<(), AllocError>
     ensures { OnOk result (replies.new ≡ with_reply replies.old reply) }
 {
@@ -139,8 +139,8 @@ fn is_closed(below: &[ScriptLine]) -> bool
     false
 }
 
-// Whether something else has to stand here: a thread is followed by no `end`, unless the script is cut off, or a reply is none. Only the body of
-// a thread is gone through.
+// Whether the row isn't expected here: it is a thread that no `end` follows, unless the script is cut off, or a reply that isn't valid.
+// Only the body of a thread is gone through.
 fn expects_other(
     whole: &Whole,
     below: &[ScriptLine],
@@ -157,7 +157,8 @@ fn expects_other(
     }
 }
 
-// An object that stands in no directory, a thread in no process, and a fork of no thread.
+// An object whose directory doesn't exist, a thread whose process doesn't exist, or, unless the script is cut off, a fork of a thread that
+// doesn't exist.
 fn is_unknown(whole: &Whole, above: &NamesAbove, statement: &Statement) -> bool
     ensures { result ≡ is_unknown whole.now above.now statement.now }
 {
@@ -179,7 +180,7 @@ fn is_started(whole: &Whole, above: &NamesAbove, name: &Text) -> bool
     whole.started.has(name.bytes()) || above.forked.has(name.bytes())
 }
 
-// A name again, and a fork of a thread that is started already.
+// A name that is defined again, or a fork of a thread that is started already.
 fn is_duplicate(whole: &Whole, above: &NamesAbove, statement: &Statement) -> bool
     ensures { result ≡ is_duplicate whole.now above.now statement.now }
 {
@@ -205,7 +206,7 @@ fn is_large(kind: &NewKind) -> bool
     }
 }
 
-// Whether so many instructions more are too many.
+// Whether this many more instructions are too many.
 fn exceeds(above: &NamesAbove, count: u64) -> bool
     requires few { above.now.instructions ≤ MOST_INSTRUCTIONS }
     requires small { count ≤ 2 ^ 60 }
@@ -224,7 +225,7 @@ fn is_long_reply(reply: &Option<Reply>) -> bool
     }
 }
 
-// Too many rows or instructions, or too many bytes.
+// Too many rows or instructions, or too many bytes, up to this row.
 fn is_too_many(above: &NamesAbove, statement: &Statement, reply: &Option<Reply>) -> bool
     requires { above.now.instructions ≤ MOST_INSTRUCTIONS }
     ensures { (whole : spec.Whole) → HasBinaryOf reply.now whole.env statement.now → result ≡ is_too_many whole above.now statement.now }
@@ -248,7 +249,7 @@ fn is_too_many(above: &NamesAbove, statement: &Statement, reply: &Option<Reply>)
     }
 }
 
-// What is wrong with a row, with the reply that it says: the first kind that is met.
+// The fault of a row with its reply: the first kind that applies.
 fn fault_with(
     whole: &Whole,
     above: &NamesAbove,
@@ -276,7 +277,7 @@ fn fault_with(
     None
 }
 
-// What is wrong with a row. Its reply is read once, and added to these.
+// The fault of a row. Its reply is read once, and added to these.
 fn fault_of(
     alloc: Global,
     whole: &Whole,
@@ -296,7 +297,7 @@ fn fault_of(
     Ok(fault)
 }
 
-// The fault of a line, or nothing, and then what it gives is added to what stands above, and its reply to these.
+// The fault of a line. If it has none, its names are added to those above, and its reply to these.
 fn take_line<'a>(
     alloc: Global,
     whole: &Whole,
@@ -321,7 +322,7 @@ fn take_line<'a>(
     Ok(fault)
 }
 
-// The fault of the first line that has one, with what stands above. Where none has, the replies of all are added to these.
+// The fault of the first line that has one, given the names above. If none has one, the replies of all are added to these.
 fn fault_among<'a>(
     alloc: Global,
     whole: &Whole,
@@ -344,7 +345,7 @@ fn fault_among<'a>(
     Ok(None)
 }
 
-/// The fault of the first line that has one. Where none has, the replies of all are added to these.
+/// The fault of the first line that has one. If none has one, the replies of all are added to these.
 pub fn first_fault(
     alloc: Global,
     whole: &Whole,
@@ -403,7 +404,7 @@ fn started_of<'a>(alloc: Global, lines: &'a [ScriptLine]) -> Result<NameIndex<'a
     Ok(names)
 }
 
-/// What the rows of a script are read with.
+/// What the rows of a script are read with, from the whole script.
 pub fn whole_of<'a>(
     alloc: Global,
     is_cut: bool,
@@ -420,7 +421,7 @@ pub fn whole_of<'a>(
     })
 }
 
-/// The fault of lines is that of one of them, and no line above it has one, by what stands above and below it.
+/// The fault of lines is the fault of one of them, given the rows above and below it, and no line above it has a fault.
 pub fn the_fault_is_the_first()
     ensures { (whole : spec.Whole) (lines : List ScriptLine) (fault : ScriptFault) → first_fault whole no_names lines ≡ Some fault → IsFirstFault whole no_names lines fault }
 {}

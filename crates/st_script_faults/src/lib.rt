@@ -1,4 +1,4 @@
-//! Finds what is wrong with a script, line by line, by what stands above and below.
+//! Finds the first fault of a script, line by line, given the lines above and below.
 #![tactic(auto)]
 
 pub mod environment;

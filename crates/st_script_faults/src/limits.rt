@@ -1,15 +1,15 @@
-//! How much a script may have.
+//! The limits of a script.
 
 use st_model::MOST_OBJECTS;
 
-/// How many directories, files and links: with the root, as many as there may be objects.
+/// The most directories, files and links: with the root, as many as there may be objects.
 pub const MOST_TREE_ROWS: usize = MOST_OBJECTS - 1;
 
-/// How many instructions, the stores of a text counted one by one.
+/// The most instructions, with the stores of a text counted one by one.
 pub const MOST_INSTRUCTIONS: u64 = 4_096;
 
-/// How many processes.
+/// The most processes.
 pub const MOST_PROCESSES: usize = 64;
 
-/// How many threads.
+/// The most threads.
 pub const MOST_THREADS: usize = 64;

@@ -9,7 +9,7 @@ use st_trace::NewKind;
 use std::alloc::{AllocError, Global};
 use std::marker::Model;
 
-/// Names, each once and in order, that are found by themselves.
+/// Names, each once and in order, with a lookup by name.
 #[derive(Drop)]
 pub struct NameIndex<'a> {
     names: IndexSet<&'a [u8]>,
@@ -24,7 +24,7 @@ impl<'a> Model for NameIndex<'a> {
 }
 
 impl<'a> NameIndex<'a> {
-    /// No names, which takes no memory.
+    /// No names; it takes no memory.
     pub fn new(alloc: Global) -> Self
         ensures { result ≡ [] }
     {
@@ -40,14 +40,14 @@ impl<'a> NameIndex<'a> {
         self.names.len()
     }
 
-    /// Whether a name is among them.
+    /// Whether a name is in the index.
     pub fn has(&self, name: &[u8]) -> bool
         ensures { result ≡ has_name self.now name.now }
     {
         self.names.contains(name)
     }
 
-    /// The number of a name, counted from 1; behind all of them where it isn't one.
+    /// The number of a name, counted from 1; one more than their count if it isn't in the index.
     pub fn number_of(&self, name: &[u8]) -> u32
         ensures { result ≡ number_of self.now name.now }
     {
@@ -55,7 +55,7 @@ impl<'a> NameIndex<'a> {
         saturated(place as u64 + 1)
     }
 
-    /// Adds a name, unless it is there.
+    /// Adds a name, unless it is in the index.
     pub fn add(&mut self, name: &'a [u8]) -> Result<(), AllocError>
         ensures { OnOk result (self.new ≡ with_name self.old name.now) }
     {
@@ -64,7 +64,7 @@ impl<'a> NameIndex<'a> {
     }
 }
 
-/// What the rows above a row give.
+/// What the rows above a row define.
 #[derive(Drop)]
 pub struct NamesAbove<'a> {
     pub users: NameIndex<'a>,
@@ -87,7 +87,7 @@ impl<'a> Model for NamesAbove<'a> {
     ghost view = { λ n. record { users = n.users; groups = n.groups; paths = n.paths; directories = n.directories; processes = n.processes; threads = n.threads; forked = n.forked; instructions = n.instructions } };
 }
 
-/// How many instructions a text is that is put into memory: the stores of it and of a zero byte, in whole words.
+/// How many instructions it takes to put a text into memory: the stores of the text and of a zero byte, in whole words.
 pub fn store_count(bytes: &[u8]) -> u64
     ensures is { result ≡ store_count bytes.now }
     ensures few { result ≤ 2 ^ 60 }
@@ -107,7 +107,7 @@ fn last_slash(path: &[u8]) -> usize
     last
 }
 
-/// The path of the directory in which a path stands, and nothing where that is the root.
+/// The path of the directory that holds a path, which is empty if the directory is the root.
 pub fn directory_of(path: &[u8]) -> &[u8]
     ensures { result.now ≡ directory_of path.now }
 {
@@ -115,7 +115,7 @@ pub fn directory_of(path: &[u8]) -> &[u8]
 }
 
 impl<'a> NamesAbove<'a> {
-    /// What no rows give, which takes no memory.
+    /// What no rows define; it takes no memory.
     pub fn new(alloc: Global) -> Self
         ensures { result ≡ no_names }
     {
@@ -131,7 +131,7 @@ impl<'a> NamesAbove<'a> {
         }
     }
 
-    /// Whether a directory has no name, as the root, or is among those of the rows.
+    /// Whether a directory exists: its path is empty, as the root's, or among those of the rows.
     pub fn is_directory(&self, path: &[u8]) -> bool
         ensures { result ≡ is_directory self.now.directories path.now }
     {
@@ -157,7 +157,7 @@ impl<'a> NamesAbove<'a> {
         Ok(())
     }
 
-    /// Adds what a row gives.
+    /// Adds what a row defines.
     pub fn add(&mut self, statement: &'a Statement) -> Result<(), AllocError>
         requires { self.old.instructions < 2 ^ 63 }
         ensures { OnOk result (self.new ≡ with_statement self.old statement.now) }

@@ -1,4 +1,4 @@
-//! The reader of policies, one symbol at a time: the place in the grammar, and the parts of the row that were read.
+//! Reads policies one symbol at a time: the place in the grammar, and the parts of the row that were read.
 #![tactic(auto)]
 
 mod reader;

@@ -68,7 +68,7 @@ impl<'a> Model for Reader<'a> {
 }
 
 impl<'a> Reader<'a> {
-    /// The beginning of a text, with so many filters read before it. It takes no memory.
+    /// The beginning of a text, with this many filters read before it. It takes no memory.
     pub fn new(alloc: Global, filters: usize) -> Self
         ensures { result ≡ fresh Place.Start filters (FilterName.Other []) }
     {
@@ -120,7 +120,7 @@ impl<'a> Reader<'a> {
         self.predicate = None;
     }
 
-    // The symbol may stand here, and it adds nothing.
+    // The symbol may occur here, and it adds nothing.
     #[inline]
     pub(crate) fn go(&mut self, next: Place) -> Result<(), PolicyFault>
         ensures { IsStepped result self.new (step_to self.old next) }
@@ -129,7 +129,7 @@ impl<'a> Reader<'a> {
         Ok(())
     }
 
-    // Only one symbol may stand here.
+    // Only one symbol may occur here.
     pub(crate) fn only(&mut self, at: u32, fits: bool, next: Place) -> Result<(), PolicyFault>
         ensures { IsStepped result self.new (only self.old at fits next) }
     {

@@ -3,6 +3,6 @@ use Rattle.std.specs.List.{filter_map}
 use Rattle.st_script.specs.Reading.{object_said}
 use Rattle.st_script.proofs.reading.tree_in.Given as goal
 
--- what was found so far, and what the rest gives, is what all lines give
+-- the rows found so far, followed by those of the rest, are those of all lines
 abbrev pub invariant-loop-line : goal.invariant-loop-line
 invariant-loop-line l = l.rows ++ filter_map (λ line. object_said line.says) (drop l.line-index l.lines) ≡ filter_map (λ line. object_said line.says) l.lines

@@ -3,7 +3,7 @@ use Rattle.st_script_faults.specs.Faults.{first_fault, replies_behind}
 use Rattle.st_script_faults.specs.declared.limits.TheConstants.{MOST_INSTRUCTIONS}
 use Rattle.st_script_faults.proofs.faults.fault_among.Given as goal
 
--- what is left gives the answer, and the replies behind those that were added
+-- the lines that are left give the answer, and their replies follow those that were added
 abbrev pub invariant-loop-line : goal.invariant-loop-line
 invariant-loop-line l = record {
   rest : first_fault l.whole l.above l.rest ≡ first_fault l.whole l.initial.above l.lines;
