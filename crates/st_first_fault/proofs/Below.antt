@@ -1,4 +1,4 @@
--- The tokens of a text below another one: those that it has alone, so many bytes and lines further on.
+-- The tokens of a text below another one: its own tokens, moved by the other's bytes and lines.
 use Rattle.std.proofs.Common.{zero, suc, ◌≡◌, ℕ, ◌+◌, ◌-◌, List, [], ◌∷◌, ◌++◌, length, take, drop, map, Some, refl, ap, sym, ◌∙◌, arith}
 use Rattle.std.proofs.lemmas.List.{drop-drop}
 use Rattle.st_grammar.proofs.Common.{fault_after, Lexed, lexed_text, LexFault, optional_fault_after, symbol_by, symbol_of, Token, TokenKind}
@@ -11,7 +11,7 @@ use Rattle.st_lex.proofs.Fronts.{drop_front}
 use Rattle.st_lex.proofs.Skips.{before, by_front, tokens_from-front}
 use Rattle.st_first_fault.specs.FilterFault.{header}
 
--- a token so many bytes and lines further on
+-- a token, moved by this many bytes and lines
 abbrev pub moved_token : ℕ → ℕ → Token → Token
 moved_token n lines t = record { kind = t.kind; at = n + t.at; len = t.len; line = lines + t.line }
 
@@ -37,14 +37,14 @@ by-moved n lines bs ih at line to next e l (Piece kind k) =
 by-moved n lines bs ih at line to next e l (Broken fault) =
     ap (λ (f : LexFault). record { tokens = []; fault = Some f }) (ap (λ (a : ℕ). fault_after a fault) e ∙ sym (moved-moved n at fault))
 
--- bytes that are read from a place and a line so much further on
+-- bytes that are read from an offset and a line moved so far
 pub from-moved : (n lines : ℕ) (bs : List ℕ) (skip at line to next : ℕ) → to ≡ n + at → next ≡ lines + line → tokens_from skip to next bs ≡ moved_text n lines (tokens_from skip at line bs)
 from-moved n lines [] skip at line to next e l = refl
 from-moved n lines (b ∷ bs) (suc skip) at line to next e l = from-moved n lines bs skip (at + 1) line (to + 1) next (omega (arith, e)) l
 from-moved n lines (b ∷ bs) zero at line to next e l =
     tokens_from-front to next b bs ∙ by-moved n lines bs (from-moved n lines bs) at line to next e l (front_of (b ∷ bs)) ∙ ap (moved_text n lines) (sym (tokens_from-front at line b bs))
 
--- a token below a text is the symbol that it is alone
+-- a token of a text below another is the same symbol as in the text alone
 pub symbol-moved : (above text : List ℕ) (lines : ℕ) (t : Token) → symbol_of (above ++ text) (moved_token (length above) lines t) ≡ symbol_of text t
 symbol-moved above text lines t =
     ap (λ (bytes : List ℕ). symbol_by t.kind (take t.len bytes)) (sym (drop-drop t.at (length above) (above ++ text)) ∙ ap (drop t.at) (drop_front above text))
@@ -66,6 +66,6 @@ header_tokens =
 header-read : (text : List ℕ) → lexed_text (header ++ text) ≡ before header_tokens (tokens_from 0 30 2 text)
 header-read text = refl
 
--- behind the header's tokens stand those of the text
+-- the tokens of the text follow the header's tokens
 pub below-header : (text : List ℕ) → lexed_text (header ++ text) ≡ before header_tokens (moved_text 30 1 (lexed_text text))
 below-header text = header-read text ∙ ap (before header_tokens) (from-moved 30 1 text 0 0 1 30 2 refl refl)

@@ -1,4 +1,4 @@
--- From each place of the grammar a row can be ended.
+-- A row can be completed from each place of the grammar.
 use Rattle.std.proofs.Common.{◌≡◌, ℕ, zero, suc, ◌+◌, ◌-◌, ◌<◌, ◌≤◌, Bool, true, false, ◌&&◌, ◌||◌, ◌==◌, nat_lt, List, [], ◌∷◌, ◌++◌, length, replicate, Some, Ok, Err, if◌then◌else◌, codes, refl, ap, sym, subst, ◌∙◌, arith, append_assoc}
 use Rattle.std.specs.List.{list_any, list_all}
 use Rattle.std.specs.Str.{bytes_eq}
@@ -43,7 +43,7 @@ same_labels : (b : Bool) → (b || (b || false)) ≡ true → ((b && true) || ((
 same_labels true e = refl
 same_labels false e = absurd (cc)
 
--- a rule that has an argument of a label has one without an index
+-- a rule that has an argument of a label has one with index 0
 rule-first : (rule : Rule) (label : List ℕ) → has_label rule label ≡ true → has_argument rule label 0 ≡ true
 rule-first FsRead label e = one_label (bytes_eq (codes "filename") label) e
 rule-first FsWrite label e = one_label (bytes_eq (codes "filename") label) e
@@ -73,14 +73,14 @@ rule-first (Call call.Bind) label e = one_label (bytes_eq (codes "sockaddr") lab
 rule-first (Call call.Connect) label e = one_label (bytes_eq (codes "sockaddr") label) e
 rule-first (Call c) label e = absurd (cc)
 
--- a filter that may test an argument of a label may test the one without an index
+-- a filter that may test an argument of a label may test the one with index 0
 pub label-first : (n : FilterName) (label : List ℕ) → may_test_label n label ≡ true → may_test n label 0 ≡ true
 label-first (name.Rule rule) label e = rule-first rule label e
 label-first (name.Other word) label e = refl
 
--- ---- a binary that is new
+-- ---- a binary without a policy yet
 
--- the bytes of all of these
+-- the number of bytes of all these texts
 bytes_in : List (List ℕ) → ℕ
 bytes_in [] = 0
 bytes_in (b ∷ known) = length b + bytes_in known
@@ -96,7 +96,7 @@ is-new x (b ∷ known) h =
     let others : bytes_in known < length x = omega (arith, h) in
     ap (λ (t : Bool). t || list_any (λ b. bytes_eq b x) known) (no-longer x b short) ∙ is-new x known others
 
--- a path that is longer than all of these
+-- a path that is longer than all these
 new_path : List (List ℕ) → List ℕ
 new_path known = 47 ∷ replicate (bytes_in known) 97
 
@@ -121,7 +121,7 @@ path-binary env known = refl
 
 -- ---- endings
 
--- behind these symbols pieces end a row, and all rows are read
+-- some pieces after these symbols end a row, and all rows are read
 pub record Ending (env : Env) (old : List BinaryPolicy) (done : List Symbol) : Type 0 where
   pub pieces : List Piece
   pub well : StandWell pieces
@@ -130,13 +130,13 @@ pub record Ending (env : Env) (old : List BinaryPolicy) (done : List Symbol) : T
   pub new : AreNew old policies
   pub few : filters_in (old ++ policies) ≤ MOST_FILTERS
 
--- some symbols as pieces
+-- some symbols, as they are spelled by pieces
 pub record Printed (xs : List Symbol) : Type 0 where
   pub pieces : List Piece
   pub spelled : (more : List Piece) → piece_symbols (pieces ++ more) ≡ xs ++ piece_symbols more
   pub well : (more : List Piece) → StandWell more → StandWell (pieces ++ more)
 
--- symbols that can be printed are part of the ending as well
+-- symbols that can be printed can be moved to the ending
 pub ends-before : (env : Env) (old : List BinaryPolicy) (done xs : List Symbol) → Printed xs → Ending env old (done ++ xs) → Ending env old done
 ends-before env old done xs p e = record {
   pieces = p.pieces ++ e.pieces;
@@ -183,20 +183,20 @@ printed-more xs ys p q = record {
   well = λ more h. subst StandWell (sym (append_assoc p.pieces q.pieces more)) (p.well (q.pieces ++ more) (q.well more h));
 }
 
--- how far a step leads, if it does
+-- the state that a step leads to, if it succeeds
 abbrev led-by : GrammarState → StepResult → GrammarState
 led-by w (Ok v) = v
 led-by w (Err fault) = w
 
--- how far the grammar has come behind a symbol that may stand here
+-- the state after a symbol that may occur here
 abbrev pub led : Env → GrammarState → List BinaryPolicy → Symbol → Place → GrammarState
 led env w set s p = led-by w (step env (binaries set) (record w { place = p }) 0 s p)
 
--- how far it has come behind a closing parenthesis
+-- the state after a closing parenthesis
 abbrev pub closed : GrammarState → GrammarState
 closed w = record w { parens = w.parens - 1; expression = close_group (without_either w.expression) }
 
--- a label that is read may be tested
+-- if a label was just read, the filter may test it with index 0
 abbrev pub MayEnd : Place → GrammarState → Type 0
 MayEnd place.Label w = may_test w.name w.label 0 ≡ true
 MayEnd place.Index w = may_test w.name w.label 0 ≡ true
@@ -214,7 +214,7 @@ module _ (env : Env) (old : List BinaryPolicy) (rows : List Symbol) where
     few = omega (arith, ap filters_in h.rowed.set_is, h.rowed.filters_are, h.rowed.few);
   }
 
-  -- behind a row that has ended an empty one may stand
+  -- after a row that has ended, an empty row may follow
   pub line-ends : (r : Reading) → RowEnded env old rows r → Ending env old rows
   line-ends r h = record {
     pieces = [];
@@ -225,11 +225,11 @@ module _ (env : Env) (old : List BinaryPolicy) (rows : List Symbol) where
     few = omega (arith, ap filters_in h.rowed.set_is, h.rowed.filters_are, h.rowed.few);
   }
 
-  -- one symbol more
+  -- one more symbol
   pub on : (front : List Symbol) (s : Symbol) → Printed (s ∷ []) → Ending env old (rows ++ (front ++ s ∷ [])) → Ending env old (rows ++ front)
   on front s p e = ends-before env old (rows ++ front) (s ∷ []) p (subst (Ending env old) (sym (append_assoc rows front (s ∷ []))) e)
 
-  -- the facts behind a symbol that may stand where a test says so
+  -- the facts after a symbol that may occur here if a test succeeds
   pub facts-if : (front : List Symbol) (r : Reading) (s : Symbol) (b : Bool) (x y : StepResult) → b ≡ true → HasFacts env old rows front (reading_step env r s (if b then x else y)) → HasFacts env old rows front (reading_step env r s x)
   facts-if front r s b x y e h = subst (λ (c : Bool). HasFacts env old rows front (reading_step env r s (if c then x else y))) e h
 
@@ -241,7 +241,7 @@ module _ (env : Env) (old : List BinaryPolicy) (rows : List Symbol) where
       let s : Symbol = Word (codes "permit") in
       on front s (a-word (codes "permit") refl) (ends-tail (front ++ s ∷ []) (led env w set s place.Action) set true true (line-keeps env old rows front w set 0 place.Action s refl h))
 
-  -- what stands behind the end of an operand: the parentheses are closed, and `then` follows
+  -- the ending after an operand: the parentheses are closed, and `then` follows
   pub facts-close : (front : List Symbol) (w : GrammarState) (set : List BinaryPolicy) → 0 < w.parens → Facts env old rows front place.Joint w set →
       Facts env old rows (front ++ Close ∷ []) place.Joint (closed w) set
   facts-close front w set e h =
@@ -379,7 +379,7 @@ module _ (env : Env) (old : List BinaryPolicy) (rows : List Symbol) where
       on front s (a-word path (path-word (binaries set)))
       (ends-comma (front ++ s ∷ []) w (set ++ new_policy (binary_of env s)) (rw (is, new) at (line-keeps env old rows front w set 0 place.Binary s refl h)))
 
-  -- from each place a row can be ended
+  -- a row can be completed from each place
   pub ends-place : (front : List Symbol) (p : Place) (w : GrammarState) (set : List BinaryPolicy) → MayEnd p w → Facts env old rows front p w set → Ending env old (rows ++ front)
   ends-place front place.Start w set m h = row-ends front _ (line-is_sound env old rows front w set place.Start 0 h)
   ends-place front place.Row w set m h = row-ends front _ (line-is_sound env old rows front w set place.Row 0 h)

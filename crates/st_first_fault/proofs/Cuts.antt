@@ -1,4 +1,4 @@
--- A text that is cut behind one of its tokens, and goes on behind a blank, has the tokens up to there.
+-- A text that is cut after one of its tokens, and continues with a blank, has the tokens up to the cut.
 use Rattle.std.proofs.Common.{zero, suc, ◌≡◌, ℕ, ◌+◌, ◌-◌, ◌<◌, ◌≤◌, ◌≢◌, Bool, true, false, List, [], ◌∷◌, ◌++◌, length, take, drop, Option, None, Some, refl, ap, sym, subst, ◌∙◌, arith, nat_eq}
 use Rattle.std.proofs.lemmas.Bool.Decides.{nat_tests}
 use Rattle.std.specs.List.{prefix_len}
@@ -22,7 +22,7 @@ use Rattle.st_lex.proofs.Scans.{closing_len-plain, closing_len-quote, closing_le
 
 -- ---- runs
 
--- a run that stops where the text is cut, or before, is as long as before
+-- a run that ends at the cut, or before it, keeps its length
 pub prefix_cut : (p : ℕ → Bool) (bs ys : List ℕ) (m : ℕ) → prefix_len p bs ≤ m → m ≤ length bs → (prefix_len p bs ≡ m → prefix_len p ys ≡ 0) → prefix_len p (take m bs ++ ys) ≡ prefix_len p bs
 prefix_cut p [] ys zero h within stop = stop refl
 prefix_cut p [] ys (suc m) h within stop = absurd (omega arith)
@@ -39,7 +39,7 @@ prefix_cut p (b ∷ bs) ys (suc m) h within stop = by (p b) refl (prefix_cut p b
 
 -- ---- quoted texts
 
--- what is counted from some bytes further on
+-- a count that continues after some bytes is their number and the count of the rest
 behind : (k c : ℕ) (o : Option ℕ) → count_after k o ≡ Some c → (m : ℕ) × (k + m ≡ c) × (o ≡ Some m)
 behind k c None e = absurd (cc)
 behind k c (Some m) e = (m, cc, refl)
@@ -48,12 +48,12 @@ no_fault : (k : ℕ) (o : Option LexFault) → optional_fault_after k o ≡ None
 no_fault k None e = refl
 no_fault k (Some fault) e = absurd (cc)
 
--- the bytes close a quoted text without a fault, so many bytes on
+-- the bytes close a quoted text without a fault, at this length
 pub record ClosesAt (bs : List ℕ) (c : ℕ) : Type 0 where
   pub closes : closing_len bs ≡ Some c
   pub faultless : inner_fault bs ≡ None
 
--- a byte is this one, or it isn't
+-- a byte is this byte, or it isn't
 byte_is : (b n : ℕ) (P : Type 0) → (b ≡ n → P) → (b ≢ n → P) → P
 byte_is b n P same other = by (nat_eq b n) refl where
   by : (t : Bool) → nat_eq b n ≡ t → P
@@ -75,7 +75,7 @@ pair_first b c zs n z x rest = record {
   faultless = inner_fault-pair b zs z x ∙ ap (optional_fault_after 2) rest.faultless;
 }
 
--- an escape stands in front of where the text closes
+-- an escape is before the end of the quoted text
 escape_kept : (cs ys : List ℕ) (c m : ℕ) → closing_len cs ≡ Some c → c ≤ m → is_byte_escape cs ≡ true → is_byte_escape (take m cs ++ ys) ≡ true
 escape_kept [] ys c m e h x = absurd (cc)
 escape_kept (h ∷ []) ys c m e i x = absurd (cc)
@@ -90,7 +90,7 @@ escape_kept (h ∷ l ∷ rest) ys c m e i x =
       cut (suc zero) long = absurd (omega (arith, long))
       cut (suc (suc m)) long = x
 
--- what stands behind the closing quote doesn't matter
+-- the bytes after the closing quote don't matter
 pub Kept : List ℕ → List ℕ → Type 0
 Kept bs ys = (c m : ℕ) → ClosesAt bs c → c ≤ m → ClosesAt (take m bs ++ ys) c
 
@@ -155,9 +155,9 @@ closes_kept (b ∷ []) ys =
     (λ q. never (b ∷ []) ys (λ c h. let none = closing_len-one b q in let some = h.closes in cc))
 closes_kept (b ∷ c ∷ cs) ys = kept_first b c cs ys (closes_kept cs ys) (closes_kept (c ∷ cs) ys)
 
--- ---- fronts
+-- ---- the beginnings of bytes
 
--- a front of so many bytes is the front of these bytes too, where the text was cut behind it
+-- a gap or a token at the beginning of the whole bytes is at the beginning of the cut bytes too, if it ends before the cut
 abbrev pub Stays : List ℕ → ℕ → Front → Type 0
 Stays cut m (Gap k) = k ≤ m → front_of cut ≡ Gap k
 Stays cut m (Piece kind k) = k ≤ m + 1 → front_of cut ≡ Piece kind k
@@ -216,17 +216,17 @@ drop_cut k n xs ys h i =
     let parts : k + (n - k) ≡ n = omega arith in
     drop-append-le k (take n xs) ys (omega (arith, size)) ∙ ap (λ (j : ℕ). drop k (take j xs) ++ ys) (sym parts) ∙ ap (λ (zs : List ℕ). zs ++ ys) (drop-take k (n - k) xs)
 
--- behind some tokens lies a place past this one
+-- the last of some tokens, if there is one, ends past this offset
 abbrev pub IsPast : ℕ → List Token → Type 0
 IsPast at [] = Unit {0}
 IsPast at (t ∷ ts) = at < end_of at (t ∷ ts)
 
--- no token ends past a place
+-- no token ends past this offset
 abbrev pub EndBefore : ℕ → List Token → Type 0
 EndBefore end [] = Unit {0}
 EndBefore end (t ∷ ts) = (t.at + t.len ≤ end) × EndBefore end ts
 
--- what is read of bytes that are cut behind these tokens, and go on with other bytes
+-- the tokens of bytes that are cut after these tokens, and continue with other bytes
 record Cut (at line : ℕ) (bytes : List ℕ) (kept : List Token) (ys : List ℕ) : Type 0 where
   from : at ≤ end_of at kept
   to : end_of at kept ≤ at + length bytes
@@ -240,7 +240,7 @@ cut_none at line bytes ys =
     let none : at - at ≡ 0 = omega arith in
     record { from = omega arith; to = omega arith; past = tt; ends = tt; next = line; same = ap (λ (n : ℕ). tokens_from 0 at line (take n bytes ++ ys)) none }
 
--- the bytes behind a front, where the text is cut at an end
+-- the bytes after the first gap or token, if the text is cut at this end
 module _ (b : ℕ) (bs more : List ℕ) (k at end : ℕ) (some : 0 < k) (from : at + k ≤ end) (to : end ≤ at + length (b ∷ bs)) where
   tail : List ℕ
   tail = 32 ∷ more
@@ -328,7 +328,7 @@ cut_from (suc fuel) at line (b ∷ bs) (t ∷ ts) after more h e =
     cut_by at line b bs more t ts after (front_of (b ∷ bs)) refl (front_of-within b bs) e
     (λ at' line' k kept some. cut_from fuel at' line' (drop k (b ∷ bs)) kept after more (let size = length-drop k (b ∷ bs) in omega (arith, h, size, some)))
 
--- the bytes of a token that ends where a text is cut, or before
+-- the bytes of a token that ends at the cut, or before it
 kept_token : (t : Token) (end : ℕ) (text ys : List ℕ) → t.at + t.len ≤ end → end ≤ length text → text_of_token (take end text ++ ys) t ≡ text_of_token text t
 kept_token t end text ys h i =
     let size : length (drop t.at text) ≡ length text - t.at = length-drop t.at text in
@@ -343,7 +343,8 @@ kept_tokens (t ∷ ts) end text ys h i =
     let T : List ℕ → List SpelledToken = λ bytes. record { kind = t.kind; text = bytes } ∷ spelled_tokens (take end text ++ ys) ts in
     ap T (kept_token t end text ys h.0 i) ∙ ap (λ (more : List SpelledToken). spelled_token text t ∷ more) (kept_tokens ts end text ys h.1 i)
 
--- a text that is cut behind one of its tokens, and goes on behind a blank with pieces, is read as the tokens up to there and then the pieces
+-- a text that is cut after one of its tokens, and continues with a blank and pieces, is read as the tokens up to the cut and then the
+-- pieces
 pub cut_is_read : (text : List ℕ) (kept after : List Token) (pieces : List TextPiece) → (lexed_text text).tokens ≡ kept ++ after → StandWell pieces → IsReadAs (take (end_of 0 kept) text ++ print (Space ∷ pieces)) (spelled_tokens text kept ++ piece_tokens pieces)
 cut_is_read text kept after pieces e well =
     let c = cut_from (length text) 0 1 text kept after (print pieces) (omega arith) e in

@@ -1,4 +1,4 @@
--- Texts whose first fault stands at a place that is computed: at a token, at the text's end, and where no token stands.
+-- Texts whose first fault is at an offset that is computed: at a token, at the text's end, and where no token begins.
 use Rattle.std.proofs.Common.{◌≡◌, ◌++◌, ◌∷◌, [], Some, refl, codes}
 use Rattle.st_lex.specs.declared.token.LexFault.TheVariants.{OpenQuote}
 use Rattle.st_grammar.specs.Words.{no_env}

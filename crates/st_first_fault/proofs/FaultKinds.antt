@@ -1,4 +1,4 @@
--- The fault of a symbol that doesn't fit, at each place, by what may stand there.
+-- The fault of a symbol that doesn't fit, at each place, by what may occur there.
 use Rattle.std.proofs.Common.{◌≡◌, ◌⊎◌, inl, inr, ℕ, ◌+◌, ◌≤◌, Bool, true, false, ◌&&◌, ◌==◌, nat_lt, List, [], ◌∷◌, ◌++◌, Option, option_map, None, Some, Ok, Err, if◌then◌else◌, codes, refl, ap, sym, subst, ◌∙◌, arith, append_assoc, append-nil}
 use Rattle.std.specs.Str.{bytes_eq}
 use Rattle.std.specs.List.{list_any}
@@ -24,7 +24,7 @@ use Rattle.st_grammar.proofs.Policies.{any-binaries}
 use Rattle.st_grammar.proofs.Kept.{clause-actions, clause-operands, line-keeps}
 use Rattle.st_grammar.proofs.Sound.{line-is_sound}
 
--- what comes of a symbol that doesn't fit: the plain fault, something special, or that no argument has the label
+-- how a symbol fails to fit: by the plain fault, by a special one, or because no argument has the label
 pub data Outcome (text : List ℕ) (env : Env) (old : List BinaryPolicy) (before : List Token) (p : Place) (w : GrammarState) (at : ℕ) (s : Symbol) : PolicyFault → Type 0 where
   IsPlain : MayEnd p w → Outcome text env old before p w at s (Expected at)
   IsTold : (fault : PolicyFault) → MayEnd p w → IsSpecial text env old before at s fault → Outcome text env old before p w at s fault
@@ -38,7 +38,7 @@ pub outcome-of : {text : List ℕ} {env : Env} {old : List BinaryPolicy} {before
 outcome-of fault (Fits v) e = absurd (cc)
 outcome-of {text} {env} {old} {before} {p} {w} {at} {s} fault (Fails found o) e = let same : found ≡ fault = cc in subst (Outcome text env old before p w at s) same o
 
--- what is asked of an index with which no argument has the label
+-- what is required of an index that no argument has with this label
 abbrev pub IndexAsked : List ℕ → Env → List BinaryPolicy → List Token → GrammarState → ℕ → Place → Type 0
 IndexAsked text env old before w at place.Index = (word : List ℕ) (index : ℕ) → index_in word ≡ Some index → IsSpecial text env old before at (Word word) (UnknownArgument w.label_at)
 IndexAsked text env old before w at p = Unit {0}
@@ -68,7 +68,7 @@ module _ (text : List ℕ) (env : Env) (old : List BinaryPolicy) (before behind 
   abbrev At : Place → Symbol → StepResult → Type 0
   At p s x = Judged text env old before p w at s x
 
-  -- ---- at every place that may be ended
+  -- ---- at every place from which a row can be completed
 
   module _ (p : Place) (m : MayEnd p w) (s : Symbol) where
     plain : At p s (expected at)
@@ -239,7 +239,7 @@ module _ (text : List ℕ) (env : Env) (old : List BinaryPolicy) (before behind 
   judged-user log u Colon = Fits (record u { place = place.Group log })
   judged-user log u s = judged-tail (place.User log) tt false log (λ e. absurd (cc)) u s
 
-  -- ---- what may stand, by the facts
+  -- ---- what may occur, by the facts
 
   action-taken : Facts env old rows front place.Action w set → TakesAction env old (symbols_at text before)
   action-taken h =

@@ -1,4 +1,4 @@
--- A text has one first fault at most: the definition tells it from all others.
+-- A text has at most one first fault.
 use Rattle.std.proofs.Common.{◌≡◌, inl, inr, ℕ, ◌≤◌, List, [], ◌∷◌, ◌++◌, length, Option, None, Some, Ok, Err, refl, ap, sym, subst, ◌∙◌, append_assoc}
 use Rattle.std.proofs.lemmas.List.{map-append}
 use Rattle.st_grammar.proofs.Common.{BinaryPolicy, filters_in, lexed_text, LexFault, Line, MOST_FILTERS, read_step, Reading, Symbol, symbol_of, Token}
@@ -33,13 +33,13 @@ cuts (x ∷ xs) behind (y ∷ ys) rest e =
     let first : x ≡ y = cc in
     cuts-more x y xs behind ys rest first (cuts xs behind ys rest others)
 
--- ---- what goes on
+-- ---- what may follow
 
 goes-shorter : (env : Env) (old : List BinaryPolicy) (xs ys : List Symbol) → GoesOn env old (xs ++ ys) → GoesOn env old xs
 goes-shorter env old xs ys g = record { other = g.other; more = ys ++ g.more; set = g.set; parts = g.parts ∙ append_assoc xs ys g.more; reads = g.reads }
 
 module _ (text : List ℕ) (env : Env) (old : List BinaryPolicy) where
-  -- where a text goes on with more tokens it does with the first of them
+  -- if more tokens may follow, the first of them may follow
   goes-first : (xs behind ys rest : List Token) (t : Token) (more : List Token) → ys ≡ xs ++ t ∷ more → behind ≡ t ∷ (more ++ rest) → GoesOn env old (symbols_at text ys) → GoesOn env old (symbols_at text xs ++ symbol_here text behind ∷ [])
   goes-first xs behind ys rest t more p q g =
       let front : List Symbol = symbols_at text xs in
@@ -52,7 +52,7 @@ module _ (text : List ℕ) (env : Env) (old : List BinaryPolicy) where
   end-goes before parts None r q at e ending = text-goes_on text env old before [] parts (Line ∷ []) a-line ending
   end-goes before parts (Some broken) r q at e ending = absurd (subst IsFault e (broken-step env r.walk.place r.walk r.set at))
 
-  -- with a symbol behind which a row can be ended the text goes on
+  -- a text that is read begins with the tokens before and a symbol after which a row can be completed
   fits-on : (before behind : List Token) → (lexed_text text).tokens ≡ before ++ behind → (r q : Reading) → Stands env old (symbols_at text before) r → read_step env r (place_here text behind) (symbol_here text behind) ≡ Ok q → MayEnd q.walk.place q.walk → GoesOn env old (symbols_at text before ++ symbol_here text behind ∷ [])
   fits-on before [] parts r q h e m =
       let s : Symbol = symbol_here text [] in
@@ -65,7 +65,7 @@ module _ (text : List ℕ) (env : Env) (old : List BinaryPolicy) where
       let cut : (lexed_text text).tokens ≡ (before ++ t ∷ []) ++ ts = parts ∙ sym (append_assoc before (t ∷ []) ts) in
       subst (GoesOn env old) same (goes-here text env old (before ++ t ∷ []) ts cut k.rows k.front (same ∙ k.parts) (ends-place env old k.rows k.front q.walk.place q.walk q.set m k.facts))
 
-  -- ---- what is told
+  -- ---- the reported fault
 
   told-by : (at : ℕ) (a b : PolicyFault) (x : Read) → ((q : Reading) → x ≡ Ok q → MayEnd q.walk.place q.walk → ⊥) → Only at a x → Only at b x → a ≡ b
   told-by at a b (Err found) stops h k = sym h ∙ k
@@ -97,6 +97,6 @@ module _ (text : List ℕ) (env : Env) (old : List BinaryPolicy) where
   once-by few a b f g (Longer t more p q) = absurd (f.stops (goes-first f.before f.behind g.before g.behind t more p q g.goes_on))
   once-by few a b f g (Shorter t more p q) = absurd (g.stops (goes-first g.before g.behind f.before f.behind t more p q f.goes_on))
 
-  -- a text has one first fault at most
+  -- a text has at most one first fault
   pub first-once : filters_in old ≤ MOST_FILTERS → (a b : PolicyFault) → IsFirstFault text env old a → IsFirstFault text env old b → a ≡ b
   first-once few a b f g = once-by few a b f g (cuts f.before f.behind g.before g.behind (sym f.parts ∙ g.parts))

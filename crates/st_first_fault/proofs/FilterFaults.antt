@@ -1,4 +1,4 @@
--- The first fault of a filter alone is that of a policy in which the filter stands below a header, but behind a filter's row.
+-- The first fault of a filter alone is that of a policy in which the filter follows a header, unless the fault is after a filter's row.
 use Rattle.std.proofs.Common.{◌≡◌, ℕ, ◌+◌, ◌≢◌, Bool, true, false, List, [], ◌∷◌, ◌++◌, length, map, codes, Option, None, Some, Ok, Err, if◌then◌else◌, refl, ap, sym, subst, ◌∙◌, arith, append_assoc, append-nil, length-append}
 use Rattle.std.specs.Str.{bytes_eq}
 use Rattle.st_grammar.proofs.Common.{add_filter, AreRows, as_reading, binaries, BinaryPolicy, Broken, Colon, Comma, fault_after, fault_in, fault_of, filter_in, filter_name, filter_of, FilterName, FilterResult, FilterValue, first_reading, fresh, GrammarState, Header, is_binary_place, is_line, IsFilter, Lexed, lexed_text, LexFault, lexical, Line, next, NoRow, optional_fault_after, or_refused, read_from, read_step, Reading, reading_step, step_name, step_to, StepResult, Symbol, symbol_of, Token, unless_lexical, Word}
@@ -31,9 +31,9 @@ no-policy word name e p =
     let none : filter_name (codes "Policy") ≡ Some name = ap filter_name (sym p) ∙ e in
     cc
 
--- ---- what is found
+-- ---- the fault that is found
 
--- tokens of a text below so many bytes
+-- tokens of a text that follows this many bytes
 abbrev placed_below : ℕ → List ℕ → List Token → List Placed
 placed_below n text ts = map (λ (t : Token). record { at = n + t.at; symbol = symbol_of text t }) ts
 
@@ -41,12 +41,12 @@ symbols-below : (n : ℕ) (text : List ℕ) (row : List Token) (line : Token) �
 symbols-below n text [] line e = ap (λ (s : Symbol). s ∷ []) e
 symbols-below n text (t ∷ ts) line e = ap (λ (ss : List Symbol). symbol_of text t ∷ ss) (symbols-below n text ts line e)
 
--- below the header the reading stops with the fault that is moved, and no line that it reads has ended before
+-- after the header the reading stops with the moved fault, and no line that it reads has ended before
 record StopsBelow (env : Env) (text big : List ℕ) (n lines : ℕ) (r : Reading) (ts : List Token) (fault : PolicyFault) : Type 0 where
   stops : fault_of (read_from env big (optional_fault_after n (lexed_text text).fault) r (moved_tokens n lines ts)) ≡ Some (moved n fault)
   none : (row : List Token) (line : Token) (behind : List Token) (q : Reading) → ts ≡ row ++ line ∷ behind → symbol_of text line ≡ Line → read_over env r (placed_below n text (row ++ line ∷ [])) ≡ Ok q → ⊥
 
--- a filter's row has ended, and the fault is behind it
+-- a filter's row has ended, and the fault is after it
 record StopsBehind (env : Env) (text : List ℕ) (front : List Symbol) (ts : List Token) (fault : PolicyFault) : Type 0 where
   row : List Token
   line : Token
@@ -59,7 +59,7 @@ record StopsBehind (env : Env) (text : List ℕ) (front : List Symbol) (ts : Lis
   more : IsMore (lexed_text text).fault behind
   told : fault ≡ plain_fault text behind
 
--- what a refused filter comes to, behind the symbols of its row so far
+-- the kinds of fault of a refused filter, after the symbols of its row so far
 data IsFound (env : Env) (text big : List ℕ) (n lines : ℕ) (r : Reading) (front : List Symbol) (ts : List Token) (fault : PolicyFault) : Type 0 where
   Below : StopsBelow env text big n lines r ts fault → IsFound env text big n lines r front ts fault
   Early : StopsBehind env text front ts fault → IsFound env text big n lines r front ts fault
@@ -77,11 +77,11 @@ behind-told text f fault (Some broken) [] b e = let same : Lex broken ≡ fault 
 behind-told text f fault None (t ∷ ts) b e = (tt, cc)
 behind-told text f fault (Some broken) (t ∷ ts) b e = (tt, cc)
 
--- a text that is refused
+-- a reading that is refused with this fault
 abbrev refusal : PolicyFault → Read
 refusal fault = Err fault
 
--- what a token of a filter leads to, by what it comes to in the grammar
+-- the result for a filter after one of its tokens, by the token's result in the grammar
 abbrev followed : (GrammarState → FilterResult) → (GrammarState → FilterResult) → Bool → StepResult → FilterResult
 followed ended goes_on line (Ok w) = if line then ended w else goes_on w
 followed ended goes_on line (Err fault) = Err fault
@@ -168,10 +168,10 @@ module _ (env : Env) (text big : List ℕ) (n lines : ℕ) (long : length big �
       ap (λ (m : ℕ). fault_of (or_refused r (unless_lexical (fault_after n broken) (read_step env r m Broken)))) long
       ∙ ap (λ (x : Read). fault_of (or_refused r x)) (broken-end r broken fault (next env [] w (length text) Broken) (next env (binaries r.set) r.walk (n + length text) Broken) (next-moved n (length text) env (binaries r.set) w r.walk Broken elsewhere same) refl e)
 
-  -- ---- all tokens behind a filter's name
+  -- ---- all tokens after a filter's name
 
   module _ (rows : List Symbol) where
-    -- what is found behind a token, by what is found behind the next one
+    -- the fault that is found after a token, given the faults that are found after the next one
     abbrev Later : List Token → Type 0
     Later ts = (front : List Symbol) (w : GrammarState) (r : Reading) (fault : PolicyFault) → IsNamed front → SameWalk n w r.walk → Facts env [] rows front r.walk.place r.walk r.set → filter_from env text (lexed_text text).fault w ts ≡ Err fault → Finds r front ts fault
 
@@ -237,14 +237,14 @@ header_rows = Word (codes "Policy") ∷ Colon ∷ Word (codes "/a") ∷ Comma �
 abbrev pub policy_above : List BinaryPolicy
 policy_above = fresh_policy (codes "/a") ∷ []
 
--- how far a text is read behind the header
+-- the reading of a text up to the end of the header
 abbrev below_reading : Reading
 below_reading = as_reading (fresh place.Row 0 (name.Other [])) policy_above
 
 pub header-rows : (env : Env) → AreRows env header_rows policy_above
 header-rows env = Header [] header_row [] (codes "/a") NoRow (record { spelled = Word (codes "/a"); parts = refl; binary_is = refl })
 
--- behind the header a row may begin
+-- after the header a row may begin
 header-facts : (env : Env) → Facts env [] header_rows [] place.Row below_reading.walk policy_above
 header-facts env = record {
   front_is = refl;
@@ -264,7 +264,7 @@ header-read env text broken ts = refl
 
 -- ---- a filter's name
 
--- what the tokens behind a filter's name lead to, by what that came to
+-- the result for the tokens after a filter's name, by the name's result
 abbrev begun_with : Env → List ℕ → Option LexFault → List Token → StepResult → FilterResult
 begun_with env text broken ts (Ok w) = filter_from env text broken w ts
 begun_with env text broken ts (Err fault) = Err fault
@@ -294,7 +294,7 @@ module _ (env : Env) (text big : List ℕ) (n lines : ℕ) (long : length big �
 
 -- ---- all texts
 
--- a filter's row that ends early is read below the header
+-- a filter's row that ends early is read after the header
 row-read : (env : Env) (text : List ℕ) (e : EndsEarly text env) → Leads env below_reading (placed_below 30 text (e.row ++ e.line ∷ [])) (At place.Row (add_filter policy_above e.filter) (HasFilters 1))
 row-read env text e =
     (passes-filter env policy_above 0 (symbols_at text e.row) e.filter e.is_filter (omega arith)).pass (placed_below 30 text (e.row ++ e.line ∷ [])) (symbols-below 30 text e.row e.line e.ends) below_reading

@@ -1,4 +1,4 @@
--- A text that should be one filter has one first fault at most.
+-- A text that should be one filter has at most one first fault.
 use Rattle.std.proofs.Common.{◌≡◌, ◌≢◌, ℕ, List, [], ◌∷◌, ◌++◌, length, codes, refl, ap, sym, ◌∙◌, arith}
 use Rattle.st_grammar.proofs.Common.{FilterValue, IsFilter, lexed_text, Line, symbol_of, Token, Word}
 use Rattle.st_grammar.specs.declared.env.Env.{Env}
@@ -10,7 +10,7 @@ use Rattle.st_first_fault.proofs.FaultsOnce.{first-once}
 use Rattle.st_first_fault.proofs.FilterFaults.{no-policy}
 use Rattle.st_first_fault.proofs.MovedFaults.{moved-once}
 
--- a text begins with one Word at most
+-- a text begins with at most one Word
 first-same : (text v w : List ℕ) (a : BeginsWith text v) (b : BeginsWith text w) → a.first ≡ b.first
 first-same text v w a b = let same : a.first ∷ a.others ≡ b.first ∷ b.others = sym a.parts ∙ b.parts in cc
 
@@ -33,7 +33,7 @@ row-begins text env (t ∷ ts) line behind f parts is =
 early-begins : (text : List ℕ) (env : Env) → EndsEarly text env → BeginsName text
 early-begins text env e = row-begins text env e.row e.line e.behind e.filter e.parts e.is_filter
 
--- the first line's end is one place
+-- the end of the first line is unique
 line-once : (text : List ℕ) (xs ys : List Token) (l m : Token) (b c : List Token) → xs ++ l ∷ b ≡ ys ++ m ∷ c → AreInLine (symbols_at text xs) → AreInLine (symbols_at text ys) → symbol_of text l ≡ Line → symbol_of text m ≡ Line → b ≡ c
 line-once text [] [] l m b c e p q f g = cc
 line-once text [] (y ∷ ys) l m b c e p q f g = let same : l ≡ y = cc in absurd (q.0 (ap (symbol_of text) (sym same) ∙ f))
@@ -50,7 +50,7 @@ module _ (text : List ℕ) (env : Env) where
   no-header : BeginsWith text (codes "Policy") → EndsEarly text env → ⊥
   no-header h e = let b : BeginsName text = early-begins text env e in b.other (word-same text b.word (codes "Policy") b.begins h)
 
-  -- a text that should be one filter has one first fault at most
+  -- a text that should be one filter has at most one first fault
   pub filter-once : (a b : PolicyFault) → IsFirstFilterFault text env a → IsFirstFilterFault text env b → a ≡ b
   filter-once _ _ (NoName p) (NoName q) = refl
   filter-once _ _ (NoName p) (Headed h) = absurd (p (codes "Policy") h)

@@ -74,7 +74,7 @@ in-filter env row f is =
       ),
     )
 
--- ---- below the header
+-- ---- after the header
 
 symbols-moved : (above text : List ℕ) (ts : List Token) → map (symbol_of (above ++ text)) (moved_tokens (length above) 1 ts) ≡ map (symbol_of text) ts
 symbols-moved above text [] = refl
@@ -91,7 +91,7 @@ symbols-below_header text =
     ∙ header-symbols text (moved_tokens 30 1 (lexed_text text).tokens)
     ∙ ap (λ (ss : List Symbol). header_rows ++ ss) (symbols-moved header text (lexed_text text).tokens)
 
--- the policy of the header with this filter alone
+-- the policy of the header with only this filter
 abbrev with_one : FilterValue → List BinaryPolicy
 with_one f = with_filter (fresh_policy (codes "/a")) f ∷ []
 
@@ -106,7 +106,7 @@ rows-below : (env : Env) (f : FilterValue) (row ss : List Symbol) → IsOneRow r
 rows-below env f row _ ToTheEnd is = FilterRow header_rows row [] (fresh_policy (codes "/a")) f (header-rows env) is
 rows-below env f row _ ToALine is = Blank (header_rows ++ row ++ Line ∷ []) (with_one f) (FilterRow header_rows row [] (fresh_policy (codes "/a")) f (header-rows env) is)
 
--- below the header the filter is the one of its policy
+-- after the header the filter is the only one of its policy
 reads-below : (text : List ℕ) (env : Env) (f : FilterValue) → ReadsFilter text env f → Reads (header ++ text) env [] (with_one f)
 reads-below text env f h = record {
   whole = ap (λ (l : Lexed). l.fault) (below-header text) ∙ ap (optional_fault_after 30) h.whole;
@@ -137,7 +137,7 @@ no-first text env old set fault h is =
     let g = goes-whole text is.before is.behind h.whole is.parts in
     is.stops (record { other = text; more = g.0; set = set; parts = g.1; reads = h })
 
--- ---- a filter has none
+-- ---- a filter has no first fault
 
 row-first : (row ss us : List Symbol) (word : List ℕ) → IsOneRow row ss → row ≡ Word word ∷ us → (more : List Symbol) × (ss ≡ Word word ∷ more)
 row-first row _ us word ToTheEnd e = (us, e)
@@ -196,6 +196,6 @@ module _ (text : List ℕ) (env : Env) (f : FilterValue) (h : ReadsFilter text e
   by-result sound (Ok g) e = e ∙ ap Ok (one-filter g (sound g e))
   by-result sound (Err fault) e = absurd (faultless-filter fault (first-filter-fault text env fault e))
 
--- what the grammar says is a filter is read as that filter
+-- a text that is a filter by the grammar is read as that filter
 pub filter-complete : ((text : List ℕ) (env : Env) (g : FilterValue) → filter_in text env ≡ Ok g → ReadsFilter text env g) → (text : List ℕ) (env : Env) (f : FilterValue) → ReadsFilter text env f → filter_in text env ≡ Ok f
 filter-complete sound text env f h = by-result text env f h (sound text env) (filter_in text env) refl

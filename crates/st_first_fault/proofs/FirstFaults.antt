@@ -1,4 +1,4 @@
--- The first fault of a text is the one that is told of the first token that doesn't fit.
+-- The first fault of a text is the fault reported of the first token that doesn't fit.
 use Rattle.std.proofs.Common.{◌≡◌, inl, inr, ℕ, ◌≤◌, false, List, [], ◌∷◌, ◌++◌, length, Option, None, Some, Ok, Err, refl, ap, sym, subst, ◌∙◌, append_assoc, append-nil}
 use Rattle.std.proofs.lemmas.List.{map-append}
 use Rattle.st_grammar.proofs.Common.{binaries, BinaryPolicy, fault_in, filters_in, first_reading, lexed_text, LexFault, lexical, may_test_label, MOST_FILTERS, next, read_step, Reading, reading_step, StepResult, Symbol, symbol_of, Token, Word}
@@ -18,9 +18,9 @@ use Rattle.st_grammar.proofs.Sound.{Stands}
 use Rattle.st_first_fault.proofs.SpecialFaults.{Only, special-only}
 use Rattle.st_first_fault.proofs.WaysOn.{Accepted, accepted, accepted-at, anywhere, end_fault, told_fault, StopsIn, fault-stops, stands-behind}
 
--- ---- what is told at the end of a text
+-- ---- the fault at the end of a text
 
--- every fault but that something was not expected
+-- every fault but `Expected`
 abbrev pub IsOther : PolicyFault → Type 0
 IsOther (Expected at) = ⊥
 IsOther fault = Unit {0}
@@ -68,14 +68,14 @@ failed env r s (Err fault) found e = cc
 -- ---- the parts of the theorem
 
 module _ (text : List ℕ) (env : Env) (old : List BinaryPolicy) (few : filters_in old ≤ MOST_FILTERS) where
-  -- with a symbol at which the reading stops no text goes on
+  -- no text that is read begins with the tokens before and a symbol at which the reading stops
   stops-here : (before : List Token) (r : Reading) → read_over env (first_reading old) (placed text before) ≡ Ok r → (at : ℕ) (s : Symbol) (found : PolicyFault) → read_step env r at s ≡ Err found → GoesOn env old (symbols_at text before ++ s ∷ []) → ⊥
   stops-here before r read at s found e g =
       let a : Accepted env old r (at ∷ []) (s ∷ []) = accepted-at text env old before r read (at ∷ []) (s ∷ []) g in
       let two : Err found ≡ Ok a.reading = ap (reading_followed (λ r. Ok r)) (sym e) ∙ a.over in
       absurd (cc)
 
-  -- with a label which no argument has none goes on
+  -- no text that is read begins with a label that no argument has
   stops-label : (before : List Token) (r : Reading) → read_over env (first_reading old) (placed text before) ≡ Ok r → r.walk.place ≡ place.Label → may_test_label r.walk.name r.walk.label ≡ false → (l : LabelAt text env old before r) → GoesOn env old (symbols_at text l.front ++ symbol_of text l.label ∷ []) → ⊥
   stops-label before r read e none l g =
       let cut : symbols_at text l.front ++ symbol_of text l.label ∷ [] ≡ symbols_at text before ++ [] = sym (append-nil (symbols_at text before) ∙ ap (symbols_at text) l.parts ∙ map-append (symbol_of text) l.front (l.label ∷ [])) in
@@ -84,13 +84,13 @@ module _ (text : List ℕ) (env : Env) (old : List BinaryPolicy) (few : filters_
       let over : read_over env r (anywhere a.more) ≡ Ok a.last = ap (λ (q : Reading). read_over env q (anywhere a.more)) same ∙ a.over_more in
       label-ends env r.walk r.set none a.policies old a.more a.last a.at_rows (subst (λ (p : Place). read_over env (reading_at p r.walk r.set) (anywhere a.more) ≡ Ok a.last) e over)
 
-  -- an operand may stand where the label stands
+  -- an operand may occur at the place of the label
   label-takes : (before behind : List Token) (r : Reading) → (lexed_text text).tokens ≡ before ++ behind → (l : LabelAt text env old before r) → IsLabelAt text env old l.front l.label
   label-takes before behind r parts l =
       let cut : (lexed_text text).tokens ≡ l.front ++ (l.label ∷ behind) = parts ∙ ap (λ (ts : List Token). ts ++ behind) l.parts ∙ append_assoc l.front (l.label ∷ []) behind in
       record { word = r.walk.label; symbol_is = l.symbol_is; labels = l.labels; takes = operand-taken text env old l.front (l.label ∷ behind) cut l.rows l.us l.front_is r.walk r.set l.facts }
 
-  -- a label which no argument has is the first token that doesn't fit
+  -- a label that no argument has is the first token that doesn't fit
   first-label : (before behind : List Token) (r : Reading) → (lexed_text text).tokens ≡ before ++ behind → read_over env (first_reading old) (placed text before) ≡ Ok r → r.walk.place ≡ place.Label → may_test_label r.walk.name r.walk.label ≡ false → (l : LabelAt text env old before r) → IsFirstFault text env old (UnknownArgument l.label.at)
   first-label before behind r parts read e none l =
       let t : IsLabelAt text env old l.front l.label = label-takes before behind r parts l in
@@ -116,14 +116,14 @@ module _ (text : List ℕ) (env : Env) (old : List BinaryPolicy) (few : filters_
   asked before behind at r parts read place.Index e = index-asked before behind at r parts (bracket-at text env old few before r read e)
   asked before behind at r parts read p e = tt
 
-  -- of what was not expected nothing special is told
+  -- no special fault applies to a symbol that was not expected
   not-plain : (before behind : List Token) (r : Reading) → read_over env (first_reading old) (placed text before) ≡ Ok r → read_step env r (place_here text behind) (symbol_here text behind) ≡ Err (Expected (place_here text behind)) →
       (fault : PolicyFault) → IsSpecial text env old before (place_here text behind) (symbol_here text behind) fault → ⊥
   not-plain before behind r read stops fault s =
       let same : Expected (place_here text behind) ≡ fault = subst (Only (place_here text behind) fault) stops (special-only text env old before r read (place_here text behind) (symbol_here text behind) fault s) in
       subst IsOther (sym same) (is-other s)
 
-  -- where the reading stops, by what is told of it
+  -- the first fault where the reading stops, by its kind
   first-by : (before behind : List Token) (r : Reading) (found fault : PolicyFault) → (lexed_text text).tokens ≡ before ++ behind → read_over env (first_reading old) (placed text before) ≡ Ok r → (h : Stands env old (symbols_at text before) r) →
       read_step env r (place_here text behind) (symbol_here text behind) ≡ Err found → fault ≡ told_fault text behind found → Outcome text env old before r.walk.place r.walk (place_here text behind) (symbol_here text behind) found → IsFirstFault text env old fault
   first-by before behind r found fault parts read h stops told (IsPlain m) = record {

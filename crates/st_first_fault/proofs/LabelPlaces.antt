@@ -1,4 +1,4 @@
--- Where the label that was read last stands.
+-- The offset of the label that was read last.
 use Rattle.std.proofs.Common.{◌≡◌, ℕ, ◌+◌, Bool, true, false, ◌&&◌, ◌==◌, nat_lt, codes, List, [], ◌∷◌, ◌++◌, Option, None, Some, option_map, Ok, Err, if◌then◌else◌, refl, ap, sym, subst, ◌∙◌}
 use Rattle.std.specs.Str.{bytes_eq}
 use Rattle.std.specs.List.{list_any}
@@ -20,7 +20,7 @@ use Rattle.st_first_fault.proofs.WaysOn.{over-parts}
 
 -- ---- steps to a label
 
--- a label stands where its symbol is read, and its bracket follows it
+-- a label is at the offset where its symbol is read, and its bracket follows it
 abbrev pub Labelled : GrammarState → ℕ → GrammarState → Place → Type 0
 Labelled w at v place.Label = v.label_at ≡ at
 Labelled w at v place.Index = (w.place ≡ place.Label) × (v.label_at ≡ w.label_at) × (v.label ≡ w.label) × (v.name ≡ w.name)
@@ -203,7 +203,7 @@ last-of : (ts : List Token) → LastOf ts
 last-of [] = NoLast refl
 last-of (t ∷ ts) = last-more t ts (last-of ts)
 
--- the end of a filter's row leaves no label
+-- the end of a filter's row leaves no current label
 labelled-behind : (env : Env) (w : GrammarState) (at : ℕ) (p : Place) (s : Symbol) (set : List BinaryPolicy) (v : GrammarState) → Labelled w at v v.place → Labelled w at (reading_behind env p s set v).walk (reading_behind env p s set v).walk.place
 labelled-behind env w at place.Binary s set v h = h
 labelled-behind env w at p s set v h = by (ends_filter p && is_line s) where

@@ -1,4 +1,4 @@
--- What stands before a label that was read, and that a label which no argument has leads nowhere.
+-- The tokens before a label that was read, and that no text is read after a label which no argument has.
 use Rattle.std.proofs.Common.{◌≡◌, ℕ, ◌≤◌, Bool, true, false, ◌&&◌, nat_eq, List, [], ◌∷◌, ◌++◌, Ok, refl, ap, sym, subst, ◌∙◌, append_assoc}
 use Rattle.std.specs.Str.{bytes_eq}
 use Rattle.std.specs.List.{list_any}
@@ -37,7 +37,7 @@ same-last (a ∷ xs) (b ∷ ys) x y e =
 
 -- ---- a label, and a label with its bracket
 
--- the label that is read is the last token, and an operand may stand where it stands
+-- the current label is the last token, and an operand may occur at its place
 pub record LabelAt (text : List ℕ) (env : Env) (old : List BinaryPolicy) (before : List Token) (r : Reading) : Type 0 where
   pub front : List Token
   pub label : Token
@@ -50,7 +50,7 @@ pub record LabelAt (text : List ℕ) (env : Env) (old : List BinaryPolicy) (befo
   pub front_is : symbols_at text front ≡ rows ++ us
   pub facts : Facts env old rows us place.Operand r.walk r.set
 
--- the same with a bracket behind it
+-- the same with a bracket after the label
 pub record BracketAt (text : List ℕ) (env : Env) (old : List BinaryPolicy) (before : List Token) (r : Reading) : Type 0 where
   pub front : List Token
   pub bracket : Token
@@ -123,7 +123,7 @@ none-both word index (spec ∷ specs) e =
     let o = or_parts (bytes_eq (name_of_label spec.label) word) (list_any (λ spec. bytes_eq (name_of_label spec.label) word) specs) e in
     or_from (bytes_eq (name_of_label spec.label) word && nat_eq spec.index index) _ (ap (λ (b : Bool). b && nat_eq spec.index index) o.0) (none-both word index specs o.1)
 
--- no argument has the label, with no index
+-- no argument has the label, whatever the index
 pub label-none : (n : FilterName) (label : List ℕ) (index : ℕ) → may_test_label n label ≡ false → may_test n label index ≡ false
 label-none (name.Rule rule) label index e = none-both label index (args_of rule) e
 label-none (name.Other word) label index e = absurd (cc)
@@ -145,7 +145,7 @@ module _ (env : Env) (w : GrammarState) (set : List BinaryPolicy) (none : may_te
   index-ends [] q other e = let same : reading_at place.Index w set ≡ q = cc in other (sym (ap (λ (q : Reading). q.walk.place) same))
   index-ends (s ∷ more) q other e = unless ⊥ _ q e (fault-follows (λ r. read_over env r (anywhere more)) _ (index-fails s 0))
 
-  -- no symbols behind such a label lead to the end of a row
+  -- no symbols after such a label lead to the end of a row
   pub label-ends : (ps old : List BinaryPolicy) (more : List Symbol) (q : Reading) → AtRows old ps q → read_over env (reading_at place.Label w set) (anywhere more) ≡ Ok q → ⊥
   label-ends ps old [] q rows e = let same : reading_at place.Label w set ≡ q = cc in (not-rows old ps q rows).0 (sym (ap (λ (q : Reading). q.walk.place) same))
   label-ends ps old (OpenBracket ∷ more) q rows e = index-ends more q (not-rows old ps q rows).1 e

@@ -1,4 +1,4 @@
--- What may stand at a place of the grammar.
+-- What may occur at a place of the grammar.
 use Rattle.std.proofs.Common.{◌≡◌, ℕ, zero, suc, true, List, [], ◌∷◌, ◌++◌, codes, refl, ap, sym, subst, ◌∙◌, arith, append_assoc, append-nil}
 use Rattle.st_grammar.proofs.Common.{BinaryPolicy, Close, completed, concluded, True, GrammarState, lexed_text, Line, OpenBracket, Quoted, Reading, Symbol, symbol_of, Token, Word}
 use Rattle.st_grammar.specs.declared.env.Env.{Env}
@@ -22,7 +22,7 @@ pub record TokenCut (text : List ℕ) (tokens : List Token) (ts us : List Symbol
   pub front_is : symbols_at text front ≡ ts
   pub back_is : symbols_at text back ≡ us
 
--- where the symbols have two parts the tokens do
+-- if the symbols have two parts, the tokens have two parts too
 pub token-cut : (text : List ℕ) (ts us : List Symbol) (tokens : List Token) → symbols_at text tokens ≡ ts ++ us → TokenCut text tokens ts us
 token-cut text [] us tokens e = record { front = []; back = tokens; parts = refl; front_is = refl; back_is = e }
 token-cut text (t ∷ ts) us [] e = absurd (cc)
@@ -32,7 +32,7 @@ token-cut text (t ∷ ts) us (x ∷ xs) e =
     let c : TokenCut text xs ts us = token-cut text ts us xs same in
     record { front = x ∷ c.front; back = c.back; parts = ap (λ (ys : List Token). x ∷ ys) c.parts; front_is = ap (λ (ys : List Symbol). symbol_of text x ∷ ys) c.front_is ∙ ap (λ (s : Symbol). s ∷ ts) first; back_is = c.back_is }
 
--- ---- what may stand behind tokens
+-- ---- what may follow tokens
 
 module _ (text : List ℕ) (env : Env) (old : List BinaryPolicy) (before behind : List Token) (parts : (lexed_text text).tokens ≡ before ++ behind) (rows front : List Symbol) (is : symbols_at text before ≡ rows ++ front) where
   goes : (xs : List Symbol) → Printed xs → Ending env old (rows ++ (front ++ xs)) → GoesOn env old (symbols_at text before ++ xs)
@@ -50,20 +50,20 @@ module _ (text : List ℕ) (env : Env) (old : List BinaryPolicy) (before behind 
       let s : Symbol = Word (codes "0") in
       goes-two s Line (a-word (codes "0") refl) a-line (subst (Ending env old) (append_assoc rows (front ++ s ∷ []) (Line ∷ [])) (line-ends env old ((rows ++ (front ++ s ∷ [])) ++ Line ∷ []) r h))
 
-  -- the text of a test, behind its operator
+  -- the text of a test, after its operator
   pub operator-text : (w : GrammarState) (set : List BinaryPolicy) → Facts env old rows (front ++ Word (codes "eq") ∷ []) place.Text w set → TakesOperator env old (symbols_at text before)
   operator-text w set h =
       let s : Symbol = Word (codes "eq") in
       let t : Symbol = Quoted (codes "\"\"") in
       goes-two s t (a-word (codes "eq") refl) a-quoted (ends-joint env old rows w.parens ((front ++ s ∷ []) ++ t ∷ []) (led env w set t place.Text) set refl (line-keeps env old rows (front ++ s ∷ []) w set 0 place.Text t refl h))
 
-  -- the bracket behind `deny`
+  -- the bracket after `deny`
   pub denial-bracket : (w : GrammarState) (set : List BinaryPolicy) → Facts env old rows (front ++ Word (codes "deny") ∷ []) place.Denial w set → TakesAction env old (symbols_at text before)
   denial-bracket w set h =
       let s : Symbol = Word (codes "deny") in
       goes-two s OpenBracket (a-word (codes "deny") refl) an-open_bracket (ends-error env old rows ((front ++ s ∷ []) ++ OpenBracket ∷ []) (led env w set OpenBracket place.Denial) set (line-keeps env old rows (front ++ s ∷ []) w set 0 place.Denial OpenBracket refl h))
 
-  -- behind symbols that end an operand
+  -- what may follow symbols that end an operand
   joint-whole : (ys : List Symbol) → Printed ys → (w : GrammarState) (set : List BinaryPolicy) → w.parens ≡ 0 → Facts env old rows (front ++ ys) place.Joint w set → EndsOperand env old (symbols_at text before ++ ys)
   joint-whole ys p w set e h =
       let s : Symbol = Word (codes "then") in

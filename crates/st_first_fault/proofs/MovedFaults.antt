@@ -1,4 +1,4 @@
--- What a symbol comes to so many bytes further on: the same, and a fault so many bytes further on.
+-- The result of a symbol at a later offset: the same result, with a fault moved as far.
 use Rattle.std.proofs.Common.{◌≡◌, ℕ, ◌+◌, ◌-◌, Bool, true, false, ◌&&◌, ◌==◌, nat_lt, List, [], codes, Option, None, Some, option_map, Ok, Err, if◌then◌else◌, refl, ap, sym, subst, ◌∙◌, arith}
 use Rattle.std.specs.Str.{bytes_eq}
 use Rattle.st_grammar.proofs.Common.{acts, Ask, Close, Colon, Comma, comparison, completed, concluded, Deny, EPERM, error_named, fault_after, filter_name, found, fresh, GrammarState, grants, id_in, is_action, is_binary_place, is_close_bracket, is_colon, is_comma, is_keyword, is_label, is_line, joined, joins_both, joins_either, LexFault, lexical, Line, may_test, may_test_label, MOST_FILTERS, most_joins, names_for, next, only, op_named, Open, OpenBracket, Permit, Quoted, sets_ids, step, step_action, step_as, step_denial, step_error, step_grant, step_id, step_indexed, step_joint, step_label, step_name, step_operand, step_operator, step_row, step_start, step_system, step_tail, step_text, step_to, step_user, StepResult, Symbol, Test, True, unquoted, waits, with_group, without_either, Word, word_index, word_who}
@@ -17,15 +17,15 @@ use Rattle.st_grammar.proofs.Fronts.{by-test}
 use Rattle.st_first_fault.proofs.Completions.{closed}
 use Rattle.st_first_fault.specs.FilterFault.{moved}
 
--- ---- a fault that is moved is known
+-- ---- a moved fault determines the original
 
--- what is no token, so many bytes nearer to the front
+-- the lexical fault, this many bytes earlier
 abbrev lex_before : ℕ → LexFault → LexFault
 lex_before n (BadByte at) = BadByte (at - n)
 lex_before n (OpenQuote at) = OpenQuote (at - n)
 lex_before n (BadEscape at) = BadEscape (at - n)
 
--- the same fault so many bytes nearer to the front
+-- the same fault, this many bytes earlier
 abbrev moved_back : ℕ → PolicyFault → PolicyFault
 moved_back n (Lex fault) = Lex (lex_before n fault)
 moved_back n (Expected at) = Expected (at - n)
@@ -64,34 +64,34 @@ back-there n (AskWithLearn at) = ap (λ (a : ℕ). AskWithLearn a) (there n at)
 back-there n (TooMany at) = ap (λ (a : ℕ). TooMany a) (there n at)
 back-there n NoMemory = refl
 
--- two faults that are moved as far and are one were one
+-- two faults that are equal after they were moved equally far are equal
 pub moved-once : (n : ℕ) (a b : PolicyFault) → moved n a ≡ moved n b → a ≡ b
 moved-once n a b e = sym (back-there n a) ∙ ap (moved_back n) e ∙ back-there n b
 
--- what is no token is so further on
+-- the fault where no token begins, moved
 pub lexical-moved : (n : ℕ) (broken : LexFault) (fault : PolicyFault) → lexical (fault_after n broken) (moved n fault) ≡ moved n (lexical broken fault)
 lexical-moved n broken (Expected at) = refl
 lexical-moved n broken fault = refl
 
 -- ---- steps
 
--- where a label's place can still be told, it is so much further on
+-- if the label's offset can still be reported, it is moved as far
 abbrev pub LabelMoved : ℕ → Place → ℕ → ℕ → Type 0
 LabelMoved n place.Label at to = to ≡ n + at
 LabelMoved n place.Index at to = to ≡ n + at
 LabelMoved n p at to = Unit {0}
 
--- the grammar has come as far, but for the place of the label
+-- the same state of the grammar, except for the offset of the label
 pub record SameWalk (n : ℕ) (w v : GrammarState) : Type 0 where
   pub same : v ≡ record w { label_at = v.label_at }
   pub label : LabelMoved n w.place w.label_at v.label_at
 
--- what a symbol comes to, and what it comes to so much further on
+-- the result of a symbol, and its result at the later offset
 pub data Moved (n : ℕ) : StepResult → StepResult → Type 0 where
   Went : (w v : GrammarState) → SameWalk n w v → Moved n (Ok w) (Ok v)
   Stopped : (fault : PolicyFault) → Moved n (Err fault) (Err (moved n fault))
 
--- a state whose label stands there
+-- a state whose label is at this offset
 abbrev pub labelled : ℕ → GrammarState → GrammarState
 labelled x w = record w { label_at = x }
 
@@ -216,7 +216,7 @@ module _ (n at x : ℕ) where
   user-moved env log w Colon = to w (place.Group log) tt
   user-moved env log w s = tail-moved env false log w s
 
-  -- at every place but at a header's binary, where it matters which ones are known
+  -- at every place but that of a header's binary, where the known binaries matter
   step-moved : (env : Env) (known : List (List ℕ)) (w : GrammarState) (s : Symbol) (p : Place) → is_binary_place p ≡ false → LabelMoved n p w.label_at x → Moved n (step env [] w at s p) (step env known (labelled x w) (n + at) s p)
   step-moved env known w s place.Start e h = start-moved w s
   step-moved env known w s place.Row e h = row-moved w s
@@ -250,7 +250,7 @@ module _ (n at x : ℕ) where
   step-moved env known w s place.HeaderEnd e h = only-moved w (is_line s) place.Row tt
   step-moved env known w s place.FilterEnd e h = only-moved w (is_line s) place.Row tt
 
--- a symbol inside a row comes to the same, whichever binaries are known
+-- a symbol inside a row has the same result, whichever binaries are known
 pub next-moved : (n at : ℕ) (env : Env) (known : List (List ℕ)) (w v : GrammarState) (s : Symbol) → is_binary_place w.place ≡ false → SameWalk n w v → Moved n (next env [] w at s) (next env known v (n + at) s)
 next-moved n at env known w v s e h =
     subst (λ (u : GrammarState). Moved n (next env [] w at s) (next env known u (n + at) s)) (sym h.same) (step-moved n at v.label_at env known w s w.place e h.label)

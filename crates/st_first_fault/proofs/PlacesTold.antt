@@ -1,4 +1,4 @@
--- Places of the grammar, by what may stand there.
+-- Places of the grammar are determined by what may occur there.
 use Rattle.std.proofs.Common.{◌≡◌, Bool, true, false, List, [], ◌∷◌, Some, option_map, Ok, Err, codes, subst}
 use Rattle.st_grammar.proofs.Common.{BinaryPolicy, Close, GrammarState, grants, id_in, Line, may_test, names_for, OpenBracket, Quoted, Reading, Symbol, with_group, Word}
 use Rattle.st_grammar.specs.declared.env.Env.{Env}
@@ -9,7 +9,7 @@ use Rattle.st_grammar.proofs.Readings.{Read, read_over, reading_followed, readin
 use Rattle.st_grammar.proofs.Sound.{IsFault}
 use Rattle.st_first_fault.proofs.WaysOn.{anywhere}
 
--- ---- symbols that may not stand somewhere
+-- ---- symbols that may not occur at some places
 
 pub unless : (P : Type 0) (x : Read) (q : Reading) → x ≡ Ok q → IsFault x → P
 unless P x q e h = absurd (subst IsFault e h)
@@ -18,11 +18,11 @@ pub fault-follows : (f : Reading → Read) (x : Read) → IsFault x → IsFault 
 fault-follows f (Ok r) h = absurd h
 fault-follows f (Err fault) h = tt
 
--- the rest of what is read
+-- the reading after these symbols
 abbrev pub over : Env → List Symbol → Reading → Read
 over env xs = λ r. read_over env r (anywhere xs)
 
--- ---- places, by what may stand there
+-- ---- places, by what may occur there
 
 abbrev pub IsActionPlace : Place → Type 0
 IsActionPlace place.Clause = Unit {0}
@@ -44,7 +44,7 @@ IsIdPlace (place.Group log) = Unit {0}
 IsIdPlace (place.Id who) = Unit {0}
 IsIdPlace p = ⊥
 
--- an operator's place, or behind a label that is tested without an index
+-- the place of an operator, or after a label that may be tested with index 0
 abbrev pub IsOperatorPlace : Place → GrammarState → Type 0
 IsOperatorPlace place.Operator w = Unit {0}
 IsOperatorPlace place.Label w = may_test w.name w.label 0 ≡ true

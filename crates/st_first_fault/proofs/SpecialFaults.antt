@@ -1,4 +1,4 @@
--- Where something special is told of a symbol, nothing else is.
+-- If a special fault applies to a symbol, no other fault does.
 use Rattle.std.proofs.Common.{◌≡◌, ◌⊎◌, inl, inr, ℕ, Bool, true, false, nat_lt, List, [], ◌∷◌, ◌++◌, None, Some, Ok, Err, codes, map, refl, ap, sym, subst, ◌∙◌, append_assoc}
 use Rattle.std.specs.Str.{bytes_eq}
 use Rattle.std.specs.List.{list_any}
@@ -25,7 +25,7 @@ use Rattle.st_first_fault.proofs.WaysOn.{Accepted, accepted, ReadTo, read-to, sp
 
 -- ---- the one fault of a symbol
 
--- a symbol of which this alone is told, if it doesn't fit; where it fits a row can be ended behind it, or it is a label
+-- the symbol has this fault only, if it doesn't fit. If it fits, a row can be completed after it, or it is a label
 abbrev pub Only : ℕ → PolicyFault → Read → Type 0
 Only at fault (Ok q) = MayEnd q.walk.place q.walk ⊎ (fault ≡ UnknownArgument at)
 Only at fault (Err found) = found ≡ fault
@@ -35,7 +35,7 @@ label-no_action word e =
     let o = label-other word e in
     or_from (bytes_eq word (codes "permit")) _ o.no_permit (or_from (bytes_eq word (codes "deny")) (bytes_eq word (codes "ask")) o.no_deny o.no_ask)
 
--- ---- symbols of which something special is told, by their place
+-- ---- symbols with special faults, by their place
 
 module _ (env : Env) (w : GrammarState) (set : List BinaryPolicy) (at : ℕ) where
   abbrev OnlyHere : PolicyFault → Place → Symbol → Type 0
@@ -107,7 +107,7 @@ module _ (env : Env) (w : GrammarState) (set : List BinaryPolicy) (at : ℕ) whe
   joining-only p h s (inl e) = subst (λ (s : Symbol). Only at (TooMany at) (read_step env (reading_at p w set) at s)) (sym e) (and-only p h)
   joining-only p h s (inr e) = subst (λ (s : Symbol). Only at (TooMany at) (read_step env (reading_at p w set) at s)) (sym e) (or-only p h)
 
-  -- a label is read where an operand may stand
+  -- a label is read where an operand may occur
   label-read : (word : List ℕ) → is_label word ≡ true → read_step env (reading_at place.Operand w set) at (Word word) ≡ Ok (reading_at place.Label (record w { label = word; label_at = at; index = 0 }) set)
   label-read word e = let o = label-other word e in rw (e, o.no_not, o.no_true) refl
 
@@ -119,7 +119,7 @@ module _ (env : Env) (w : GrammarState) (set : List BinaryPolicy) (at : ℕ) whe
   label-only : (p : Place) → IsOperandPlace p → (word : List ℕ) → is_label word ≡ true → Only at (UnknownArgument at) (read_step env (reading_at p w set) at (Word word))
   label-only p h word e = subst (Only at (UnknownArgument at)) (sym (operand-of p h (Word word) (label-no_action word e) ∙ label-read word e)) (inr refl)
 
--- ---- where some symbols lead
+-- ---- readings after some symbols
 
 place_in : Read → Place
 place_in (Ok r) = r.walk.place
@@ -171,7 +171,7 @@ module _ (env : Env) (w : GrammarState) (set : List BinaryPolicy) (places : List
       let ends : x ≡ Ok q = sym (ap (reading_followed f) read) ∙ e in
       (leads-to place.Index x q ends refl, sym (ap label_place_in ends))
 
--- what is told at a place, of a reading that stands there
+-- the only fault at a place, of a reading that is at the place
 only-at : (env : Env) (p : Place) (r : Reading) (at : ℕ) (s : Symbol) (fault : PolicyFault) → r.walk.place ≡ p → Only at fault (read_step env (reading_at p r.walk r.set) at s) → Only at fault (read_step env r at s)
 only-at env p r at s fault e h = subst (λ (p : Place). Only at fault (read_step env (reading_at p r.walk r.set) at s)) (sym e) h
 
@@ -221,7 +221,7 @@ module _ (text : List ℕ) (env : Env) (old : List BinaryPolicy) where
   action-at : (before : List Token) (r : Reading) → read_over env (first_reading old) (placed text before) ≡ Ok r → TakesAction env old (symbols_at text before) → IsActionPlace r.walk.place
   action-at before r read g = let a = accepted text env old before r read (Word (codes "deny") ∷ OpenBracket ∷ []) g in action-place env r.walk r.set a.reading r.walk.place a.over
 
-  -- the reading in front of the last symbols
+  -- the reading before the last symbols
   front-read : (before : List Token) (r : Reading) → read_over env (first_reading old) (placed text before) ≡ Ok r → (front xs : List Symbol) → symbols_at text before ≡ front ++ xs → (c : TokenCut text before front xs) × ReadTo text env old c.front (map (λ t. t.at) c.back) xs r
   front-read before r read front xs e =
       let c : TokenCut text before front xs = token-cut text front xs before e in
@@ -244,7 +244,7 @@ module _ (text : List ℕ) (env : Env) (old : List BinaryPolicy) where
       let m : Reading = f.reading in
       index-place env m.walk m.set (label.at ∷ bracket.at ∷ []) r m.walk.place (operand-at front m f.read l.takes) l.word l.labels f.over
 
-  -- of a symbol of which something special is told, nothing else is
+  -- a symbol to which a special fault applies has no other fault
   pub special-only : (before : List Token) (r : Reading) → read_over env (first_reading old) (placed text before) ≡ Ok r → (at : ℕ) (s : Symbol) (fault : PolicyFault) → IsSpecial text env old before at s fault → Only at fault (read_step env r at s)
   special-only before r read at s fault (NoCall ps p word a n) = call-at env (old ++ (ps ++ p ∷ [])) _ at word n r (rows-at before r read ps p a)
   special-only before r read at s fault (ManyFilters ps p word name a n m) = filters-at env (old ++ (ps ++ p ∷ [])) _ at word name n r (rows-at before r read ps p a)

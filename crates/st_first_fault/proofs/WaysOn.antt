@@ -1,4 +1,4 @@
--- Where a text goes on, and where a reading of it stops.
+-- How a text may continue, and where a reading of it stops.
 use Rattle.std.proofs.Common.{◌≡◌, ℕ, ◌≤◌, List, [], ◌∷◌, ◌++◌, length, take, map, Option, None, Some, Ok, Err, refl, ap, sym, subst, ◌∙◌, append_assoc, append-nil}
 use Rattle.std.proofs.lemmas.List.{map-append}
 use Rattle.st_grammar.proofs.Common.{AreRows, BinaryPolicy, Broken, fault_in, fault_of, filters_in, first_reading, lexed_text, LexFault, lexical, Line, MOST_FILTERS, or_refused, Piece, piece_tokens, print, read_end, read_from, read_step, Reading, Space, spelled_tokens, Symbol, symbol_of, symbols_in, Token, unless_lexical}
@@ -16,9 +16,9 @@ use Rattle.st_grammar.proofs.Readings.{Placed, symbols, Read, read_over, reading
 use Rattle.st_grammar.proofs.Sound.{Stands, StandsAfter, stands-step, first-stands}
 use Rattle.st_reread.proofs.Symbols.{spelled_symbol, piece_symbols}
 
--- ---- texts that go on
+-- ---- texts that continue
 
--- where rows can be ended behind tokens of a text and some symbols, a text that is read begins with them
+-- if rows can be completed after tokens of a text and some symbols, a text that is read begins with these
 pub text-goes_on : (text : List ℕ) (env : Env) (old : List BinaryPolicy) (before behind : List Token) → (lexed_text text).tokens ≡ before ++ behind → (xs : List Symbol) → Printed xs → Ending env old (symbols_at text before ++ xs) → GoesOn env old (symbols_at text before ++ xs)
 text-goes_on text env old before behind parts xs p e =
     let pieces : List Piece = p.pieces ++ e.pieces in
@@ -38,9 +38,9 @@ text-goes_on text env old before behind parts xs p e =
       reads = record { whole = is.faultless; policies = e.policies; rows = subst (λ (ts : List Symbol). AreRows env ts e.policies) (sym whole) e.rows; set_is = refl; new = e.new; few = e.few };
     }
 
--- ---- what goes on is read
+-- ---- what may continue is read
 
--- the first of some places
+-- the first of some offsets
 abbrev pub first_place : List ℕ → ℕ
 first_place [] = 0
 first_place (at ∷ places) = at
@@ -49,7 +49,7 @@ abbrev pub other_places : List ℕ → List ℕ
 other_places [] = []
 other_places (at ∷ places) = places
 
--- symbols at these places
+-- symbols at these offsets
 abbrev pub spread : List ℕ → List Symbol → List Placed
 spread places [] = []
 spread places (s ∷ xs) = record { at = first_place places; symbol = s } ∷ spread (other_places places) xs
@@ -58,11 +58,11 @@ symbols-spread : (places : List ℕ) (ts : List Symbol) → symbols (spread plac
 symbols-spread places [] = refl
 symbols-spread places (t ∷ ts) = ap (λ (us : List Symbol). t ∷ us) (symbols-spread (other_places places) ts)
 
--- symbols that stand anywhere
+-- symbols at any offsets
 abbrev pub anywhere : List Symbol → List Placed
 anywhere ts = spread [] ts
 
--- tokens are their symbols at their places
+-- tokens are their symbols at their offsets
 pub placed-spread : (text : List ℕ) (ts : List Token) → placed text ts ≡ spread (map (λ t. t.at) ts) (symbols_at text ts)
 placed-spread text [] = refl
 placed-spread text (t ∷ ts) = ap (λ (zs : List Placed). record { at = t.at; symbol = symbol_of text t } ∷ zs) (placed-spread text ts)
@@ -75,17 +75,17 @@ pub followed-parts : (f : Reading → Read) (x : Read) (q : Reading) → reading
 followed-parts f (Ok r) q e = (r, refl, e)
 followed-parts f (Err fault) q e = absurd (cc)
 
--- placed symbols that are read are so part by part
+-- placed symbols that are read are read part by part
 pub over-parts : (env : Env) (xs ys : List Placed) (r q : Reading) → read_over env r (xs ++ ys) ≡ Ok q → (m : Reading) × (read_over env r xs ≡ Ok m) × (read_over env m ys ≡ Ok q)
 over-parts env xs ys r q e = followed-parts (λ r. read_over env r ys) (read_over env r xs) q (sym (over-append env xs ys r) ∙ e)
 
--- tokens that are read, and symbols at these places behind them
+-- tokens that are read, and symbols at these offsets after them
 pub record ReadTo (text : List ℕ) (env : Env) (old : List BinaryPolicy) (front : List Token) (places : List ℕ) (xs : List Symbol) (r : Reading) : Type 0 where
   pub reading : Reading
   pub read : read_over env (first_reading old) (placed text front) ≡ Ok reading
   pub over : read_over env reading (spread places xs) ≡ Ok r
 
--- tokens that are read are so part by part
+-- tokens that are read are read part by part
 pub read-to : (text : List ℕ) (env : Env) (old : List BinaryPolicy) (before front back : List Token) (xs : List Symbol) (r : Reading) → before ≡ front ++ back → symbols_at text back ≡ xs → read_over env (first_reading old) (placed text before) ≡ Ok r → ReadTo text env old front (map (λ t. t.at) back) xs r
 read-to text env old before front back xs r e f read =
     let cut : placed text before ≡ placed text front ++ placed text back = ap (placed text) e ∙ map-append (λ (t : Token). record { at = t.at; symbol = symbol_of text t }) front back in
@@ -95,7 +95,7 @@ read-to text env old before front back xs r e f read =
 read-from : (env : Env) (ys : List Placed) (m r q : Reading) → m ≡ r → read_over env m ys ≡ Ok q → read_over env r ys ≡ Ok q
 read-from env ys m r q e h = subst (λ (x : Reading). read_over env x ys ≡ Ok q) e h
 
--- some symbols that are read at these places, and others behind them up to the end of a row
+-- some symbols that are read at these offsets, and others after them up to the end of a row
 pub record Accepted (env : Env) (old : List BinaryPolicy) (r : Reading) (places : List ℕ) (xs : List Symbol) : Type 0 where
   pub reading : Reading
   pub over : read_over env r (spread places xs) ≡ Ok reading
@@ -105,7 +105,7 @@ pub record Accepted (env : Env) (old : List BinaryPolicy) (r : Reading) (places 
   pub policies : List BinaryPolicy
   pub at_rows : AtRows old policies last
 
--- what a text that is read has behind symbols that are read
+-- the symbols that a text that is read has after symbols that were read
 pub accepted-at : (text : List ℕ) (env : Env) (old : List BinaryPolicy) (before : List Token) (r : Reading) → read_over env (first_reading old) (placed text before) ≡ Ok r → (places : List ℕ) (xs : List Symbol) → GoesOn env old (symbols_at text before ++ xs) → Accepted env old r places xs
 accepted-at text env old before r read places xs g =
     let ys : List Placed = spread places xs ++ anywhere g.more in
@@ -132,13 +132,13 @@ goes-read text env old before g =
     let one = over-parts env (placed text before) (anywhere g.more) (first_reading old) l.reading l.over in
     (one.0, one.1)
 
--- the same wherever the symbols stand
+-- the same at any offsets of the symbols
 pub accepted : (text : List ℕ) (env : Env) (old : List BinaryPolicy) (before : List Token) (r : Reading) → read_over env (first_reading old) (placed text before) ≡ Ok r → (xs : List Symbol) → GoesOn env old (symbols_at text before ++ xs) → Accepted env old r [] xs
 accepted text env old before r read xs g = accepted-at text env old before r read [] xs g
 
 -- ---- where a reading stops
 
--- the fault of what stands there, which is the lexical one where it is no token
+-- the fault of the symbol at the end, which is the lexical one if no token begins there
 abbrev pub end_fault : Option LexFault → PolicyFault → PolicyFault
 end_fault None found = found
 end_fault (Some fault) found = lexical fault found
@@ -193,11 +193,11 @@ stops-in env text [] told r e =
     record { before = []; behind = []; parts = refl; reading = r; read = refl; found = s.0; stops = s.1; told = s.2 }
 stops-in env text (t ∷ ts) told r e = stops-first env text r t ts told (stops-in env text ts told) (read_step env r t.at (symbol_of text t)) refl e
 
--- a text with a fault stops there
+-- the reading of a text with a fault stops there
 pub fault-stops : (text : List ℕ) (env : Env) (old : List BinaryPolicy) (fault : PolicyFault) → fault_in text env old ≡ Some fault → StopsIn env text (first_reading old) (lexed_text text).tokens fault
 fault-stops text env old fault e = stops-in env text (lexed_text text).tokens fault (first_reading old) e
 
--- ---- what has been spelled there
+-- ---- what has been spelled up to there
 
 stands-by : (env : Env) (old : List BinaryPolicy) (done : List Symbol) (s : Symbol) (zs : List Placed) (q : Reading) → ((r : Reading) → Stands env old (done ++ s ∷ []) r → read_over env r zs ≡ Ok q → Stands env old ((done ++ s ∷ []) ++ symbols zs) q) →
     (x : Read) → StandsAfter env old (done ++ s ∷ []) x → reading_followed (λ r. read_over env r zs) x ≡ Ok q → Stands env old (done ++ s ∷ symbols zs) q
@@ -209,7 +209,7 @@ stands-over env old [] done r q h e = let same : r ≡ q = cc in subst (Stands e
 stands-over env old (z ∷ zs) done r q h e =
     stands-by env old done z.symbol zs q (λ m k f. stands-over env old zs (done ++ z.symbol ∷ []) m q k f) (read_step env r z.at z.symbol) (stands-step env old done r z.at z.symbol h) e
 
--- the symbols of tokens that are read are so many rows and the front of one
+-- the symbols of tokens that are read are whole rows and the beginning of one
 pub stands-behind : (text : List ℕ) (env : Env) (old : List BinaryPolicy) (before : List Token) (r : Reading) → filters_in old ≤ MOST_FILTERS → read_over env (first_reading old) (placed text before) ≡ Ok r → Stands env old (symbols_at text before) r
 stands-behind text env old before r few read =
     subst (λ (ts : List Symbol). Stands env old ts r) (symbols-placed text before) (stands-over env old (placed text before) [] (first_reading old) r (first-stands env text old few) read)

@@ -1,4 +1,4 @@
--- What the first fault of a filter alone is: that of a policy in which the filter stands below a header.
+-- What the first fault of a filter alone is: that of a policy in which the filter follows a header.
 use Rattle.std.specs.Prelude.{◌≡◌, ◌≢◌, ℕ, ◌+◌, List, [], ◌∷◌, ◌++◌, length, codes, Option, Some, None}
 use Rattle.st_lex.specs.declared.token.LexFault.{LexFault}
 use Rattle.st_lex.specs.declared.token.Token.{Token}
@@ -12,11 +12,11 @@ use Rattle.st_grammar.specs.Grammar.{IsFilter}
 use Rattle.st_grammar.specs.Symbol.{Symbol, Word, Line, symbol_of}
 use Rattle.st_first_fault.specs.FirstFault.{symbols_at, plain_fault, IsFirstFault}
 
--- the line of a header, below which a filter may stand
+-- the line of a header, after which a filter may follow
 abbrev pub header : List ℕ
 header = codes "Policy: /a, Emulation: native" ++ newline ∷ []
 
--- the same fault so many bytes further on
+-- the same fault, this many bytes later in the text
 abbrev pub moved : ℕ → PolicyFault → PolicyFault
 moved n (Lex fault) = Lex (fault_after n fault)
 moved n (Expected at) = Expected (n + at)
@@ -44,13 +44,13 @@ abbrev pub AreInLine : List Symbol → Type 0
 AreInLine [] = Unit {0}
 AreInLine (s ∷ ss) = (s ≢ Line) × AreInLine ss
 
--- there is a token, or what is no token
+-- there is a further token, or bytes that form none
 abbrev pub IsMore : Option LexFault → List Token → Type 0
 IsMore (Some fault) behind = Unit {0}
 IsMore None [] = ⊥
 IsMore None (token ∷ tokens) = Unit {0}
 
--- the first line is a filter, and behind its end there is more
+-- the first line is a filter, and more follows its end
 pub record EndsEarly (text : List ℕ) (env : Env) : Type 0 where
   pub row : List Token
   pub line : Token
@@ -62,13 +62,13 @@ pub record EndsEarly (text : List ℕ) (env : Env) : Type 0 where
   pub is_filter : IsFilter env (symbols_at text row) filter
   pub more : IsMore (lexed_text text).fault behind
 
--- the first fault of a text that should be one filter; each text is in one of the four cases at most
+-- the first fault of a text that should be one filter; at most one of the four cases applies to each text
 pub data IsFirstFilterFault (text : List ℕ) (env : Env) : PolicyFault → Type 0 where
-  -- a filter begins with a Word: before it stands no blank line either
+  -- a filter begins with a Word, and not even a blank line may come before it
   NoName : ((word : List ℕ) → BeginsWith text word → ⊥) → IsFirstFilterFault text env (plain_fault text (lexed_text text).tokens)
-  -- a header is no filter, and `Policy` no name
+  -- a header is no filter, and `Policy` is no name
   Headed : (b : BeginsWith text (codes "Policy")) → IsFirstFilterFault text env (UnknownCall b.first.at)
-  -- behind a filter stands nothing
+  -- nothing may follow a filter
   BehindRow : (e : EndsEarly text env) → IsFirstFilterFault text env (plain_fault text e.behind)
-  -- a policy that had the text below the header would have this fault first, so many bytes further on
+  -- a policy with this text after the header has the same first fault, moved by the header's length
   InRow : (word : List ℕ) (fault : PolicyFault) → BeginsWith text word → word ≢ codes "Policy" → (EndsEarly text env → ⊥) → IsFirstFault (header ++ text) env [] (moved (length header) fault) → IsFirstFilterFault text env fault

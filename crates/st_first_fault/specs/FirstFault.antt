@@ -1,4 +1,4 @@
--- What the first fault of a text is: where no text that is read goes on, and what is told of that.
+-- What the first fault of a text is: the place at which no text that is read continues, and the fault that is reported there.
 use Rattle.std.specs.Prelude.{◌≡◌, ◌⊎◌, ℕ, ◌≤◌, true, false, List, [], ◌∷◌, ◌++◌, length, map, codes, Option, Some, None}
 use Rattle.st_lex.specs.declared.token.LexFault.{LexFault}
 use Rattle.st_lex.specs.declared.token.Token.{Token}
@@ -15,19 +15,19 @@ use Rattle.st_grammar.specs.Grammar.{AreRows, AreNew, Reads, symbols_in, binary_
 use Rattle.st_grammar.specs.Symbol.{Symbol, Word, Quoted, Colon, Comma, Open, Close, OpenBracket, Line, Broken, symbol_of}
 use Rattle.st_grammar.specs.Words.{filter_name, index_in, is_label}
 
--- ---- what stands behind some tokens of a text
+-- ---- what follows some tokens of a text
 
--- behind the last token stands the text's end, which ends a row, or what is no token
+-- the symbol after the last token: the text's end, which ends a row, or bytes that form no token
 abbrev pub symbol_at_end : Option LexFault → Symbol
 symbol_at_end None = Line
 symbol_at_end (Some fault) = Broken
 
--- what stands in front of the tokens that are left
+-- the symbol at the beginning of the tokens that are left
 abbrev pub symbol_here : List ℕ → List Token → Symbol
 symbol_here text [] = symbol_at_end (lexed_text text).fault
 symbol_here text (token ∷ tokens) = symbol_of text token
 
--- where that stands
+-- the offset of that symbol
 abbrev pub place_here : List ℕ → List Token → ℕ
 place_here text [] = length text
 place_here text (token ∷ tokens) = token.at
@@ -37,7 +37,7 @@ abbrev pub fault_by : ℕ → Option LexFault → PolicyFault
 fault_by at None = Expected at
 fault_by at (Some fault) = Lex fault
 
--- what is told where nothing special is: it is no token, or not expected
+-- the fault that is reported if no special one applies: no token, or a token that isn't expected
 abbrev pub plain_fault : List ℕ → List Token → PolicyFault
 plain_fault text [] = fault_by (length text) (lexed_text text).fault
 plain_fault text (token ∷ tokens) = Expected token.at
@@ -46,9 +46,9 @@ plain_fault text (token ∷ tokens) = Expected token.at
 abbrev pub symbols_at : List ℕ → List Token → List Symbol
 symbols_at text tokens = map (symbol_of text) tokens
 
--- ---- what may stand behind some symbols
+-- ---- what may follow some symbols
 
--- a text that is read begins with these symbols
+-- some text that is read begins with these symbols
 pub record GoesOn (env : Env) (old : List BinaryPolicy) (front : List Symbol) : Type 0 where
   pub other : List ℕ
   pub more : List Symbol
@@ -67,37 +67,37 @@ pub data EndsOperand (env : Env) (old : List BinaryPolicy) (front : List Symbol)
   InParens : GoesOn env old (front ++ Close ∷ []) → EndsOperand env old front
   Whole : GoesOn env old (front ++ Word (codes "then") ∷ Word (codes "permit") ∷ []) → EndsOperand env old front
 
--- an operand may stand here
+-- an operand may occur here
 abbrev pub TakesOperand : Env → List BinaryPolicy → List Symbol → Type 0
 TakesOperand env old front = EndsOperand env old (front ++ Word (codes "true") ∷ [])
 
--- an operator and a text may stand here
+-- an operator and a text may occur here
 abbrev pub TakesOperator : Env → List BinaryPolicy → List Symbol → Type 0
 TakesOperator env old front = GoesOn env old (front ++ Word (codes "eq") ∷ Quoted (codes "\"\"") ∷ [])
 
--- an action may stand here
+-- an action may occur here
 abbrev pub TakesAction : Env → List BinaryPolicy → List Symbol → Type 0
 TakesAction env old front = GoesOn env old (front ++ Word (codes "deny") ∷ OpenBracket ∷ [])
 
--- an id may stand here
+-- an id may occur here
 abbrev pub TakesId : Env → List BinaryPolicy → List Symbol → Type 0
 TakesId env old front = GoesOn env old (front ++ Word (codes "0") ∷ Line ∷ [])
 
--- `permit` stands here as an action, and `log` perhaps
+-- symbols end with `permit` where an action may occur, or with `log` after such a `permit`
 pub data BehindPermit (env : Env) (old : List BinaryPolicy) (symbols : List Symbol) : Type 0 where
   Permitted : (front : List Symbol) → symbols ≡ front ++ Word (codes "permit") ∷ [] → TakesAction env old front → BehindPermit env old symbols
   Logged : (front : List Symbol) → symbols ≡ front ++ Word (codes "permit") ∷ Word (codes "log") ∷ [] → TakesAction env old front → BehindPermit env old symbols
 
--- a label stands here where an operand may stand
+-- this token is a label, at a place where an operand may occur
 pub record IsLabelAt (text : List ℕ) (env : Env) (old : List BinaryPolicy) (front : List Token) (label : Token) : Type 0 where
   pub word : List ℕ
   pub symbol_is : symbol_of text label ≡ Word word
   pub labels : is_label word ≡ true
   pub takes : TakesOperand env old (symbols_at text front)
 
--- ---- what is told of a symbol that doesn't fit
+-- ---- the fault of a symbol that doesn't fit
 
--- the faults that aren't told everywhere, by what may stand where the symbol stands
+-- the special faults of a symbol, by what may occur at its place
 pub data IsSpecial (text : List ℕ) (env : Env) (old : List BinaryPolicy) (before : List Token) (at : ℕ) : Symbol → PolicyFault → Type 0 where
   NoCall : (ps : List BinaryPolicy) (p : BinaryPolicy) (word : List ℕ) → AreRead env old (symbols_at text before) (ps ++ p ∷ []) → filter_name word ≡ None →
       IsSpecial text env old before at (Word word) (UnknownCall at)
@@ -107,10 +107,10 @@ pub data IsSpecial (text : List ℕ) (env : Env) (old : List BinaryPolicy) (befo
       binary_of env here ≡ Some binary → has_policy (old ++ ps) binary ≡ true → IsSpecial text env old before at here (DuplicatePolicy at)
   NoNative : (front : List Symbol) (word : List ℕ) → symbols_at text before ≡ front ++ Comma ∷ Word (codes "Emulation") ∷ Colon ∷ [] →
       IsSpecial text env old before at (Word word) (NotSupported at unsupported.Emulation)
-  -- `not`, `and`, `or` and `(`, where one more may not stand
+  -- `not`, `and`, `or` and `(` if there may be no more of them
   ManyOpening : (here : Symbol) → (here ≡ Open) ⊎ (here ≡ Word (codes "not")) → TakesOperand env old (symbols_at text before) → IsSpecial text env old before at here (TooMany at)
   ManyJoining : (here : Symbol) → (here ≡ Word (codes "and")) ⊎ (here ≡ Word (codes "or")) → EndsOperand env old (symbols_at text before) → IsSpecial text env old before at here (TooMany at)
-  -- a label that no argument has, and one that none has with this index
+  -- a label that no argument has, and a label that no argument has with this index
   NoLabel : (word : List ℕ) → is_label word ≡ true → TakesOperand env old (symbols_at text before) → IsSpecial text env old before at (Word word) (UnknownArgument at)
   NoIndex : (front : List Token) (label bracket : Token) (word : List ℕ) (index : ℕ) → before ≡ front ++ label ∷ bracket ∷ [] → IsLabelAt text env old front label → symbol_of text bracket ≡ OpenBracket →
       index_in word ≡ Some index → IsSpecial text env old before at (Word word) (UnknownArgument label.at)
@@ -121,14 +121,15 @@ pub data IsSpecial (text : List ℕ) (env : Env) (old : List BinaryPolicy) (befo
   SetsIds : env.elevate ≡ true → BehindPermit env old (symbols_at text before) → IsSpecial text env old before at (Word (codes "as")) (ElevateOnSetId at)
   NoUser : (word : List ℕ) → TakesId env old (symbols_at text before) → IsSpecial text env old before at (Word word) (UnknownUser at)
 
--- what is told of the first of the tokens that are left: one of those, and where none is, the plain fault
+-- the fault of the first token that is left: a special one, or, if none applies, the plain fault
 pub data Tells (text : List ℕ) (env : Env) (old : List BinaryPolicy) (before behind : List Token) : PolicyFault → Type 0 where
   Specially : (fault : PolicyFault) → IsSpecial text env old before (place_here text behind) (symbol_here text behind) fault → Tells text env old before behind fault
   Otherwise : ((fault : PolicyFault) → IsSpecial text env old before (place_here text behind) (symbol_here text behind) fault → ⊥) → Tells text env old before behind (plain_fault text behind)
 
 -- ---- the first fault
 
--- with the tokens before the fault a text goes on that is read, with what stands there none does, and this is told of it
+-- some text that is read begins with the tokens before the fault, none begins with the symbol at the fault as well, and this is the fault
+-- of that symbol
 pub record IsFirstFault (text : List ℕ) (env : Env) (old : List BinaryPolicy) (fault : PolicyFault) : Type 0 where
   pub before : List Token
   pub behind : List Token

@@ -16,8 +16,8 @@ ghost use Rattle.st_first_fault.specs.FirstFault.{IsFirstFault};
 
 use st_grammar::what_is_read_is_a_filter;
 
-/// The fault of a text is the first by the grammar: the tokens before it begin a text that is read, with the token that doesn't fit none
-/// does, and what is told of it follows from what may stand there. No other fault is the first.
+/// The fault of a text is the first by the grammar: some text that is read begins with the tokens before it, none begins with the token
+/// that doesn't fit as well, and the fault follows from what may occur at that place. No other fault is the first.
 pub fn the_first_fault_is_the_grammars()
     ensures first { (text : List ℕ) (env : Env) (old : List BinaryPolicy) (fault : PolicyFault) → filters_in old ≤ MOST_FILTERS → fault_in text env old ≡ Some fault →
         IsFirstFault text env old fault }
@@ -25,23 +25,24 @@ pub fn the_first_fault_is_the_grammars()
         IsFirstFault text env old a → IsFirstFault text env old b → a ≡ b }
 {}
 
-/// The fault of a filter alone is that of a policy whose text has the filter below a header, so many bytes further on; but a filter has no
-/// blank line and no header before it, and nothing behind its line. No text has two such faults, and one that is a filter has none.
+/// The fault of a filter alone is that of a policy whose text has the filter after a header, moved by the header's length. But no blank
+/// line and no header may come before a filter, and nothing may follow its line. No text has two such faults, and a text that is a filter
+/// has none.
 pub fn the_first_fault_of_a_filter_is_a_policys()
     ensures first { (text : List ℕ) (env : Env) (fault : PolicyFault) → filter_in text env ≡ Err fault → IsFirstFilterFault text env fault }
     ensures once { (text : List ℕ) (env : Env) (a b : PolicyFault) → IsFirstFilterFault text env a → IsFirstFilterFault text env b → a ≡ b }
     ensures none { (text : List ℕ) (env : Env) (filter : FilterValue) (fault : PolicyFault) → ReadsFilter text env filter → IsFirstFilterFault text env fault → ⊥ }
 {}
 
-/// What is a filter by the grammar is read as that filter.
+/// A text that is a filter by the grammar is read as that filter.
 pub fn what_is_a_filter_is_read()
     ensures { (text : List ℕ) (env : Env) (filter : FilterValue) → ReadsFilter text env filter → filter_in text env ≡ Ok filter }
 {
     what_is_read_is_a_filter();
 }
 
-/// A text that is cut behind one of its tokens, and goes on behind a blank with printed pieces, is read as its tokens up to there and
-/// then the pieces.
+/// A text that is cut after one of its tokens, and continued with a blank and printed pieces, is read as its tokens up to the cut and then
+/// the pieces.
 pub fn a_cut_text_keeps_its_tokens()
     ensures { (text : List ℕ) (before after : List spec.Token) (pieces : List Piece) → (lexed_text text).tokens ≡ before ++ after → StandWell pieces →
         IsReadAs (take (end_of 0 before) text ++ print (Space ∷ pieces)) (spelled_tokens text before ++ piece_tokens pieces) }

@@ -1,4 +1,4 @@
-//! The first fault of a policy's text is pinned by the grammar alone.
+//! Proves that the grammar alone determines the first fault of a policy's text.
 #![tactic(auto)]
 
 pub mod law;

@@ -1,4 +1,4 @@
--- What parts of a reading found, told of the files as they were before.
+-- The results of a reading's parts, stated of the files as they were before.
 use Rattle.std.proofs.Common.{◌≡◌, ℕ, ◌+◌, ◌<◌, List, [], ◌∷◌, ◌++◌, length, get_or, take, Result, Ok, Err, ap, sym, ◌∙◌, subst, append_assoc}
 use Rattle.std.specs.Borrow.{Bor}
 use Rattle.std.specs.Result.{IsErr, IsErrAnd}
@@ -10,7 +10,7 @@ use Rattle.st_reading.specs.Files.{IsPolicy, PolicyRefused, ArePolicies, Policie
 use Rattle.st_reading.specs.declared.refusal.Refusal.{Refusal}
 use Rattle.st_reading.proofs.Leads.{words_at, words_more, comes_at, one_policy_more}
 
--- an error that is handed on
+-- an error that is passed on
 pub handed_on : {A : Type 0} (P : Result A Refusal → Type 0) (s : Refusal) (r : Result A Refusal) → IsErr r → IsErrAnd r (λ e. e ≡ s) → P (Err s) → P r
 handed_on P s (Ok value) failed same p = cc
 handed_on P s (Err e) failed same p = subst (λ v. P (Err v)) (sym same) p
@@ -26,7 +26,7 @@ module _ (held : Held) (env : Env) (names : List (Bor Word)) (i : ℕ) (name : B
     new_is ∙ ap (λ ns. ns ++ name.now ∷ []) mid_is ∙ append_assoc old (words_at (take i names)) (name.now ∷ []) ∙ ap (λ ns. old ++ ns) (sym (words_more names i name inside is)),
   )
 
-  -- or it was refused
+  -- or the policy file was refused
   pub refused_at : (h : Held) (policies : List BinaryPolicy) (number faults faults_then faults_after : ℕ) (old mid new : List Word) (r : Refusal) →
       ArePolicies held env (words_at (take i names)) [] policies → h ≡ held → faults_then ≡ faults → number ≡ i → mid ≡ old ++ words_at (take i names) → new ≡ mid ++ name.now ∷ [] →
       PolicyRefused (h name.now) env policies (number + 1) faults_then faults_after r → PoliciesRefused held env (words_at names) faults faults_after old new r
@@ -55,6 +55,6 @@ module _ (held h : Held) (env : Env) (names ns : List Word) (same : h ≡ held) 
       (subst (λ f. PoliciesRefused h env ns f faults_after old new r) quiet
       (subst (λ a. PoliciesRefused h env ns faults_then faults_after a new r) asked p)))
 
--- the names that were asked for, and more
+-- the names that were asked for, with more names added
 pub asked_more : (old mid new more names : List Word) → mid ≡ old → more ≡ names → new ≡ mid ++ more → new ≡ old ++ names
 asked_more old mid new more names mid_is more_are new_is = new_is ∙ ap (λ ns. ns ++ more) mid_is ∙ ap (λ ns. old ++ ns) more_are

@@ -1,4 +1,4 @@
--- How files that were read lead on to what is meant behind them.
+-- How files that were read lead to the meaning of the files after them.
 use Rattle.std.proofs.Common.{◌≡◌, ℕ, ◌+◌, ◌≤◌, ◌<◌, inl, inr, List, [], ◌∷◌, ◌++◌, length, get_or, take, drop, map, Ok, refl, ap, sym, ◌∙◌, subst, arith, append_assoc}
 use Rattle.std.proofs.lemmas.List.{take_more, map-append, length-map, take-append-drop, length-take-le}
 use Rattle.std.specs.Borrow.{Bor}
@@ -16,7 +16,7 @@ use Rattle.st_reading.specs.Files.{Has, IsScript, IsPolicy, ArePolicies, ComesTo
 use Rattle.st_reading.specs.declared.refusal.Which.{Which}
 use Rattle.st_reading.specs.declared.refusal.Which.TheVariants as which
 
--- what holds of a text that a name has is meant at that name
+-- a property of a text that a name has is a property of what is read at that name
 pub leads_has : (held : FileView) (w : Which) (P : List ℕ → Type 0) (R : List ℕ → Type 0) (o : Meaning) → (has : Has held P) → R has.text → Fetches held w R o
 leads_has held w P R o has r = inr (inr (inr (has.text, has.content, has.within, r)))
 
@@ -29,12 +29,12 @@ held_fits (FileBytes bytes) text content within = let e : length text ≡ length
 pub has_fits : (held : FileView) (P : List ℕ → Type 0) → Has held P → CanFit held
 has_fits held P has = held_fits held has.text has.content has.within
 
--- a script that is read leads on
+-- a script that is read leads to what is meant after it
 pub leads_script : (held : FileView) (options : Options) (script : ReadScript) (R : ReadScript → Type 0) (o : Meaning) → IsScript held options script → R script → Fetches held which.Script (λ text. SaysScript (script_in text options) R o) o
 leads_script held options script R o is r =
     leads_has held which.Script (λ text. script_in text options ≡ Ok script) (λ text. SaysScript (script_in text options) R o) o is (subst (λ s. SaysScript s R o) (sym is.says) r)
 
--- policy files that are read lead on to those behind them
+-- policy files that are read lead to what is meant after them
 pub leads_policies : (held : Held) (env : Env) (R : List BinaryPolicy → Type 0) (o : Meaning) (front rest : List Word) (n : ℕ) (before policies : List BinaryPolicy) →
     ArePolicies held env front before policies → MeansPolicies held env (n + length front) rest policies R o → MeansPolicies held env n (front ++ rest) before R o
 leads_policies held env R o [] rest n before policies is m =
@@ -51,33 +51,33 @@ pub one_policy_more : (held : Held) (env : Env) (front : List Word) (name : Word
 one_policy_more held env [] name before policies more is one = (more, subst (λ ps. IsPolicy (held name) env ps more) is one, refl)
 one_policy_more held env (first ∷ front) name before policies more is one = (is.0, is.1, one_policy_more held env front name is.0 policies more is.2 one)
 
--- the names up to one of them
+-- the names up to this name
 pub take_to : (front : List Word) (name : Word) (back : List Word) → take (length front + 1) (front ++ name ∷ back) ≡ front ++ name ∷ []
 take_to front name back = take-append-add front (name ∷ back) 1
 
--- ---- names that a program has by reference
+-- ---- names that the program has by reference
 
 -- the words of references
 abbrev pub words_at : List (Bor Word) → List Word
 words_at names = map (λ name. name.now) names
 
--- one more of them
+-- one more word
 pub words_more : (names : List (Bor Word)) (i : ℕ) (name : Bor Word) → i < length names → name ≡ get_or names i name → words_at (take (i + 1) names) ≡ words_at (take i names) ++ name.now ∷ []
 words_more names i name inside is =
     ap words_at (take_more names i name inside) ∙ ap (λ last. words_at (take i names ++ last ∷ [])) (sym is) ∙ map-append (λ (n : Bor Word). n.now) (take i names) (name ∷ [])
 
--- one of them, and those before and behind it
+-- a word, and the words before and after it
 pub words_split : (names : List (Bor Word)) (i : ℕ) (name : Bor Word) → i < length names → name ≡ get_or names i name → words_at names ≡ words_at (take i names) ++ name.now ∷ words_at (drop (i + 1) names)
 words_split names i name inside is =
     ap words_at (sym (take-append-drop (i + 1) names)) ∙ map-append (λ (n : Bor Word). n.now) (take (i + 1) names) (drop (i + 1) names) ∙
     ap (λ front. front ++ words_at (drop (i + 1) names)) (words_more names i name inside is) ∙
     append_assoc (words_at (take i names)) (name.now ∷ []) (words_at (drop (i + 1) names))
 
--- how many they are, up to one of them
+-- the number of a policy file: the count of words before it, and one
 pub number_of_file : (names : List (Bor Word)) (i : ℕ) → i < length names → i + 1 ≡ length (words_at (take i names)) + 1
 number_of_file names i inside = omega (arith, length-map (take i names) (λ (n : Bor Word). n.now), length-take-le i names (omega arith))
 
--- the policy file that is come to behind so many
+-- the policy file that is reached after this many
 abbrev pub comes_at : (held : Held) (env : Env) (names : List (Bor Word)) (i : ℕ) (name : Bor Word) (policies : List BinaryPolicy) → i < length names → name ≡ get_or names i name →
     ArePolicies held env (words_at (take i names)) [] policies → ComesTo held env (words_at names) (i + 1) name.now policies
 comes_at held env names i name policies inside is read = record {

@@ -1,4 +1,4 @@
--- A command over files that are told means exactly one thing.
+-- A command over known files has exactly one meaning.
 use Rattle.std.proofs.Common.{◌≡◌, ℕ, ◌+◌, ◌≤◌, ◌<◌, ◌⊎◌, inl, inr, Bool, true, false, List, [], ◌∷◌, ◌++◌, length, Option, Some, None, is_some, option_map, Result, Ok, Err, refl, sym, ap, ◌∙◌, subst, arith, nat_le, leb-true}
 use Rattle.std.proofs.lemmas.Bool.Decides.{nat_tests}
 use Rattle.st_outside.specs.Files.{FileView, Unknown, Absent, FileBytes}
@@ -27,9 +27,9 @@ use Rattle.st_reading.specs.declared.refusal.Refusal.TheVariants.{Missing, TooLo
 use Rattle.st_reading.specs.declared.refusal.Which.{Which}
 use Rattle.st_reading.specs.declared.refusal.Which.TheVariants as which
 
--- ---- one at the most
+-- ---- at most one meaning
 
--- a relation that holds of one outcome at the most, beside stops
+-- a relation that holds of at most one outcome, besides stops
 abbrev pub IsOne : (Meaning → Type 0) → Type 0
 IsOne R = (a b : Meaning) → is_stop a ≡ false → is_stop b ≡ false → R a → R b → a ≡ b
 
@@ -54,7 +54,7 @@ reads_one (FileBytes text) w R told one a b u v (inr (inr p)) (inr (inl q)) = ab
 reads_one (FileBytes text) w R told one a b u v (inr (inr p)) (inr (inr q)) =
     one text a b u v (subst (λ t. R t a) p.1 p.3) (subst (λ t. R t b) q.1 q.3)
 
--- a file that is told has one content, so what is fetched means one thing where each content does
+-- a known file has one content, so a fetch has one meaning if each content has
 fetches_one : (h : FileView) (w : Which) (R : List ℕ → Meaning → Type 0) → IsTold h → ((text : List ℕ) → IsOne (R text)) → IsOne (λ o. Fetches h w (λ text. R text o) o)
 fetches_one h w R told one a b u v (inl p) q = stopped a w (a ≡ b) u p
 fetches_one h w R told one a b u v (inr p) (inl q) = stopped b w (a ≡ b) v q
@@ -75,11 +75,11 @@ none_told : (found : Option PolicyRefusal) → option_map (λ refusal. refusal.f
 none_told None e = refl
 none_told (Some refusal) e = absurd (cc)
 
--- a text that is read is not refused
+-- a text that has a reading is not refused
 unrefused : (text : List ℕ) (env : Env) (before policies : List BinaryPolicy) → policy.Reads text env before policies → refusal_in text env before ≡ None
 unrefused text env before policies reads = none_told (refusal_in text env before) (reads-faultless text env before policies reads)
 
--- a text has one reading or one first fault
+-- a text has exactly one reading, or a first fault
 policy_one : (text : List ℕ) (env : Env) (before : List BinaryPolicy) (n : ℕ) (R : List BinaryPolicy → Meaning → Type 0) → ((policies : List BinaryPolicy) → IsOne (R policies)) →
     IsOne (λ o. SaysPolicy text env before n (λ policies. R policies o) o)
 policy_one text env before n R one a b u v (inl p) (inl q) =
@@ -133,7 +133,7 @@ pub one_meaning : (held : Held) (c : Command) → AreTold held (names_of c) → 
 one_meaning held (command.Step step) told = step_one held step told
 one_meaning held (command.Check check) told = check_one held check.policy check.ids check.script told
 
--- ---- one at the least
+-- ---- at least one meaning
 
 -- a relation that holds of some outcome that is no stop
 abbrev HasOne : (Meaning → Type 0) → Type 0

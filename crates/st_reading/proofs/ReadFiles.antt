@@ -1,4 +1,4 @@
--- What has to be read where a command means a run or a text.
+-- What has to be read if a command means a run or a text.
 use Rattle.std.proofs.Common.{◌≡◌, ℕ, ◌+◌, ◌≤◌, inl, inr, List, [], ◌∷◌, length, Result, Ok, Err, refl, subst}
 use Rattle.st_outside.specs.Files.{FileView, CanHold}
 use Rattle.st_outside.specs.declared.files.TheConstants.{FILE_LIMIT}
@@ -25,26 +25,26 @@ IsRead (Refuses refusal) = ⊥
 IsRead (Runs input schedule) = Unit {0}
 IsRead (Prints text) = Unit {0}
 
--- what can be said of policies that were read with these names
+-- a property of policies that were read with this environment
 abbrev pub PolicyProperty : Type 1
 PolicyProperty = Env → List BinaryPolicy → Type 0
 
--- it still holds when this file of policies is read too
+-- the property still holds when this policy file is read too
 abbrev pub IsKept : PolicyProperty → FileView → Type 0
 IsKept P view = (env : Env) (text : List ℕ) (old set : List BinaryPolicy) → CanHold view text → Reads text env old set → P env old → P env set
 
--- and so with the file of each of some names
+-- the property still holds with the file of each of some names
 abbrev pub AreKept : PolicyProperty → Held → List Word → Type 0
 AreKept P held [] = Unit {0}
 AreKept P held (name ∷ names) = IsKept P (held name) × AreKept P held names
 
--- what any file keeps is kept with the file of each of some names
+-- what every file preserves, the files of some names preserve
 pub each_kept : (P : PolicyProperty) (held : Held) → ((name : Word) → IsKept P (held name)) → (names : List Word) → AreKept P held names
 each_kept P held keeps [] = tt
 each_kept P held keeps (name ∷ names) = (keeps name, each_kept P held keeps names)
 
 module _ (held : Held) (outcome : Meaning) (read : IsRead outcome) where
-  -- each file that is come to is fetched
+  -- each file that is reached is fetched
   pub fetched : (name : Word) (w : Which) (Read : List ℕ → Type 0) → Fetches (held name) w Read outcome → Has (held name) Read
   fetched name w Read (inl is) = absurd (subst IsRead is read)
   fetched name w Read (inr (inl p)) = absurd (subst IsRead p.1 read)
@@ -60,7 +60,7 @@ module _ (held : Held) (outcome : Meaning) (read : IsRead outcome) where
   text_read text env before n Read (inl p) = p
   text_read text env before n Read (inr p) = absurd (subst IsRead p.2 read)
 
-  -- policies are read, of which that holds which is kept
+  -- policies are read that have a property which each file preserves
   pub policies_read : (P : PolicyProperty) (env : Env) (Read : List BinaryPolicy → Type 0) (names : List Word) → AreKept P held names → (n : ℕ) (before : List BinaryPolicy) → P env before →
       MeansPolicies held env n names before Read outcome → (policies : List BinaryPolicy) × P env policies × Read policies
   policies_read P env Read [] keeps n before kept meant = (before, kept, meant)
@@ -72,7 +72,7 @@ module _ (held : Held) (outcome : Meaning) (read : IsRead outcome) where
 
 -- ---- `step`
 
--- what `step` was read as, where it means a run or a text
+-- what `step` has read, if it means a run or a text
 pub record IsStepRead (P : PolicyProperty) (held : Held) (step : StepWords) (outcome : Meaning) : Type 0 where
   pub script_text : List ℕ
   pub script_held : CanHold (held step.script) script_text
@@ -104,7 +104,7 @@ step_read P none held step keeps outcome read meant =
       outcome_is = c.says;
     }
 
--- the input of a run, else the other
+-- the input of a run, otherwise this other input
 abbrev pub input_or : Input → Meaning → Input
 input_or other (Runs i s) = i
 input_or other _ = other

@@ -1,4 +1,4 @@
--- How the refusal of a part is the refusal that is meant of the whole.
+-- The refusal of a part is the refusal that the whole command means.
 use Rattle.std.proofs.Common.{◌≡◌, ℕ, ◌+◌, ◌⊎◌, inl, inr, false, List, [], ◌∷◌, ◌++◌, length, take, Option, Some, None, Result, Ok, Err, refl, ap, sym, ◌∙◌, subst, arith, append_assoc}
 use Rattle.st_outside.specs.Count.{HasRisen}
 use Rattle.st_filter.specs.declared.set.BinaryPolicy.{BinaryPolicy}
@@ -30,7 +30,7 @@ use Rattle.st_reading.proofs.Leads.{leads_has, leads_script, leads_policies, tak
 use Rattle.st_reading.proofs.Meanings.{IsOne}
 
 module _ (held : Held) (c : Command) (faults faults_after : ℕ) (old new : List Word) where
-  -- one file of the command: it is come to, and it is the last that was asked for
+  -- one file of the command, which is reached and was the last that was asked for
   module _ (w : Which) (name : Word) (front : List Word) (named : names_to c w ≡ front ++ name ∷ []) (asked : AskedTo c w old new) where
     stops : Means held c (Stops w) → StopsAt held c old new w
     stops meant = record { meant = meant; asked = asked }
@@ -47,7 +47,7 @@ module _ (held : Held) (c : Command) (faults faults_after : ℕ) (old new : List
     fetch_refused R lead (Script fault) p = absurd p
     fetch_refused R lead (Policy n fault) p = absurd p
 
-  -- a script that is refused
+  -- a script file that is refused
   pub script_refused : (name : Word) (options : Options) (R : ReadScript → Meaning → Type 0) → names_to c which.Script ≡ name ∷ [] → AskedTo c which.Script old new →
       ((o : Meaning) → Fetches (held name) which.Script (λ text. SaysScript (script_in text options) (λ script. R script o) o) o → Means held c o) →
       (r : Refusal) → ScriptRefused (held name) options faults faults_after r → Refused held c faults faults_after old new r
@@ -121,7 +121,7 @@ module _ (held : Held) (step : StepWords) where
       behind_script script is o (subst (λ ns. MeansPolicies held script.env 1 ns [] (λ ps. MeansSchedule held step script ps o) o) (append_nil step.policies)
       (leads_policies held script.env (λ ps. MeansSchedule held step script ps o) o step.policies [] 1 [] policies are m))
 
-  -- what is read of all its files is what it means to run
+  -- with all its files read, `step` means to run this input
   pub step_means : (script : ReadScript) (policies : List BinaryPolicy) (schedule : ReadSchedule) → IsScript (held step.script) step.options script →
       ArePolicies held script.env step.policies [] policies → Has (held step.schedule) (λ text. schedule ≡ schedule_in text) → Means held (command.Step step) (Runs (input_with policies step.options script) schedule)
   step_means script policies schedule is are read =
@@ -161,7 +161,7 @@ module _ (held : Held) (step : StepWords) where
 
 -- ---- `check`
 
--- the names that `check` reads its policy with lead on
+-- the environment that `check` reads its policy with leads to what is meant after it
 check_leads : (held : Held) (check : CheckWords) (script : Option Word) (env : Env) → GivesEnv held check script env → (o : Meaning) → MeansCanon held check.policy env o → MeansCheck held check script o
 check_leads held check None env gives o m = subst (λ e. MeansCanon held check.policy e o) gives m
 check_leads held check (Some name) env gives o m =
@@ -199,7 +199,7 @@ module _ (held : Held) (faults faults_after : ℕ) (old new : List Word) where
         (printed : List ℕ) → printed ≡ canon policies → Ends held (command.Check check) faults faults_after old new (Ok (reading.Text printed))
     check_read policies are asked printed is = (canon_meant policies are (Prints printed) (ap Prints is), asked_whole asked)
 
-    -- without memory for its text
+    -- memory runs out for its text
     pub check_wants_memory : (policies : List BinaryPolicy) → ArePolicies held env (check.policy ∷ []) [] policies → new ≡ (old ++ maybe_word check.script) ++ check.policy ∷ [] →
         Refused held (command.Check check) faults faults_after old new NoMemory
     check_wants_memory policies are asked = inr (
@@ -208,13 +208,13 @@ module _ (held : Held) (faults faults_after : ℕ) (old new : List Word) where
       record { front = maybe_word check.script; name = check.policy; names_are = refl; fits = has_fits (held check.policy) (λ text. policy.Reads text env [] are.0) are.1 },
     )
 
--- ---- what is answered is what is meant
+-- ---- the answer is what the command means
 
 as_no_stop : (read : Reading) → is_stop (as_meaning read) ≡ false
 as_no_stop (reading.Run input schedule) = refl
 as_no_stop (reading.Text text) = refl
 
--- where a command means one thing, and no count rose, the answer is that, unless memory runs out
+-- if a command has one meaning, and no count rose, the answer is that meaning, unless memory runs out
 pub answers_meaning : (held : Held) (c : Command) (faults faults_after : ℕ) (old new : List Word) (result : Result Reading Refusal) → IsOne (Means held c) →
     Ends held c faults faults_after old new result → (HasRisen faults faults_after → ⊥) → (o : Meaning) → is_stop o ≡ false → Means held c o → (result ≡ Err NoMemory) ⊎ (ending result ≡ o)
 answers_meaning held c faults faults_after old new (Ok read) one p quiet o go m = inr (one (as_meaning read) o (as_no_stop read) go p.0 m)

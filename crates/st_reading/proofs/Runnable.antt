@@ -1,4 +1,4 @@
--- What `step` means to run can be run; `step` prints no text of no run, and `check` runs nothing.
+-- What `step` means to run can be run. `step` never prints a text without a run, and `check` never runs.
 use native.Mathlib.Omega.{arith}
 use Rattle.std.proofs.Common.{◌≡◌, ◌∙◌, ℕ, true, List, [], ◌∷◌, Option, Some, None, is_some, Ok, refl, ap, sym, subst}
 use Rattle.st_filter.specs.declared.set.BinaryPolicy.{BinaryPolicy}
@@ -27,7 +27,7 @@ use Rattle.st_reading.specs.declared.refusal.Which.TheVariants as which
 use Rattle.st_reading.proofs.ReadFiles.{AreKept, IsRead, IsStepRead, each_kept, fetched, input_or, policies_read, script_read, step_read}
 use Rattle.st_reading.proofs.Unasked.{read_asks_nothing}
 
--- what policies keep to that are read with these names: they grant no ids for setting ids, and ask nothing where filters are learnt
+-- policies that are read with this environment grant no ids for setting ids, and have no filter that asks if filters are learnt
 record AreClean (env : Env) (policies : List BinaryPolicy) : Type 0 where
   ungranted : SetIdsUngranted policies
   unasked : env.learn ≡ true → NoneAsks policies
@@ -44,7 +44,7 @@ read_clean text env old set read before = record {
   unasked = λ learns. read_asks_nothing text env old set read learns (before.unasked learns);
 }
 
--- where a run learns, its script has policies read so that filters are learnt
+-- if a run learns, its script has policies read so that filters are learnt
 pub script_learns : (text : List ℕ) (options : Options) (script : ReadScript) → script_in text options ≡ Ok script → options.mode ≡ Learn → script.env.learn ≡ true
 script_learns text options script is learning =
     let same : script.env.learn ≡ learns options.mode = read_has (λ (other : ReadScript). other.env.learn ≡ learns options.mode) text options (λ uncut none. refl) script is in
@@ -76,7 +76,7 @@ runnable replies held step input schedule meant =
       unasked = λ learning. x.kept.unasked (script_learns x.script_text step.options x.script x.script_is learning);
     }
 
--- a text of no run
+-- a text that is printed without a run
 abbrev IsPrinted : Meaning → Type 0
 IsPrinted (Prints text) = Unit {0}
 IsPrinted _ = ⊥

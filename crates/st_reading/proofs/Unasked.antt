@@ -1,4 +1,4 @@
--- Policies that are read where filters are learnt have no filter that asks.
+-- Policies that are read while filters are learnt have no filter that asks.
 use Rattle.std.proofs.Common.{◌≡◌, ◌≢◌, ◌∙◌, ℕ, true, false, List, [], ◌∷◌, sym, subst}
 use Rattle.std.proofs.lemmas.List.Elements.{All-append, All-from_recursion}
 use Rattle.std.specs.List.{All, AllByRecursion}
@@ -35,7 +35,7 @@ rows_ask_nothing env learns (FilterRow ts row ps p f rows is) =
     let one : All DoesNotAsk (f ∷ []) = All-from_recursion DoesNotAsk (f ∷ []) (does_not_ask env learns is.action_is, tt) in
     each-append AsksNothing ps (with_filter p f ∷ []) before.0 (All-append DoesNotAsk p.filters (f ∷ []) before.1.0 one, tt)
 
--- what is read asks nothing, if what was read before doesn't
+-- policies that are read have no filter that asks, if those that were read before have none
 pub read_asks_nothing : (text : List ℕ) (env : Env) (old set : List BinaryPolicy) → Reads text env old set → env.learn ≡ true → NoneAsks old → NoneAsks set
 read_asks_nothing text env old set read learns before =
     let policies : NoneAsks read.policies = All-from_recursion AsksNothing read.policies (rows_ask_nothing env learns read.rows) in

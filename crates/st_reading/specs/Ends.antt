@@ -1,4 +1,4 @@
--- How a command is read, against what it and its files mean.
+-- How the reading of a command ends, compared with what the command and its files mean.
 use Rattle.std.specs.Prelude.{◌≡◌, ◌⊎◌, ℕ, List, [], ◌∷◌, ◌++◌, Result, Ok, Err}
 use Rattle.st_outside.specs.Count.{HasRisen}
 use Rattle.st_outside.specs.Files.{CanFit}
@@ -12,28 +12,28 @@ use Rattle.st_reading.specs.declared.refusal.Refusal.TheVariants.{Missing, TooLo
 use Rattle.st_reading.specs.declared.refusal.Which.{Which}
 use Rattle.st_reading.specs.declared.refusal.Which.TheVariants as which
 
--- the names of a command up to this file were asked for, in order, and no other
+-- the names of a command up to this file were asked for, in order, and no others
 abbrev pub AskedTo : Command → Which → List Word → List Word → Type 0
 AskedTo c w old new = new ≡ old ++ names_to c w
 
--- the last of some names can hold a file that a fetch gives
+-- the last of some names can hold a file that a fetch can give
 pub record LastFits (held : Held) (names : List Word) : Type 0 where
   pub front : List Word
   pub name : Word
   pub names_are : names ≡ front ++ name ∷ []
   pub fits : CanFit (held name)
 
--- all before some file is as it has to be, and the names up to that file were asked for
+-- the command can mean to stop at this file, and the names up to the file were asked for
 pub record StopsAt (held : Held) (c : Command) (old new : List Word) (w : Which) : Type 0 where
   pub meant : Means held c (Stops w)
   pub asked : AskedTo c w old new
 
--- memory was wanting before any file was asked for, or behind asking for one that can be fetched, all before it as it has to be
+-- memory ran out before any file was asked for, or after asking for a file that can be fetched and at which the command can stop
 abbrev pub WantsMemory : Held → Command → List Word → List Word → Type 0
 WantsMemory held c old new = (new ≡ old) ⊎ ((w : Which) × StopsAt held c old new w × LastFits held (names_to c w))
 
--- a refusal is the one that is meant, and the names up to the file that it is of were asked for; or a file that is come to can't be
--- read and the count of faults rose; or memory is wanting
+-- a refusal is what the command means, and the names up to the refused file were asked for; or a file that was reached couldn't be read and
+-- the count of faults rose; or memory ran out
 abbrev pub Refused : Held → Command → ℕ → ℕ → List Word → List Word → Refusal → Type 0
 Refused held c faults faults_after old new (Missing w) = Means held c (Refuses (Missing w)) × AskedTo c w old new
 Refused held c faults faults_after old new (TooLong w) = Means held c (Refuses (TooLong w)) × AskedTo c w old new
@@ -42,17 +42,17 @@ Refused held c faults faults_after old new (Policy n fault) = Means held c (Refu
 Refused held c faults faults_after old new ReadFault = HasRisen faults faults_after × ((w : Which) × StopsAt held c old new w)
 Refused held c faults faults_after old new NoMemory = WantsMemory held c old new
 
--- what is read means that it is run, or printed
+-- what was read, as a meaning: a run, or a text to be printed
 abbrev pub as_meaning : Reading → Meaning
 as_meaning (reading.Run input schedule) = Runs input schedule
 as_meaning (reading.Text text) = Prints text
 
--- a command is read as it means, all its names asked for, or refused
+-- a command is read as what it means, with all its names asked for, or it is refused
 abbrev pub Ends : Held → Command → ℕ → ℕ → List Word → List Word → Result Reading Refusal → Type 0
 Ends held c faults faults_after old new (Ok read) = Means held c (as_meaning read) × AskedTo c (last_file c) old new
 Ends held c faults faults_after old new (Err refusal) = Refused held c faults faults_after old new refusal
 
--- what an answer says that a command means
+-- the meaning of a command that an answer reports
 abbrev pub ending : Result Reading Refusal → Meaning
 ending (Ok read) = as_meaning read
 ending (Err refusal) = Refuses refusal

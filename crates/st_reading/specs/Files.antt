@@ -22,14 +22,14 @@ use Rattle.st_reading.specs.declared.refusal.Refusal.TheVariants.{Missing, TooLo
 use Rattle.st_reading.specs.declared.refusal.Which.{Which}
 use Rattle.st_reading.specs.declared.refusal.Which.TheVariants as which
 
--- a name holds a text that a fetch gives, of which this holds
+-- a name holds a text that a fetch can give, and the text has this property
 pub record Has (held : FileView) (P : List ℕ → Type 0) : Type 0 where
   pub text : List ℕ
   pub content : CanHold held text
   pub within : length text ≤ FILE_LIMIT
   pub says : P text
 
--- why a file was not fetched; for want of memory only where it fits
+-- why a file was not fetched; out of memory only if the file can fit
 abbrev pub FetchRefused : FileView → Which → ℕ → ℕ → Refusal → Type 0
 FetchRefused held w old new (Missing other) = (other ≡ w) × CanLack held
 FetchRefused held w old new (TooLong other) = (other ≡ w) × CanExceed held
@@ -40,7 +40,7 @@ FetchRefused held w old new (Policy n fault) = ⊥
 
 -- ---- scripts
 
--- the file is this script
+-- the file is read as this script
 abbrev pub IsScript : FileView → Options → ReadScript → Type 0
 IsScript held options script = Has held (λ text. script_in text options ≡ Ok script)
 
@@ -56,7 +56,7 @@ ScriptEnds held options old new (Err refusal) = ScriptRefused held options old n
 
 -- ---- policies
 
--- the file has these policies, behind those of the files before it
+-- the file is read as these policies, after those of the files before it
 abbrev pub IsPolicy : FileView → Env → List BinaryPolicy → List BinaryPolicy → Type 0
 IsPolicy held env before policies = Has held (λ text. policy.Reads text env before policies)
 
@@ -65,18 +65,18 @@ abbrev pub PolicyRefused : FileView → Env → List BinaryPolicy → ℕ → �
 PolicyRefused held env before n old new (Policy other fault) = (other ≡ n) × Has held (λ text. refusal_in text env before ≡ Some fault)
 PolicyRefused held env before n old new refusal = FetchRefused held (which.Policy n) old new refusal
 
--- how the reading of a policy file ends, where it leaves these policies
+-- how the reading of a policy file ends, with these policies afterwards
 abbrev pub PolicyEnds : FileView → Env → List BinaryPolicy → ℕ → ℕ → ℕ → List BinaryPolicy → Result (Unit {0}) Refusal → Type 0
 PolicyEnds held env before n old new policies (Ok nothing) = IsPolicy held env before policies
 PolicyEnds held env before n old new policies (Err refusal) = PolicyRefused held env before n old new refusal
 
--- the files of these names have these policies, behind those before
+-- the files of these names are read as these policies, after the policies before them
 abbrev pub ArePolicies : Held → Env → List Word → List BinaryPolicy → List BinaryPolicy → Type 0
 ArePolicies held env [] before policies = policies ≡ before
 ArePolicies held env (name ∷ names) before policies =
     (more : List BinaryPolicy) × IsPolicy (held name) env before more × ArePolicies held env names more policies
 
--- policy file n of these names is come to, and those before it have these policies
+-- policy file n of these names is reached, and the files before it are read as these policies
 pub record ComesTo (held : Held) (env : Env) (names : List Word) (n : ℕ) (name : Word) (policies : List BinaryPolicy) : Type 0 where
   pub front : List Word
   pub back : List Word
@@ -84,7 +84,7 @@ pub record ComesTo (held : Held) (env : Env) (names : List Word) (n : ℕ) (name
   pub number : n ≡ length front + 1
   pub read : ArePolicies held env front [] policies
 
--- why policy files were not read: why one of them was not, and those before it were; the names up to it were asked for
+-- why policy files were not read: one was refused, and those before it were read; the names up to it were asked for
 pub record PoliciesRefused (held : Held) (env : Env) (names : List Word) (faults faults_after : ℕ) (old new : List Word) (refusal : Refusal) : Type 0 where
   pub n : ℕ
   pub name : Word
@@ -105,19 +105,19 @@ abbrev pub ScheduleEnds : FileView → ℕ → ℕ → Result ReadSchedule Refus
 ScheduleEnds held old new (Ok schedule) = Has held (λ text. schedule ≡ schedule_in text)
 ScheduleEnds held old new (Err refusal) = FetchRefused held which.Schedule old new refusal
 
--- ---- what `check` reads its policy with
+-- ---- the environment that `check` reads its policy with
 
--- the names of a script, or those where there is none
+-- the environment of a script, or the bare one if there is no script
 abbrev pub GivesEnv : Held → CheckWords → Option Word → Env → Type 0
 GivesEnv held check None env = env ≡ bare_env (is_some check.ids)
 GivesEnv held check (Some name) env = (script : ReadScript) × IsScript (held name) (check_options check) script × (env ≡ script.env)
 
--- why there are no names: the script was not read, or there is none and memory is wanting
+-- why there is no environment: the script was not read, or there is no script and memory ran out
 abbrev pub EnvRefused : Held → CheckWords → Option Word → ℕ → ℕ → Refusal → Type 0
 EnvRefused held check None faults faults_after refusal = refusal ≡ NoMemory
 EnvRefused held check (Some name) faults faults_after refusal = ScriptRefused (held name) (check_options check) faults faults_after refusal
 
--- how the reading of these names ends; without a script nothing is asked for
+-- how the reading of the environment ends; without a script no file is asked for
 abbrev pub EnvEnds : Held → CheckWords → ℕ → ℕ → List Word → List Word → Result Env Refusal → Type 0
 EnvEnds held check faults faults_after old new (Ok env) = GivesEnv held check check.script env × (new ≡ old ++ maybe_word check.script)
 EnvEnds held check faults faults_after old new (Err refusal) = EnvRefused held check check.script faults faults_after refusal × (new ≡ old ++ maybe_word check.script)

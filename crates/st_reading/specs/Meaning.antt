@@ -1,5 +1,5 @@
--- What a command and files mean, up to a run: a refusal, the input of a run and its schedule, or a text. Each case stands where those
--- before it don't.
+-- What a command and its files mean, before anything runs: a refusal, the input of a run and its schedule, or a text. Each case applies
+-- only if those before it don't.
 use Rattle.std.specs.Prelude.{◌≡◌, ℕ, ◌+◌, ◌≤◌, ◌⊎◌, Bool, true, false, List, [], ◌∷◌, ◌++◌, length, take, Option, Some, None, is_some, Result, Ok, Err}
 use Rattle.st_outside.specs.Files.{FileView, Unknown, Absent, FileBytes, CanHold, CanLack, CanExceed}
 use Rattle.st_outside.specs.declared.files.TheConstants.{FILE_LIMIT}
@@ -27,18 +27,18 @@ use Rattle.st_reading.specs.declared.refusal.Refusal.TheVariants.{Missing, TooLo
 use Rattle.st_reading.specs.declared.refusal.Which.{Which}
 use Rattle.st_reading.specs.declared.refusal.Which.TheVariants as which
 
--- what a name holds, as far as it is told
+-- what each name holds, as far as it is known
 abbrev pub Held : Type 0
 Held = Word → FileView
 
--- what a command comes to: it stops at a file that can't be read, it refuses, it runs by this schedule, or it prints a text of no run
+-- what a command means: a stop at a file that can't be read, a refusal, a run by this schedule, or a text that is printed without a run
 pub data Meaning : Type 0 where
   Stops : Which → Meaning
   Refuses : Refusal → Meaning
   Runs : Input → ReadSchedule → Meaning
   Prints : List ℕ → Meaning
 
--- whether an outcome is a stop, which any file that is come to can cause
+-- whether an outcome is a stop, which any file that is reached can cause
 abbrev pub is_stop : Meaning → Bool
 is_stop (Stops w) = true
 is_stop (Refuses refusal) = false
@@ -47,14 +47,14 @@ is_stop (Prints text) = false
 
 -- ---- files
 
--- a name that holds no file is missing, and one whose file is too long is refused; else the file is read
+-- the outcome for a name: a refusal if it holds no file or one that is too long, otherwise that of its text
 abbrev pub Reads : FileView → Which → (List ℕ → Type 0) → Meaning → Type 0
 Reads held w Read outcome =
     (CanLack held × (outcome ≡ Refuses (Missing w))) ⊎
     ((CanExceed held × (outcome ≡ Refuses (TooLong w))) ⊎
     ((text : List ℕ) × CanHold held text × (length text ≤ FILE_LIMIT) × Read text))
 
--- a file that is come to may also fail to be read
+-- the same, but a file that is reached may also fail to be read
 abbrev pub Fetches : FileView → Which → (List ℕ → Type 0) → Meaning → Type 0
 Fetches held w Read outcome = (outcome ≡ Stops w) ⊎ Reads held w Read outcome
 
@@ -63,13 +63,13 @@ abbrev pub SaysScript : Result ReadScript ScriptFault → (ReadScript → Type 0
 SaysScript (Ok script) Read outcome = Read script
 SaysScript (Err fault) Read outcome = outcome ≡ Refuses (Script fault)
 
--- the text of policy file n, behind the policies of those before it, has one reading, or a first fault
+-- the text of policy file n, read after the policies of the files before it, has a reading or a first fault
 abbrev pub SaysPolicy : List ℕ → Env → List BinaryPolicy → ℕ → (List BinaryPolicy → Type 0) → Meaning → Type 0
 SaysPolicy text env before n Read outcome =
     ((policies : List BinaryPolicy) × policy.Reads text env before policies × Read policies) ⊎
     ((fault : PolicyRefusal) × (refusal_in text env before ≡ Some fault) × (outcome ≡ Refuses (Policy n fault)))
 
--- policy files from number n on are read in order, each behind the policies of those before it
+-- policy files from number n on are read in order, each after the policies of the files before it
 abbrev pub MeansPolicies : Held → Env → ℕ → List Word → List BinaryPolicy → (List BinaryPolicy → Type 0) → Meaning → Type 0
 MeansPolicies held env n [] before Read outcome = Read before
 MeansPolicies held env n (name ∷ names) before Read outcome =
@@ -79,12 +79,12 @@ MeansPolicies held env n (name ∷ names) before Read outcome =
 
 -- ---- commands
 
--- what `step` means once its script and policies are read: its schedule is read, whatever it says
+-- what `step` means once its script and policies are read: its schedule is fetched and read, whatever it says
 abbrev pub MeansSchedule : Held → StepWords → ReadScript → List BinaryPolicy → Meaning → Type 0
 MeansSchedule held step script policies outcome =
     Fetches (held step.schedule) which.Schedule (λ text. outcome ≡ Runs (input_with policies step.options script) (schedule_in text)) outcome
 
--- what `step` means once its script is read: its policies are read, with the names that the script gives
+-- what `step` means once its script is read: its policies are read with the script's environment
 abbrev pub MeansBehindScript : Held → StepWords → ReadScript → Meaning → Type 0
 MeansBehindScript held step script outcome =
     MeansPolicies held script.env 1 step.policies [] (λ policies. MeansSchedule held step script policies outcome) outcome
@@ -94,18 +94,18 @@ MeansStep held step outcome =
     Fetches (held step.script) which.Script
     (λ text. SaysScript (script_in text step.options) (λ script. MeansBehindScript held step script outcome) outcome) outcome
 
--- what `check` means with these names: the canonical text of its policies is printed
+-- what `check` means with this environment: the canonical text of its policies is printed
 abbrev pub MeansCanon : Held → Word → Env → Meaning → Type 0
 MeansCanon held name env outcome = MeansPolicies held env 1 (name ∷ []) [] (λ policies. outcome ≡ Prints (canon policies)) outcome
 
--- what `check` means, with the names of a script or without one
+-- what `check` means, with the environment of a script or the bare one
 abbrev pub MeansCheck : Held → CheckWords → Option Word → Meaning → Type 0
 MeansCheck held check None outcome = MeansCanon held check.policy (bare_env (is_some check.ids)) outcome
 MeansCheck held check (Some name) outcome =
     Fetches (held name) which.Script
     (λ text. SaysScript (script_in text (check_options check)) (λ script. MeansCanon held check.policy script.env outcome) outcome) outcome
 
--- what a command means over files of which this much is told
+-- what a command means over files of which this much is known
 abbrev pub Means : Held → Command → Meaning → Type 0
 Means held (command.Step step) outcome = MeansStep held step outcome
 Means held (command.Check check) outcome = MeansCheck held check check.script outcome
@@ -130,13 +130,13 @@ last_file (command.Check check) = which.Policy 1
 abbrev pub names_of : Command → List Word
 names_of c = names_to c (last_file c)
 
--- whether a name holds a file is told, and which
+-- it is known whether a name holds a file, and what the file holds
 abbrev pub IsTold : FileView → Type 0
 IsTold Unknown = ⊥
 IsTold Absent = Unit {0}
 IsTold (FileBytes text) = Unit {0}
 
--- it is told of each of some names
+-- the same is known of each of some names
 abbrev pub AreTold : Held → List Word → Type 0
 AreTold held [] = Unit {0}
 AreTold held (name ∷ names) = IsTold (held name) × AreTold held names

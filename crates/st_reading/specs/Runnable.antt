@@ -10,8 +10,8 @@ use Rattle.st_script.specs.Startable.{CanStart, input_with}
 use Rattle.st_script.specs.declared.reading.ReadScript.{ReadScript}
 use Rattle.st_command.specs.Command.{StepWords}
 
--- an input is of a script that a run can start with and that isn't too long, under policies and with replies that grant no ids for
--- setting ids, with the options of the words; where it learns, no filter asks
+-- an input consists of a script that a run can start with and that isn't too long, of policies and replies that grant no ids for setting
+-- ids, and of the options of the words; if the run learns, no filter asks
 pub record IsRunnable (step : StepWords) (input : Input) : Type 0 where
   pub script : ReadScript
   pub policies : List BinaryPolicy

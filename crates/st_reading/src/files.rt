@@ -53,7 +53,7 @@ pub(crate) fn read_script_file<F: Files>(
     }
 }
 
-// Fetches policy file `number` and reads it behind the policies of those before it.
+// Fetches policy file `number` and reads it after the policies of the files before it.
 fn read_policy_file<F: Files>(
     alloc: Global,
     files: &mut F,
@@ -78,7 +78,7 @@ fn read_policy_file<F: Files>(
     }
 }
 
-/// Fetches policy files and reads them in order, each behind the policies of those before it.
+/// Fetches policy files and reads them in order, each after the policies of the files before it.
 pub(crate) fn read_policy_files<F: Files>(
     alloc: Global,
     files: &mut F,

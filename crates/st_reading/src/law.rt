@@ -9,21 +9,22 @@ ghost use Rattle.st_reading.specs.Runnable.{IsRunnable};
 
 use st_script::policies::what_is_replied_grants_no_ids_for_setting;
 
-/// A command over files that are told means exactly one thing, beside the files at which reading may stop.
+/// A command over known files has exactly one meaning, besides the files at which reading may stop.
 pub fn a_command_has_one_meaning()
     ensures some { (held : Held) (c : Command) → AreTold held (names_of c) → (outcome : Meaning) × (is_stop outcome ≡ false) × Means held c outcome }
     ensures one { (held : Held) (c : Command) (a b : Meaning) → AreTold held (names_of c) → is_stop a ≡ false → is_stop b ≡ false →
         Means held c a → Means held c b → a ≡ b }
 {}
 
-/// What `step` means to run can be run: by what its script, its policies and its replies keep to, and with the options of its words.
+/// Each input that `step` means to run can be run: its script, its policies and its replies have what a run needs, and its options are those
+/// of the words.
 pub fn what_is_meant_to_run_can_run()
     ensures { (held : Held) (step : StepWords) (input : Input) (schedule : ReadSchedule) → Means held (command.Step step) (Runs input schedule) → IsRunnable step input }
 {
     what_is_replied_grants_no_ids_for_setting();
 }
 
-/// `step` means no text of no run, and `check` no run.
+/// `step` never means a text without a run, and `check` never means a run.
 pub fn each_command_means_its_own_kind()
     ensures step { (held : Held) (step : StepWords) (text : List ℕ) → Means held (command.Step step) (Prints text) → ⊥ }
     ensures check { (held : Held) (check : CheckWords) (input : Input) (schedule : ReadSchedule) → Means held (command.Check check) (Runs input schedule) → ⊥ }

@@ -1,4 +1,5 @@
-//! What a command and its files mean up to a run: the script, the policies, and the schedule are fetched and read, in that order.
+//! Reads a command and its files as what they mean, before anything runs: the script, the policies, and the schedule are fetched and read,
+//! in that order.
 #![tactic(auto)]
 
 pub mod environment;

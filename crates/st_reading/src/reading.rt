@@ -18,7 +18,7 @@ use st_printing::print_policies;
 use st_script::ReadScript;
 use std::alloc::Global;
 
-/// What a command comes to, as far as it is read.
+/// What a command means, once it and its files are read.
 #[derive(Debug, Drop)]
 pub enum Reading {
     /// A run of this input by this schedule.
@@ -27,7 +27,7 @@ pub enum Reading {
     Text(Text),
 }
 
-// The run that `step` asks for.
+// The run that the words of `step` ask for.
 fn read_step<F: Files>(
     alloc: Global,
     step: &StepWords<'_>,
@@ -51,7 +51,7 @@ fn read_step<F: Files>(
     Ok(Reading::Run(input, schedule))
 }
 
-// What `check` reads its policy with.
+// The environment that `check` reads its policy with.
 fn env_of_check<F: Files>(
     alloc: Global,
     check: &CheckWords<'_>,
@@ -70,7 +70,7 @@ fn env_of_check<F: Files>(
     }
 }
 
-// The canonical text that `check` asks for.
+// The canonical text that the words of `check` ask for.
 fn read_check<F: Files>(
     alloc: Global,
     check: &CheckWords<'_>,
@@ -85,8 +85,8 @@ fn read_check<F: Files>(
     Ok(Reading::Text(print_policies(alloc, &policies)?))
 }
 
-/// Fetches what a command names and reads it: the script, then each policy file, behind the policies of those before it and with the
-/// names that the script gives, then the schedule.
+/// Fetches the files that a command names and reads them: the script, then each policy file, after the policies of the files before it and
+/// with the script's environment, then the schedule.
 pub fn read_command<F: Files>(
     alloc: Global,
     command: &Command<'_>,
@@ -94,15 +94,15 @@ pub fn read_command<F: Files>(
 ) -> Result<Reading, Refusal>
     requires { IsWithinLimits command.now }
 
-    // What is answered is what the command means, and the names that were asked for are those of the command, in order, up to the
-    // file that is told.
+    // The answer is what the command means, and the names that were asked for are those of the command, in order, up to the file that the
+    // answer is about.
     ensures ends { Ends (F.held files.old) command.now (F.faults files.old) (F.faults files.new) (F.asked files.old) (F.asked files.new) result }
 
-    // All else stays.
+    // The files stay as they are, and the count of faults rises only with a read fault.
     ensures held { F.held files.new ≡ F.held files.old }
     ensures quiet { result ≢ Err Refusal.ReadFault → F.faults files.new ≡ F.faults files.old }
 
-    // Where each name of the command is told and no count rose, the answer is what it means, unless memory runs out.
+    // If each name of the command is known and no count rose, the answer is what the command means, unless memory runs out.
     ensures complete { AreTold (F.held files.old) (names_of command.now) → (HasRisen (F.faults files.old) (F.faults files.new) → ⊥) →
         (outcome : Meaning) → is_stop outcome ≡ false → Means (F.held files.old) command.now outcome →
         (result ≡ Err Refusal.NoMemory) ⊎ (ending result ≡ outcome) }

@@ -16,7 +16,7 @@ pub enum Which {
 /// Why a command was not read.
 #[derive(Clone, Copy, Debug, PartialEq, Eq)]
 pub enum Refusal {
-    /// No file of that name is held.
+    /// No file has that name.
     Missing(Which),
     /// The file holds more than 1,048,576 bytes.
     TooLong(Which),
@@ -24,7 +24,7 @@ pub enum Refusal {
     ReadFault,
     /// The script is refused, with its first fault.
     Script(ScriptFault),
-    /// The policy file of this number, from 1, is refused, with its leftmost fault and where that stands in the grammar.
+    /// The policy file of this number, from 1, is refused, with its leftmost fault and the fault's place in the grammar.
     Policy(u32, PolicyRefusal),
     NoMemory,
 }

@@ -10,7 +10,7 @@ use Rattle.st_grammar.specs.Grammar.{if_absolute}
 use Rattle.st_printing.specs.Canon.{header_pieces}
 use Rattle.st_reread.proofs.Symbols.{piece_symbols, IsPrintable, ArePrintable}
 
--- what is printed of the binary is read as it
+-- the printed text of the binary is read as this binary
 pub record IsReadableBinary (binary : List ℕ) : Type 0 where
   pub absolute : if_absolute binary ≡ Some binary
   pub bytes : is_word_text binary ≡ false → AreBytes binary

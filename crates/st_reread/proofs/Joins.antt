@@ -1,4 +1,4 @@
--- How many joins a canonical expression has.
+-- The number of joins of a canonical expression.
 use Rattle.std.proofs.Common.{◌≡◌, ℕ, ◌+◌, ◌≤◌, Bool, true, false, nat_eq, List, [], ◌∷◌, ◌++◌, codes, decimal, sum_by, Some, refl, ap, ◌∙◌, arith}
 use Rattle.st_lex.specs.declared.token.TokenKind.TheVariants as kind
 use Rattle.st_grammar.proofs.Common.{Always, And, Both, Close, Conjunction, Disjunction, Either, FilterName, First, Formula, Grouped, index_in, Indexed, is_join, is_label, Level, Negated, Not, OneConjunction, OneOperand, Op, Open, Operand, Or, Piece, PlainWord, Sign, Space, Spells, Symbol, Test, True, unquoted, Word}
@@ -12,7 +12,7 @@ use Rattle.st_reread.proofs.PrintedExpressions.{fits_all, op_named-word, pieces_
 abbrev pub joins_of : List Piece → ℕ
 joins_of ps = sum_by is_join (piece_symbols ps)
 
--- so many joins, and one more for parentheses, where they are needed
+-- the number of joins, and one more for parentheses if they are needed
 abbrev with_parens : Bool → ℕ → ℕ
 with_parens true n = n
 with_parens false n = 1 + n
@@ -79,6 +79,6 @@ joins_fewer env name (Both {ts = ts} {us = us} {f = f} {g = g} p q) = omega (ari
 joins_fewer env name (OneConjunction {f = f} p) = omega (arith, joins_fewer env name p, joins_at-Disjunction f)
 joins_fewer env name (Either {ts = ts} {us = us} {f = f} {g = g} p q) = omega (arith, joins_fewer env name p, joins_fewer env name q, sum-joined ts us (Word (codes "or")), joins-joined Disjunction Conjunction f g (codes "or") refl)
 
--- a canonical expression has no more joins than what it was read from
+-- a canonical expression has no more joins than the symbols that it was read from
 pub few_joins : (env : Env) (name : FilterName) {ts : List Symbol} {f : Formula} → Spells env name Disjunction ts f → joins_of (expression_pieces f) ≤ sum_by is_join ts
 few_joins env name {f = f} s = omega (arith, joins_fewer env name s, ap (λ (b : Bool). with_parens b (joins_of (expression_pieces f))) (fits_all f))

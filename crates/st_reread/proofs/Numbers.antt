@@ -46,7 +46,7 @@ index_in-decimal n h = ap (option_and_then if_small) (number_in-decimal n (omega
 pub id_in-decimal : (rows : List NamedId) (n : ℕ) → n < 2 ^ 32 → id_in rows (decimal n) ≡ Some n
 id_in-decimal rows n h = ap (id_by rows (decimal n)) (numeral_up_to-decimal (2 ^ 32 - 1) n (omega (arith, h)) h)
 
--- ---- what is read is small
+-- ---- numbers that are read are small
 
 small_by : (b : Bool) (n id : ℕ) → (b ≡ true → n < 2 ^ 32) → cond b (Some n) None ≡ Some id → id < 2 ^ 32
 small_by true n id h e = let same : n ≡ id = cc in omega (arith, same, h refl)

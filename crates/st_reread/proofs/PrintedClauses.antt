@@ -42,7 +42,7 @@ before_then name f qs r q =
     subst StandWell (sym (append_assoc (expression_pieces f) (Space ∷ PlainWord (codes "then") ∷ Space ∷ []) qs))
     (StandWell-append (expression_pieces f) (Space ∷ PlainWord (codes "then") ∷ Space ∷ qs) (well_expression name f r.formula) (refl, tt, q) tt)
 
--- whatever stands well does so behind a condition
+-- pieces that can be read back can be read back after a condition
 pub well_condition : (name : FilterName) (f : Formula) (qs : List Piece) → IsReadableCondition name f → StandWell qs → StandWell (condition_pieces f ++ qs)
 well_condition name True qs r q = q
 well_condition name f qs r q = before_then name f qs r q
@@ -80,7 +80,7 @@ well_action Ask = (refl, tt, tt)
 
 -- ---- grants
 
--- a user, a group or both, each small
+-- a user, a group or both, each of 32 bits
 abbrev pub AreIds : Option ℕ → Option ℕ → Type 0
 AreIds None None = ⊥
 AreIds (Some u) None = u < 2 ^ 32
@@ -168,7 +168,7 @@ well_cmp cmp.Other id h = (refl, (well_id id h, tt, tt))
 well_cmp cmp.Below id h = (refl, (well_id id h, tt, tt))
 well_cmp cmp.Above id h = (refl, (well_id id h, tt, tt))
 
--- ---- what follows an action stands well, and apart from it
+-- ---- what follows an action can be read back, and begins with no Word
 
 pub well_grant : (env : Env) (name : FilterName) (action : Action) (grant : Option Grant) → IsReadableGrant env name action grant → StandWell (grant_pieces grant)
 well_grant env name action None r = tt

@@ -1,4 +1,4 @@
--- Canonical expressions are spelled as the grammar asks.
+-- Canonical expressions are spelled as the grammar requires.
 use Rattle.std.proofs.Common.{◌≡◌, ℕ, ◌^◌, ◌<◌, Bool, true, false, cond, nat_eq, List, [], ◌∷◌, ◌++◌, codes, decimal, Some, refl, sym, subst, arith, eqb-true}
 use Rattle.st_lex.specs.declared.token.TokenKind.TheVariants as kind
 use Rattle.st_grammar.proofs.Common.{Always, And, AreBytes, Both, Close, CloseBracket, Conjunction, Disjunction, Either, FilterName, First, Formula, Grouped, Indexed, is_label, is_word_text, Level, may_test, Negated, Not, OneConjunction, OneOperand, Op, op_named, Open, OpenBracket, Operand, Or, Piece, PlainWord, Quoted, QuotedText, Sign, Space, Spells, StandWell, Symbol, Test, True, Word}
@@ -38,7 +38,7 @@ readable_formula env name (Either {ts = ts} {us = us} s t) p =
     let parts : ArePrintable env ts × ArePrintable env (Word (codes "or") ∷ us) = ArePrintable-parts env ts (Word (codes "or") ∷ us) p in
     (readable_formula env name s parts.0, readable_formula env name t parts.1.1)
 
--- ---- what is printed is spelled so
+-- ---- the printed symbols spell the expression
 
 pub op_named-word : (o : Op) → op_named (word_of_op o) ≡ Some o
 op_named-word op.Match = refl
@@ -80,7 +80,7 @@ well_test name label index o text true r = (r.0, tt, (is_word_text-op o, tt, (r.
 well_test name label index o text false r =
     (r.0, tt, (refl, (is_word_text-decimal index (omega (arith, r.3)), tt, (refl, (is_word_text-op o, tt, (r.4, tt))))))
 
--- the level at which an expression stands without parentheses
+-- the level at which an expression is spelled without parentheses
 abbrev own_level : Formula → Level
 own_level (And f g) = Conjunction
 own_level (Or f g) = Disjunction
@@ -95,7 +95,7 @@ in_group : (env : Env) (name : FilterName) (ps : List Piece) (f : Formula) → S
 in_group env name ps f s =
     subst (λ (ts : List Symbol). Spells env name Operand (Open ∷ ts) f) (sym (piece_symbols-append ps (Sign kind.Close ∷ []))) (Grouped s)
 
--- with the parentheses that it needs there, an expression stands at any level
+-- with the parentheses that it needs there, an expression is spelled at any level
 spells_at : (env : Env) (name : FilterName) (ps : List Piece) (level : Level) (f : Formula) → Spells env name (own_level f) (piece_symbols ps) f → Spells env name level (piece_symbols (in_parens (needs_no_parens level f) ps)) f
 spells_at env name ps Operand True s = s
 spells_at env name ps Operand (Test label index o text) s = s
@@ -113,7 +113,7 @@ spells_at env name ps Disjunction (Not f) s = OneConjunction (OneOperand s)
 spells_at env name ps Disjunction (And f g) s = OneConjunction s
 spells_at env name ps Disjunction (Or f g) s = s
 
--- canonical expressions are spelled as the grammar asks
+-- canonical expressions are spelled as the grammar requires
 spells_formula : (env : Env) (name : FilterName) (f : Formula) → IsReadableFormula name f → Spells env name (own_level f) (piece_symbols (expression_pieces f)) f
 spells_formula env name True r = Always
 spells_formula env name (Test label index o text) r = spells_test env name label index o text (nat_eq index 0) refl r
@@ -141,7 +141,7 @@ spells_expression env name f r =
     subst (λ (b : Bool). Spells env name Disjunction (piece_symbols (in_parens b (expression_pieces f))) f) (fits_all f)
     (spells_at env name (expression_pieces f) Disjunction f (spells_formula env name f r))
 
--- ---- and its pieces stand well
+-- ---- and their pieces can be read back
 
 well_parens : (b : Bool) (ps : List Piece) → StandWell ps → StandWell (in_parens b ps)
 well_parens true ps w = w

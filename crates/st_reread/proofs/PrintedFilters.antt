@@ -9,7 +9,7 @@ use Rattle.st_reread.proofs.Names.{IsReadableName, readable_name}
 use Rattle.st_reread.proofs.PrintedClauses.{IsReadableCondition, readable_condition, is_condition, well_condition, IsReadableAction, readable_action, is_action, well_action, IsReadableGrant, readable_grant, is_tail, well_grant, apart_grant, well_log, apart_log, IsReadablePredicate, readable_predicate, is_predicate, well_predicate, apart_predicate}
 use Rattle.st_reread.proofs.Symbols.{piece_symbols, piece_symbols-append, ArePrintable, ArePrintable-parts}
 
--- what is printed of the filter is read as it
+-- the printed text of the filter is read as this filter
 pub record IsReadableFilter (env : Env) (f : FilterValue) : Type 0 where
   pub name : IsReadableName f.name
   pub condition : IsReadableCondition f.name f.formula
@@ -32,7 +32,7 @@ readable_filter env row f small is p =
       predicate = readable_predicate env small is.predicate_is;
     }
 
--- the symbols of the parts, one behind the other
+-- the symbols of the parts, one after the other
 parted : (c a g l p : List Piece) → piece_symbols (c ++ a ++ g ++ l ++ p) ≡ piece_symbols c ++ piece_symbols a ++ piece_symbols (g ++ l) ++ piece_symbols p
 parted c a g l p =
     ap (λ (ps : List Piece). piece_symbols (ps ++ p)) (append_assoc (c ++ a) g l)

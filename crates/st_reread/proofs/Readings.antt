@@ -15,7 +15,7 @@ AreNew-append known [] qs a b = subst (λ (ks : List BinaryPolicy). AreNew ks qs
 AreNew-append known (p ∷ ps) qs a b =
     (a.0, AreNew-append (known ++ p ∷ []) ps qs a.1 (subst (λ (ks : List BinaryPolicy). AreNew ks qs) (sym (append_assoc known (p ∷ []) ps)) b))
 
--- what is known of a set that was read
+-- what holds of a set that was read
 pub record IsReadable (env : Env) (set : List BinaryPolicy) : Type 0 where
   pub each : AreReadable env set
   pub new : AreNew [] set
@@ -35,7 +35,7 @@ readable_set env small plain Nothing = record { each = tt; new = tt; few = omega
 readable_set env small plain (Behind text old set bytes was reads) =
     more_read env text old set small (printable_symbols env text plain bytes) (readable_set env small plain was) reads
 
--- the canonical text of such a set is read as it
+-- the canonical text of a readable set is read as this set
 pub readable-reads : (env : Env) (set : List BinaryPolicy) → IsReadable env set → Reads (canon set) env [] set
 readable-reads env set r =
     let well : StandWell (set_pieces set) = well_set env set r.each in
@@ -48,6 +48,6 @@ readable-reads env set r =
       few = r.few;
     }
 
--- so that of policies that were read is
+-- the canonical text of policies that were read is read as these policies
 pub canon-reads : (env : Env) (set : List BinaryPolicy) → WasRead env set → HasPlainDollars env → HasSmallIds env → Reads (canon set) env [] set
 canon-reads env set was plain small = readable-reads env set (readable_set env small plain was)

@@ -12,7 +12,7 @@ use Rattle.st_reread.proofs.PrintedFilters.{IsReadableFilter, readable_filter, i
 use Rattle.st_reread.proofs.Headers.{IsReadableBinary, readable_binary, is_header, well_header}
 use Rattle.st_reread.proofs.Symbols.{piece_symbols, piece_symbols-append, ArePrintable, ArePrintable-parts}
 
--- what is printed of the policy is read as it
+-- the printed text of the policy is read as this policy
 pub record IsReadablePolicy (env : Env) (p : BinaryPolicy) : Type 0 where
   pub binary : IsReadableBinary p.binary
   pub filters : AllByRecursion (IsReadableFilter env) p.filters
@@ -43,9 +43,9 @@ readable_rows env small (FilterRow ts row ps q f rows is) p =
     let before : AreReadable env ps × AreReadable env (q ∷ []) = each-parts (IsReadablePolicy env) ps (q ∷ []) (readable_rows env small rows both.0) in
     each-append (IsReadablePolicy env) ps (with_filter q f ∷ []) before.0 (one_more env q f before.1.0 (readable_filter env row f small is both.1), tt)
 
--- ---- what is printed are its rows
+-- ---- the printed symbols are the rows of the policies
 
--- a row and its end, behind symbols and before pieces
+-- a row and its end, after symbols and before pieces
 row_first : (ts : List Symbol) (row rest : List Piece) → ts ++ piece_symbols row ++ Line ∷ [] ++ piece_symbols rest ≡ ts ++ piece_symbols (row_pieces row ++ rest)
 row_first ts row rest =
     append_assoc (ts ++ piece_symbols row) (Line ∷ []) (piece_symbols rest)
@@ -85,9 +85,9 @@ set_rows env ts ps (q ∷ qs) r rows =
 pub are_rows : (env : Env) (set : List BinaryPolicy) → AreReadable env set → AreRows env (piece_symbols (set_pieces set) ++ Line ∷ []) set
 are_rows env set r = Blank (piece_symbols (set_pieces set)) set (set_rows env [] [] set r NoRow)
 
--- ---- and stand well
+-- ---- and their pieces can be read back
 
--- a row and its end stand well before anything that does
+-- a row and its end can be read back before pieces that can
 well_row : (row qs : List Piece) → StandWell row → StandWell qs → StandWell (row_pieces row ++ qs)
 well_row row qs w q = StandWell-after row qs (Sign kind.Line) (StandWell-append row (Sign kind.Line ∷ []) w (refl, tt) tt) tt q
 

@@ -16,7 +16,7 @@ piece_symbols pieces = map spelled_symbol (piece_tokens pieces)
 pub piece_symbols-append : (ps qs : List Piece) → piece_symbols (ps ++ qs) ≡ piece_symbols ps ++ piece_symbols qs
 piece_symbols-append ps qs = ap (map spelled_symbol) (piece_tokens-append ps qs) ∙ map-append spelled_symbol (piece_tokens ps) (piece_tokens qs)
 
--- words can be printed as Words, and what quoted texts hold can be quoted
+-- a word can be printed as a Word, and the content of a quoted text can be quoted
 abbrev pub IsPrintable : Env → Symbol → Type 0
 IsPrintable env (Word w) = is_word_text w ≡ true
 IsPrintable env (Quoted source) = AreBytes (unquoted env.dollars source)
@@ -26,7 +26,7 @@ abbrev pub ArePrintable : Env → List Symbol → Type 0
 ArePrintable env [] = Unit {0}
 ArePrintable env (s ∷ ts) = IsPrintable env s × ArePrintable env ts
 
--- the symbols of both parts are so
+-- the symbols of both parts can be printed
 pub ArePrintable-parts : (env : Env) (ts us : List Symbol) → ArePrintable env (ts ++ us) → ArePrintable env ts × ArePrintable env us
 ArePrintable-parts env [] us p = (tt, p)
 ArePrintable-parts env (t ∷ ts) us p =

@@ -10,12 +10,12 @@ use Rattle.st_grammar.specs.Grammar.{Reads}
 abbrev pub AreTextBytes : List ℕ → Type 0
 AreTextBytes text = All (λ b. b < 256) text
 
--- texts that were read one behind the other gave this set
+-- texts that were read one after the other gave this set
 pub data WasRead (env : Env) : List BinaryPolicy → Type 0 where
   Nothing : WasRead env []
   Behind : (text : List ℕ) (old set : List BinaryPolicy) → AreTextBytes text → WasRead env old → Reads text env old set → WasRead env set
 
--- the three texts are bytes that a quoted text can hold
+-- the three texts consist of bytes that a quoted text can hold
 pub record HasPlainDollars (env : Env) : Type 0 where
   pub home : AreBytes env.dollars.home
   pub user : AreBytes env.dollars.user

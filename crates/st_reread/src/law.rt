@@ -5,8 +5,8 @@ ghost use Rattle.st_grammar.specs.declared.env.Env.{Env};
 ghost use Rattle.st_printing.specs.Canon.{canon};
 ghost use Rattle.st_reread.specs.Readable.{WasRead, HasPlainDollars, HasSmallIds};
 
-/// The canonical text of policies that were read is read again as the same policies: with the names, ids and texts with which
-/// they were read, where the three texts have no zero byte and ids have 32 bits.
+/// The canonical text of policies that were read is read again as the same policies, with the names, ids and texts that they were read
+/// with, if the three texts have no zero byte and ids have 32 bits.
 pub fn printed_policies_are_read_again()
     ensures { (env : Env) (set : List BinaryPolicy) → WasRead env set → HasPlainDollars env → HasSmallIds env → Reads (canon set) env [] set }
 {}

@@ -1,4 +1,4 @@
-//! The canonical text of policies is read again as the same policies.
+//! Proves that the canonical text of policies is read again as the same policies.
 #![tactic(auto)]
 
 pub mod law;
