@@ -1,4 +1,4 @@
--- What is written is bytes, so that what can be written was read.
+-- The text that is written consists of bytes, so policies that can be written are policies that were read.
 use Rattle.std.proofs.Common.{◌==◌, ◌↔◌, ◌<◌, ◌+◌, ◌-◌, ◌/◌, ◌%◌, ◌||◌, ℕ, Bool, true, false, cond, nat_lt, List, [], ◌∷◌, arith}
 use Rattle.std.proofs.lemmas.List.Elements.{All-from_recursion}
 use Rattle.st_filter.specs.declared.set.BinaryPolicy.{BinaryPolicy}
@@ -55,7 +55,7 @@ pieces_small (QuotedText text ∷ ps) well = each-append IsByte (quoted text) (p
 pieces_small (Sign k ∷ ps) well = each-append IsByte (sign_bytes k) (print ps) (sign_small k) (pieces_small ps well.1)
 pieces_small (Space ∷ ps) well = (omega arith, pieces_small ps well)
 
--- what can be written was read from what is written
+-- policies that can be written were read, namely from the text that is written
 writable_is_read : (env : Env) (set : List BinaryPolicy) → AreWritable env set → WasRead env set
 writable_is_read env set w =
     let bytes : AreTextBytes (canon set) = All-from_recursion IsByte (canon set) (pieces_small (set_pieces set) (well_written env set w)) in

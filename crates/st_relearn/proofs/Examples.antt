@@ -1,4 +1,4 @@
--- A run that learns through a link, the text of what it has learnt, and what that text is read as.
+-- A run that learns through a link, the text of what it has learnt, and the policies that the text is read as.
 use Rattle.std.proofs.Common.{◌≡◌, true, false, List, [], ◌∷◌, ◌++◌, ℕ, Option, Some, None, Ok, refl, codes}
 use Rattle.std.specs.Prelude.{reverse}
 use Rattle.st_law.specs.Machine.{state_at}
@@ -21,11 +21,11 @@ session_of i (Some entries) = (state_at i (reverse entries)).session
 abbrev added : List SessionFilter
 added = session_of link_learner (trace link_learner (rest ∷ []))
 
--- nobody has a name, and filters are learnt
+-- the environment without users and groups, in which filters are learnt
 abbrev learning : Env
 learning = record { users = []; groups = []; dollars = record { home = codes "/root"; user = codes "root"; cwd = codes "/" }; elevate = false; learn = true }
 
--- the file is named as it was reached, not as the link that was opened
+-- the file has the name by which it was reached, not that of the link that was opened
 abbrev two_rows : List ℕ
 two_rows = codes "Policy: /bin/cat, Emulation: native" ++ 10 ∷ codes "native-fsread: filename eq \"/etc/passwd\" then permit" ++ 10 ∷ []
 

@@ -1,4 +1,4 @@
--- The texts that a lawful run keeps can stand in quotes, so that its copies can.
+-- The texts that a lawful run keeps can be quoted, so its copies can be quoted.
 use Rattle.std.proofs.Common.{◌≡◌, ◌==◌, ◌&&◌, ◌++◌, ℕ, zero, suc, Bool, true, false, cond, List, [], ◌∷◌, slice_get, option_map, Option, Some, None, refl, sym, subst}
 use Rattle.std.proofs.lemmas.List.Elements.{recursion_from_All}
 use Rattle.std.proofs.lemmas.Option.{same_Some}
@@ -52,7 +52,7 @@ use Rattle.st_relearn.proofs.Trees.{rows_plain, tree_plain}
 
 -- ---- what is kept
 
--- the directory of a process can stand in quotes, and the policy of a traced one can be written
+-- the directory of a process can be quoted, and the policy of a traced process can be written
 record IsPlain (p : Process) : Type 0 where
   cwd : AreNames p.cwd
   policy : p.traced ≡ true → IsWritableBinary p.policy
@@ -62,7 +62,7 @@ abbrev IsPlainHead : Option Head → Type 0
 IsPlainHead None = Unit {0}
 IsPlainHead (Some head) = AreNames head.cwd × IsWritableBinary head.policy
 
--- all texts of the record of a run from which those of its copies come
+-- all texts of a run's state from which the texts of its copies come
 record IsPlainState (st : State) : Type 0 where
   links : HasPlainLinks st.tree
   processes : (p : ℕ) → IsPlain (st.processes p)
@@ -122,7 +122,7 @@ module _ (heads : ℕ → Option Head) (all : (q : ℕ) → IsPlainHead (heads q
   head_changes before [] x = x
   head_changes before (c ∷ changes) x = head_changes (head_after_change heads process q before c) changes (head_change before c x)
 
--- a call that is held, which that of a traced process alone is
+-- the head of a call that is held; only calls of traced processes are
 head_entered : (i : Input) (st : State) → IsPlainState st → (t : ℕ) (call : SysCall) (regs : List ℕ) (way : Way) → IsWay (process_in st t).traced (suc st.posted) way (answer_in i st (process_in st t) call regs)
     → (q : ℕ) → IsPlainHead (head_after i st.processes (st.threads t).owner (λ p. (st.messages p).head) (Entered t call regs way) q)
 head_entered i st x t call regs Fast is q = x.heads q

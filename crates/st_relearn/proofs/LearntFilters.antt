@@ -30,7 +30,7 @@ use Rattle.st_relearn.specs.Writable.{HasWritableTests, IsWritableFilter, IsWrit
 
 -- ---- the arguments of a rule
 
--- each label is a Word, and none of the grammar's own
+-- each label is a Word, and not one of the grammar's
 label_word : (l : Label) → is_word_text (name_of_label l) ≡ true
 label_word Filename = refl
 label_word _ = refl
@@ -39,7 +39,7 @@ label_free : (l : Label) → is_label (name_of_label l) ≡ true
 label_free Filename = refl
 label_free _ = refl
 
--- a rule has each of these arguments, and their indices are small
+-- a rule has each of these arguments, and their indexes are small
 abbrev AreKnown : Rule → List ArgSpec → Type 0
 AreKnown rule [] = Unit {0}
 AreKnown rule (spec ∷ specs) = (has_argument rule (name_of_label spec.label) spec.index ≡ true) × (spec.index < 2) × AreKnown rule specs
@@ -129,7 +129,7 @@ piece_joins (QuotedText text) = omega arith
 piece_joins (Sign k) = symbol_joins (symbol_by k (sign_bytes k))
 piece_joins Space = omega arith
 
--- there are no more joins than pieces
+-- pieces have no more joins than there are pieces
 pieces_joins : (ps : List Piece) → sum_by joins_of ps ≤ length ps
 pieces_joins [] = omega arith
 pieces_joins (p ∷ ps) = let e : sum_by joins_of (p ∷ ps) ≡ sum_by joins_of (p ∷ []) + sum_by joins_of ps = sum_by-append joins_of (p ∷ []) ps in omega (arith, e, piece_joins p, pieces_joins ps)

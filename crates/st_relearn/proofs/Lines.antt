@@ -1,4 +1,4 @@
--- What the lines of a script say can stand in quotes, and its ids have 32 bits.
+-- The texts of a script's lines can be quoted, and its ids have 32 bits.
 use Rattle.std.proofs.Common.{◌≡◌, ◌-◌, ◌^◌, ◌||◌, ℕ, zero, suc, Bool, true, false, cond, if◌then◌else◌, nat_eq, nat_le, nat_lt, List, [], ◌∷◌, codes, filter, length, take, drop, Option, Some, None, refl, ltb-true}
 use Rattle.std.proofs.lemmas.Bool.{and_parts}
 use Rattle.std.specs.List.{AllByRecursion, list_all, list_any, onto_first, slice_split, starts_with}
@@ -32,7 +32,7 @@ use Rattle.st_relearn.proofs.Names.{each_filter}
 use Rattle.st_relearn.proofs.Texts.{AreSmall, small_drop}
 use Rattle.st_relearn.proofs.Quoting.{IsGood, quoted_plain, word_plain}
 
--- the texts of a statement can stand in quotes, its binary can be written, and its ids have 32 bits
+-- the texts of a statement can be quoted, its binary can be written, and its ids have 32 bits
 abbrev pub IsPlainStatement : Statement → Type 0
 IsPlainStatement (says.User user) = AreBytes user.name × AreBytes user.home × IsId user.uid
 IsPlainStatement (says.Group group) = IsId group.gid
@@ -41,7 +41,7 @@ IsPlainStatement (says.Process process) = IsWritableBinary process.binary × Are
 IsPlainStatement (says.Reply binary filter) = AreSmall filter
 IsPlainStatement _ = Unit {0}
 
--- the same, where a row says something
+-- the same of each line that says something
 abbrev pub ArePlainLines : List ScriptLine → Type 0
 ArePlainLines lines = AllByRecursion (λ line. IfSome line.says IsPlainStatement) lines
 
@@ -98,7 +98,7 @@ group_plain : (text : List ℕ) (row : List Token) → IfSome (group_row text ro
 group_plain text (name ∷ gid ∷ []) = then_any IsPlainStatement _ (word_at text name) (λ n. if_map IsId IsPlainStatement (λ g. says.Group (record { name = n; gid = g })) (id_at text gid) (id_small text gid) (λ g small. small))
 group_plain text _ = tt
 
--- what is made
+-- the text of a new object can be quoted, and its ids have 32 bits
 abbrev IsPlainNew : NewNode → Type 0
 IsPlainNew new = HasPlainTarget new.kind
 

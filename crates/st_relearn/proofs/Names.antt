@@ -1,4 +1,4 @@
--- Names of which each component can stand in quotes: what walks come to.
+-- Names of which each component can be quoted, as the results of walks.
 use Rattle.std.proofs.Common.{◌==◌, ◌<◌, ◌+◌, ◌-◌, ◌&&◌, ◌++◌, ℕ, zero, suc, Bool, true, false, cond, not, nat_eq, nat_lt, List, [], ◌∷◌, length, take, filter, flat_map, codes, slice_get, Option, Some, None, arith}
 use Rattle.std.specs.List.{AllByRecursion, onto_first, slice_split, starts_with}
 use Rattle.st_base.specs.declared.errno.Errno.TheVariants.{ENOENT, ENOTDIR, ELOOP, ENAMETOOLONG}
@@ -15,11 +15,11 @@ use Rattle.st_names.specs.declared.seen.SeenText.{SeenText}
 use Rattle.st_names.specs.declared.seen.SeenText.TheVariants.{Missing, NotDir, Dir, File, Link}
 use Rattle.st_relearn.proofs.Texts.{bytes_append}
 
--- each component of a name can stand in quotes
+-- each component of a name can be quoted
 abbrev pub AreNames : Components → Type 0
 AreNames name = AllByRecursion AreBytes name
 
--- ---- what holds of each of some items
+-- ---- properties of each of some items
 
 each_take : {X : Type 0} (P : X → Type 0) (n : ℕ) (xs : List X) → AllByRecursion P xs → AllByRecursion P (take n xs)
 each_take P zero xs x = tt
@@ -128,7 +128,7 @@ walk_plain text cwd follow lookups t c l =
 
 -- ---- looks
 
--- the target of a link can stand in quotes
+-- the target of a link can be quoted
 abbrev pub IsPlainContent : Kind → List ℕ → Type 0
 IsPlainContent object_kind.Dir content = Unit {0}
 IsPlainContent object_kind.File content = Unit {0}

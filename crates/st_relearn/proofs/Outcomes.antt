@@ -1,4 +1,4 @@
--- What calls change, where the texts of their arguments can stand in quotes: the targets, directories and policies that they leave can too.
+-- Changes of calls whose arguments can be quoted: the targets, directories and policies that they leave can be quoted too.
 use Rattle.std.proofs.Common.{◌≡◌, ◌+◌, ◌==◌, ℕ, zero, suc, Bool, true, false, cond, List, [], ◌∷◌, slice_get, unwrap_or, option_map, Option, Some, None, refl}
 use Rattle.std.specs.List.{AllByRecursion}
 use Rattle.st_base.specs.Errno.{first_error}
@@ -32,7 +32,7 @@ use Rattle.st_relearn.specs.Writable.{IsWritableBinary}
 use Rattle.st_relearn.proofs.Names.{AreNames, components_plain, printed_plain}
 use Rattle.st_relearn.proofs.Parts.{ArePlainArgs}
 
--- the target, the directory or the policy that a change leaves
+-- the target, the directory or the policy that a change leaves can be quoted
 abbrev pub IsPlainChange : Change → Type 0
 IsPlainChange (Made name obj kind uid gid mode) = HasPlainTarget kind
 IsPlainChange (Cwd name) = AreNames name

@@ -1,4 +1,4 @@
--- Arguments that are all there can stand in quotes, and are those of their rule.
+-- Arguments that are complete can be quoted, and are those of their rule.
 use Rattle.std.proofs.Common.{◌+◌, ◌++◌, ℕ, zero, suc, Bool, List, [], ◌∷◌, slice_index_or, refl}
 use Rattle.std.specs.List.{AllByRecursion}
 use Rattle.st_calls.specs.Argument.{args_of}
@@ -21,7 +21,7 @@ use Rattle.st_relearn.specs.Plain.{AreArguments}
 use Rattle.st_relearn.proofs.Names.{AreNames, ArePlainLooks, HasPlainLinks, IsPlainWalk, printed_plain, resolved_plain, walk_plain}
 use Rattle.st_relearn.proofs.Texts.{IsPlainSpelled, spelled_plain}
 
--- the text of each argument can stand in quotes
+-- the text of each argument can be quoted
 abbrev pub ArePlainArgs : List ArgText → Type 0
 ArePlainArgs args = AllByRecursion (λ arg. AreBytes arg.text) args
 
@@ -31,7 +31,7 @@ texts_plain [] (arg ∷ args) are = absurd are
 texts_plain (spec ∷ specs) [] are = absurd are
 texts_plain (spec ∷ specs) (arg ∷ args) are = (are.2, texts_plain specs args are.3)
 
--- what is ready are these arguments
+-- if the arguments are ready, they are these
 abbrev pub IsReadyWith : List ArgSpec → Progress → Type 0
 IsReadyWith specs (Word part place) = Unit {0}
 IsReadyWith specs (Look part name) = Unit {0}

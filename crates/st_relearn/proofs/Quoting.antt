@@ -1,4 +1,4 @@
--- What a quoted text of a script holds can stand in quotes, and what a Word is can.
+-- The content of a quoted text of a script can be quoted, and so can a Word.
 use Rattle.std.proofs.Common.{◌≡◌, ◌≢◌, ◌==◌, ◌<◌, ◌+◌, ◌-◌, ◌*◌, ◌||◌, ℕ, zero, suc, Bool, true, false, cond, if◌then◌else◌, ◌++◌, nat_eq, List, [], ◌∷◌, Some, None, refl, sym, ap, subst, arith}
 use Rattle.std.proofs.lemmas.Bool.Decides.{nat_tests}
 use Rattle.std.specs.Char.{digit_value}
@@ -18,7 +18,7 @@ use Rattle.st_statements.specs.Parts.{quoted_at, word_at}
 use Rattle.st_relearn.proofs.Texts.{bytes_append}
 use Rattle.st_relearn.proofs.Writing.{word_text}
 
--- a front is put before what stands for the rest
+-- the bytes at the beginning, then what the rest spells
 put_first : (b : ℕ) (bs : List ℕ) (front : Spelling) → plain_front (b ∷ bs) ≡ front → AreBytes front.text → AreBytes (unquoted_from [] (front.len - 1) bs) → AreBytes (unquoted_from [] 0 (b ∷ bs))
 put_first b bs front e here rest =
     subst (λ (f : Spelling). AreBytes (f.text ++ unquoted_from [] (f.len - 1) bs)) (sym e) (bytes_append front.text (unquoted_from [] (front.len - 1) bs) here rest)
@@ -31,7 +31,7 @@ lone_by b bs true x e f n p = absurd (grind (arith, nat_tests, p.no_quote, p.no_
 lone_by b bs false true e f n p = absurd (grind (arith, nat_tests))
 lone_by b bs false false e f n p = refl
 
--- what stands between quotes stands for bytes, behind so many that have no backslash
+-- the text between quotes spells bytes, after this many bytes that have no backslash
 inside_plain : {bs : List ℕ} → IsInside bs → (k : ℕ) → NoMarks k bs → AreBytes (unquoted_from [] k bs)
 inside_plain Nothing k marks = tt
 inside_plain (Plain b bs p is) zero marks = put_first b bs (record { text = b ∷ []; len = 1 }) (plain_is b bs p) (p.some, p.byte, tt) (inside_plain is 0 tt)
@@ -51,7 +51,7 @@ inside_plain (Lone b bs n p is) (suc k) marks = absurd (marks.0 refl)
 
 -- ---- tokens
 
--- a token whose bytes are a Word where it is one, and of which what stands between the quotes has no fault where it is a quoted text
+-- the bytes of a Word token are a Word's, and the text between the quotes of a quoted token has no fault
 abbrev pub IsGood : List ℕ → Token → Type 0
 IsGood text token = IsWholeToken text token × HasInside text token
 

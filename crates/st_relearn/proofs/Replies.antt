@@ -11,7 +11,7 @@ use Rattle.st_reread.proofs.Symbols.{ArePrintable, ArePrintable-parts}
 use Rattle.st_relearn.specs.Writable.{IsWritableFilter}
 use Rattle.st_relearn.proofs.Writing.{writable_filter}
 
--- the symbols of a row can be printed where those of its text can
+-- the symbols of a row can be printed if those of its text can
 row_printable : (env : Env) (row : List Symbol) {ts : List Symbol} → IsOneRow row ts → ArePrintable env ts → ArePrintable env row
 row_printable env row ToTheEnd p = p
 row_printable env row ToALine p = (ArePrintable-parts env row (Line ∷ []) p).0

@@ -1,4 +1,4 @@
--- What lawful runs add to a session can be written, so that what is written and read again permits what they made.
+-- The filters that lawful runs add to a session can be written. So the policies, written and read again, permit what the runs made.
 use Rattle.std.proofs.Common.{◌≡◌, ◌≢◌, ◌≤◌, ◌∙◌, ◌++◌, ℕ, zero, suc, true, false, List, [], ◌∷◌, slice_get, Option, Some, None, refl, sym}
 use Rattle.std.proofs.lemmas.List.Elements.{All-from_recursion, All-weaker, recursion_from_All}
 use Rattle.std.specs.List.{All, AllByRecursion}
@@ -43,7 +43,7 @@ module _ (env : Env) where
   learnt_kept None parts = tt
   learnt_kept (Some s) parts = (record { policy = (parts s refl).policy; filter = learnt_is_writable env s (parts s refl).parts }, tt)
 
-  -- a reply, if there is one
+  -- a reply's filter can be written, if there is a reply
   abbrev IsWritableReply : Option Reply → Type 0
   IsWritableReply None = Unit {0}
   IsWritableReply (Some reply) = IsWritableFilter env reply.filter
@@ -85,22 +85,22 @@ module _ (env : Env) where
     session_kept (Denied u seq errno cause ∷ h) lawful = session_kept h lawful.1
     session_kept (Ended u ∷ h) lawful = session_kept h lawful.1
 
--- what a run adds
+-- the filters that a run adds can be written
 pub run_adds_writable : (env : Env) (i : Input) → IsStartable i → HasPlainTexts i.start → HasWritableReplies env i → (h : History) → IsLawfulBack i h → All (IsWritableKept env) (session_at i h)
 run_adds_writable env i startable texts replies h lawful = All-from_recursion (IsWritableKept env) (session_at i h) (session_kept env i startable texts replies h lawful)
 
--- the law that what was made is permitted by the policies with what was added
+-- the law that calls that were made are permitted by the policies with what was added
 abbrev pub PermitsMade : Type 0
 PermitsMade =
     (i : Input) → NoneAsks i.policies → (later earlier : History) (t q : ℕ) (call : SysCall) (regs : List ℕ) (args : List ArgText) (ids : Ids) (result : CallResult) (changes : List Change) →
     IsLawfulBack i (later ++ Used t (Some q) call regs args ids result changes ∷ earlier) →
     IsPermittedBy (learnt_policies i.policies (session_at i (later ++ Used t (Some q) call regs args ids result changes ∷ earlier))) (looking_back i earlier) q ids
 
--- the law that a text has one reading at most
+-- the law that a text has at most one reading
 abbrev pub ReadsOnce : Type 0
 ReadsOnce = (text : List ℕ) (env : Env) (old a b : List BinaryPolicy) → Reads text env old a → Reads text env old b → a ≡ b
 
--- what was made is permitted by what is read again
+-- calls that were made are permitted by the policies that are read again
 pub read_permits_made : PermitsMade → ReadsOnce → (env : Env) (i : Input) → IsStartable i → HasPlainTexts i.start → HasWritableReplies env i → AreWritable env i.policies → NoneAsks i.policies →
     (later earlier : History) (t q : ℕ) (call : SysCall) (regs : List ℕ) (args : List ArgText) (ids : Ids) (result : CallResult) (changes : List Change) →
     IsLawfulBack i (later ++ Used t (Some q) call regs args ids result changes ∷ earlier) →
@@ -117,7 +117,7 @@ read_permits_made permits_made once env i startable texts replies writable plain
       permitted = permits_made i plain later earlier t q call regs args ids result changes lawful;
     }
 
--- ---- where filters are learnt
+-- ---- runs that learn
 
 no_ask : (env : Env) (a : Action) → env.learn ≡ true → IsWritableAction env a → a ≢ Ask
 no_ask env Permit learns w e = absurd (cc)

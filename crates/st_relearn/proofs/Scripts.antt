@@ -1,4 +1,4 @@
--- What a script that is read gives can be written.
+-- The texts, ids and replies of a script that is read can be written.
 use Rattle.std.proofs.Common.{◌≡◌, ◌≤◌, ◌<◌, ◌==◌, ◌∙◌, ◌++◌, ℕ, Bool, true, false, cond, if◌then◌else◌, List, [], ◌∷◌, codes, map, Option, Some, None, Ok, Err, refl, sym, subst, ap}
 use Rattle.std.proofs.lemmas.List.Elements.{All-from_recursion, recursion_from_All}
 use Rattle.std.specs.List.{AllByRecursion, cons_option, filter_map}
@@ -64,7 +64,7 @@ each_given {Y = Y} P Q f (x ∷ xs) all gives = by (f x) (gives x all.0) (each_g
   by None here rest = rest
   by (Some y) here rest = (here, rest)
 
--- what a line says is plain
+-- the statement of a line is plain
 abbrev IsPlainLine : ScriptLine → Type 0
 IsPlainLine line = IfSome line.says IsPlainStatement
 
@@ -139,7 +139,7 @@ found_plain is (user ∷ users) all = by (is user) (found_plain is users all.1) 
   by true rest = all.0
   by false rest = rest
 
--- the three texts
+-- the three texts can be quoted
 abbrev ArePlainDollars : (home user cwd : List ℕ) → Type 0
 ArePlainDollars home user cwd = AreBytes home × AreBytes user × AreBytes cwd
 
@@ -206,7 +206,7 @@ module _ (options : Options) (lines : List ScriptLine) (plain : ArePlainLines li
 
 -- ---- scripts
 
--- the law that what is read as a filter is one
+-- the law that a text that is read as a filter is a filter by the grammar
 abbrev ReadsFilters : Type 0
 ReadsFilters = (text : List ℕ) (env : Env) (f : FilterValue) → filter_in text env ≡ Ok f → ReadsFilter text env f
 
@@ -222,9 +222,9 @@ script_is_plain sound text options script bytes e =
     subst HasPlainScript (read_is text options script e)
     (lines_written options (lines_in text) (script_lines text (recursion_from_All (λ b. b < 256) text bytes)) sound)
 
--- ---- where a script's run learns
+-- ---- runs of a script that learn
 
--- the law that a run can start with what is read
+-- the law that a run can start with a script that is read
 abbrev ScriptsStart : Type 0
 ScriptsStart = (text : List ℕ) (options : Options) (script : ReadScript) → script_in text options ≡ Ok script → CanStart script
 

@@ -1,4 +1,4 @@
--- Policies with what a session has added can be written, where they and the session's filters can.
+-- Policies with what a session has added can be written, if they and the session's filters can be written.
 use Rattle.std.proofs.Common.{◌≡◌, ◌≤◌, ◌∙◌, ◌++◌, ◌||◌, ℕ, Bool, true, false, cond, List, [], ◌∷◌, map, filter, refl, ap, sym}
 use Rattle.std.proofs.lemmas.List.Elements.{All-append, All-from_recursion, All-nil, recursion_from_All}
 use Rattle.std.specs.List.{All, AllByRecursion}
@@ -26,12 +26,12 @@ has_append (p ∷ ps) qs b = by (bytes_eq p.binary b) (has_append ps qs b) where
   by true later = refl
   by false later = later
 
--- a policy more, on both sides
+-- one more policy, on both sides
 known_more : (session : List SessionFilter) (known other : List BinaryPolicy) (p : BinaryPolicy) → ((b : List ℕ) → has_policy other b ≡ has_policy known b) → (b : List ℕ) → has_policy (other ++ with_session session p ∷ []) b ≡ has_policy (known ++ p ∷ []) b
 known_more session known other p same b =
     has_append other (with_session session p ∷ []) b ∙ ap (λ t. t || has_policy (p ∷ []) b) (same b) ∙ sym (has_append known (p ∷ []) b)
 
--- the session's filters leave the binaries
+-- adding the session's filters leaves the binaries as they are
 new_with : (session : List SessionFilter) (known other ps : List BinaryPolicy) → ((b : List ℕ) → has_policy other b ≡ has_policy known b) → AreNew known ps → AreNew other (map (with_session session) ps)
 new_with session known other [] same new = tt
 new_with session known other (p ∷ ps) same new =
@@ -50,7 +50,7 @@ new_policies (kept ∷ session) ps new = new_policies session (with_policy ps ke
 -- ---- each policy
 
 module _ (env : Env) where
-  -- a binary without filters
+  -- a policy without filters
   policy_begun : (ps : List BinaryPolicy) (binary : List ℕ) → IsWritableBinary binary → AllByRecursion (IsWritablePolicy env) ps → AllByRecursion (IsWritablePolicy env) (with_policy ps binary)
   policy_begun ps binary writable each = by (has_policy ps binary) where
     by : (t : Bool) → AllByRecursion (IsWritablePolicy env) (cond t ps (ps ++ empty_policy binary ∷ []))
@@ -78,7 +78,7 @@ module _ (env : Env) where
     with_writable session kept ps each.1,
   )
 
-  -- ---- all of them
+  -- ---- all policies
 
   learnt_writable : (ps : List BinaryPolicy) (session : List SessionFilter) → AreWritable env ps → AllByRecursion (IsWritableKept env) session → filters_in (learnt_policies ps session) ≤ MOST_FILTERS → AreWritable env (learnt_policies ps session)
   learnt_writable ps session w kept few = record {

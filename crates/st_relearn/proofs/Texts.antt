@@ -1,4 +1,4 @@
--- Texts that can stand in quotes: what words spell.
+-- Texts that can be quoted: those that words spell.
 use Rattle.std.proofs.Common.{◌≡◌, ◌==◌, ◌<◌, ◌+◌, ◌*◌, ◌/◌, ◌%◌, ◌||◌, ◌&&◌, ◌++◌, ℕ, zero, suc, Bool, true, false, cond, not, nat_lt, nat_le, List, [], ◌∷◌, length, take, drop, flat_map, codes, decimal, slice_index, Some, None, refl, subst, ltb-true, arith}
 use Rattle.std.proofs.lemmas.Bool.{and_parts}
 use Rattle.std.specs.Fmt.{digit_glyph, digits, digits_onto}
@@ -18,7 +18,7 @@ pub bytes_append : (xs ys : List ℕ) → AreBytes xs → AreBytes ys → AreByt
 bytes_append [] ys x y = y
 bytes_append (b ∷ xs) ys x y = (x.0, x.1, bytes_append xs ys x.2 y)
 
--- a text that is written out here
+-- a text that is written out in the proof
 pub plain_test : (bs : List ℕ) → list_all (λ b. nat_lt 0 b && nat_lt b 256) bs ≡ true → AreBytes bs
 plain_test [] e = tt
 plain_test (b ∷ bs) e =
@@ -26,7 +26,7 @@ plain_test (b ∷ bs) e =
     let here = and_parts (nat_lt 0 b) (nat_lt b 256) both.0 in
     (ltb-true 0 b here.0, ltb-true b 256 here.1, plain_test bs both.1)
 
--- numbers that are bytes, zero too
+-- numbers that are bytes, including zero
 abbrev pub AreSmall : List ℕ → Type 0
 AreSmall bytes = AllByRecursion (λ b. b < 256) bytes
 
@@ -48,7 +48,7 @@ words_small (word ∷ words) = small_append (to_le_bytes w64 word) (flat_map (to
 
 -- ---- numbers
 
--- the sign of a digit
+-- the glyph of a digit
 digit_small : (upper : Bool) (d : ℕ) → d < 16 → (0 < digit_glyph upper d) × (digit_glyph upper d < 256)
 digit_small upper d low = by (nat_lt d 10) upper where
   by : (b u : Bool) → (0 < cond b (48 + d) (cond u (55 + d) (87 + d))) × (cond b (48 + d) (cond u (55 + d) (87 + d)) < 256)
@@ -73,7 +73,7 @@ octal_plain : (n : ℕ) → AreBytes (digits 8 false n)
 unfolding digits
 octal_plain n = digits_plain 8 false (λ m. omega arith) 64 n [] tt
 
--- ---- what is spelled
+-- ---- spelled texts
 
 abbrev pub IsPlainSpelled : Spelled → Type 0
 IsPlainSpelled (Text text) = AreBytes text
@@ -189,7 +189,7 @@ domain_plain n = either_bytes (n == 1) (codes "AF_UNIX") _ (plain_test (codes "A
 type_plain : (n : ℕ) → AreBytes (type_text n)
 type_plain n = either_bytes (n == 1) (codes "SOCK_STREAM") _ (plain_test (codes "SOCK_STREAM") refl) (either_bytes (n == 2) (codes "SOCK_DGRAM") (decimal n) (plain_test (codes "SOCK_DGRAM") refl) (decimal_plain n))
 
--- whatever is spelled can stand in quotes
+-- every spelled text can be quoted
 pub spelled_plain : (k : PartKind) (at : ℕ) (words : List ℕ) → IsPlainSpelled (spell k at words)
 spelled_plain kind.Name at words = text_plain LONGEST_NAME at words
 spelled_plain kind.Plain at words = text_plain LONGEST_TEXT at words

@@ -1,4 +1,4 @@
--- Trees whose links have targets that can stand in quotes, and what changes leave of that.
+-- Trees whose links have targets that can be quoted, before and after changes.
 use Rattle.std.proofs.Common.{◌≡◌, ◌-◌, ◌++◌, ℕ, zero, suc, false, List, [], ◌∷◌, slice_index_or, slice_set}
 use Rattle.std.specs.List.{All, fold}
 use Rattle.std.proofs.lemmas.List.Elements.{All-head, All-tail}
@@ -19,7 +19,7 @@ use Rattle.st_base.proofs.Each.{each-append}
 use Rattle.st_relearn.proofs.Names.{ArePlainNodes, HasPlainLinks, IsPlainContent}
 use Rattle.st_relearn.proofs.Outcomes.{ArePlainChanges, IsPlainChange}
 
--- what is no link may have any content
+-- an object that is no link may have any content
 any_content : (kind : Kind) (content : List ℕ) → is_link kind ≡ false → IsPlainContent kind content
 any_content object_kind.Dir content other = tt
 any_content object_kind.File content other = tt
@@ -74,7 +74,7 @@ change_plain tree (Dying pid) fit plain all = all
 change_plain tree (Renewed old new) fit plain all = all
 change_plain tree (Policy binary) fit plain all = all
 
--- what fits the objects before a change fits those after it
+-- a change that fits the objects before an earlier change fits those after it
 fit_then : (before after : List Node) → IsShortStep before after → (c : Change) → IsFit before c → IsFit after c
 fit_then before after step (Made name obj kind uid gid mode) fit = fit
 fit_then before after step (Written obj at bytes) fit = step.plain (obj - 1) fit

@@ -1,4 +1,4 @@
--- What can be written is read again, and what was read can be written.
+-- Policies that can be written are read again, and policies that were read can be written.
 use Rattle.std.proofs.Common.{◌≡◌, ◌==◌, ℕ, ◌+◌, ◌<◌, Bool, true, false, cond, ◌||◌, ◌&&◌, nat_lt, List, [], ◌∷◌, length, codes, sum_by, Option, Some, None, option_map, refl, ap, ◌∙◌, arith}
 use Rattle.std.proofs.lemmas.Bool.{and_parts}
 use Rattle.std.proofs.lemmas.Bool.Decides.{nat_tests}
@@ -58,7 +58,7 @@ name_bytes (b ∷ bs) e =
     let here : is_word_byte b ≡ true = name_byte b both.0 in
     rw here (name_bytes bs both.1)
 
--- what is a name's text has its bytes alone
+-- a word that is a name consists of name bytes only
 named_bytes : (some all : Bool) (word : List ℕ) → cond (some && all) (Some word) None ≡ Some word → all ≡ true
 named_bytes true true word e = refl
 named_bytes true false word e = absurd (cc)
@@ -116,7 +116,7 @@ writable_tests n (Or f g) r = (writable_tests n f r.0, writable_tests n g r.1)
 sum_one : (p : Piece) (ps : List Piece) → sum_by joins_of (p ∷ ps) ≡ joins_of p + sum_by joins_of ps
 sum_one p ps = let e : sum_by joins_of (p ∷ ps) ≡ sum_by joins_of (p ∷ []) + sum_by joins_of ps = sum_by-append joins_of (p ∷ []) ps in omega (arith, e)
 
--- the joins of pieces are those of their symbols
+-- pieces have the joins of their symbols
 joins_counted : (ps : List Piece) → sum_by is_join (piece_symbols ps) ≡ sum_by joins_of ps
 joins_counted [] = refl
 joins_counted (PlainWord word ∷ ps) = omega (arith, joins_counted ps, joins-first (Word word) (piece_symbols ps), sum_one (PlainWord word) ps)
@@ -208,7 +208,7 @@ word_bytes (b ∷ bs) e =
     let here = word_byte b both.0 in
     (here.0, here.1, word_bytes bs both.1)
 
--- what is a Word can stand in quotes too
+-- a Word can be quoted too
 pub word_text : (bs : List ℕ) → is_word_text bs ≡ true → AreBytes bs
 word_text [] e = tt
 word_text (b ∷ bs) e = word_bytes (b ∷ bs) e
@@ -239,16 +239,16 @@ writable_policies : (env : Env) (ps : List BinaryPolicy) → AreReadable env ps 
 writable_policies env [] r = tt
 writable_policies env (p ∷ ps) r = (writable_policy env p r.0, writable_policies env ps r.1)
 
--- ---- what can be written is read again
+-- ---- policies that can be written are read again
 
--- the pieces of what can be written stand well
+-- the pieces of policies that can be written can be read back
 pub well_written : (env : Env) (set : List BinaryPolicy) → AreWritable env set → StandWell (set_pieces set)
 well_written env set w = well_set env set (readable_policies env set (recursion_from_All (IsWritablePolicy env) set w.each))
 
 pub written_is_read : (env : Env) (set : List BinaryPolicy) → AreWritable env set → Reads (canon set) env [] set
 written_is_read env set w = readable-reads env set (record { each = readable_policies env set (recursion_from_All (IsWritablePolicy env) set w.each); new = w.new; few = w.few })
 
--- ---- what was read can be written
+-- ---- policies that were read can be written
 
 pub read_is_writable : (env : Env) (set : List BinaryPolicy) → WasRead env set → HasPlainDollars env → HasSmallIds env → AreWritable env set
 read_is_writable env set was plain small =

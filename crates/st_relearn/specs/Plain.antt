@@ -1,4 +1,4 @@
--- Texts that can stand in quotes: those of a script, and then those of every copy that a run makes.
+-- Texts that can be quoted: those of a script, and so those of every copy that a run makes.
 use Rattle.std.specs.Prelude.{◌≡◌, List, [], ◌∷◌}
 use Rattle.std.specs.List.{All}
 use Rattle.st_calls.specs.Argument.{args_of}
@@ -15,29 +15,29 @@ use Rattle.st_relearn.specs.Writable.{IsWritableBinary}
 
 -- ---- scripts
 
--- each component of a name can stand in quotes
+-- each component of a name can be quoted
 abbrev pub IsPlainName : Components → Type 0
 IsPlainName name = All AreBytes name
 
--- the binary of a process can be written as a policy's, and the name of its directory can stand in quotes
+-- the binary of a process can be written as a policy's, and the name of its directory can be quoted
 pub record IsPlainProcess (row : ProcessRow) : Type 0 where
   pub binary : IsWritableBinary row.binary
   pub cwd : IsPlainName row.cwd
 
--- the target of a link can stand in quotes
+-- the target of a link can be quoted
 abbrev pub HasPlainTarget : NewKind → Type 0
 HasPlainTarget kind.Dir = Unit {0}
 HasPlainTarget (kind.File content) = Unit {0}
 HasPlainTarget (kind.Link target) = AreBytes target
 
--- the texts of a script, from which all texts of a run come, can stand in quotes
+-- the texts of a script, from which all texts of a run come, can be quoted
 pub record HasPlainTexts (start : Start) : Type 0 where
   pub processes : All IsPlainProcess start.processes
   pub targets : All (λ row. HasPlainTarget row.new.kind) start.tree
 
 -- ---- copies
 
--- arguments are those that are specified, in order, and their texts can stand in quotes
+-- arguments are those that are specified, in order, and their texts can be quoted
 abbrev pub AreArguments : List ArgSpec → List ArgText → Type 0
 AreArguments [] [] = Unit {0}
 AreArguments [] (arg ∷ args) = ⊥

@@ -1,4 +1,4 @@
--- What a session has added, read again.
+-- The filters that a session has added, read again.
 use Rattle.std.specs.Prelude.{◌≡◌, ℕ, List, []}
 use Rattle.std.specs.List.{All}
 use Rattle.st_base.specs.declared.ids.Ids.{Ids}
@@ -14,16 +14,16 @@ use Rattle.st_grammar.specs.Grammar.{Reads}
 use Rattle.st_grammar.specs.declared.env.Env.{Env}
 use Rattle.st_relearn.specs.Writable.{IsWritableBinary, IsWritableFilter}
 
--- a filter of a session, and the binary whose policy it is for
+-- a filter of a session can be written, and so can the binary whose policy it is for
 pub record IsWritableKept (env : Env) (kept : SessionFilter) : Type 0 where
   pub policy : IsWritableBinary kept.policy
   pub filter : IsWritableFilter env kept.filter
 
--- where the operator gives replies, their filters can be written
+-- if the operator gives replies, their filters can be written
 abbrev pub HasWritableReplies : Env → Input → Type 0
 HasWritableReplies env i = i.options.mode ≡ AskText → All (λ reply. IsWritableFilter env reply.filter) i.replies
 
--- the canonical text of the policies and what a session has added to them
+-- the canonical text of the policies, with what a session has added to them
 abbrev pub policy_text : List BinaryPolicy → List SessionFilter → List ℕ
 policy_text policies session = canon (learnt_policies policies session)
 

@@ -1,11 +1,11 @@
--- What a script gives, so that what its run learns can be written.
+-- What a script needs to have, so that what its run learns can be written.
 use Rattle.std.specs.List.{All}
 use Rattle.st_reread.specs.Readable.{HasPlainDollars, HasSmallIds}
 use Rattle.st_script.specs.declared.reading.ReadScript.{ReadScript}
 use Rattle.st_relearn.specs.Plain.{HasPlainTexts}
 use Rattle.st_relearn.specs.Writable.{IsWritableFilter}
 
--- the three texts and the texts of the start can stand in quotes, ids have 32 bits, and the filters of replies can be written
+-- the three texts and the texts of the start can be quoted, ids have 32 bits, and the filters of replies can be written
 pub record HasPlainScript (script : ReadScript) : Type 0 where
   pub dollars : HasPlainDollars script.env
   pub ids : HasSmallIds script.env

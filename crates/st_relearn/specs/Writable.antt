@@ -1,4 +1,4 @@
--- Policies that can be written so that they are read again.
+-- Policies that can be written so that they are read again as the same policies.
 use Rattle.std.specs.Prelude.{◌≡◌, ℕ, ◌^◌, ◌<◌, ◌≤◌, true, false, List, [], sum_by, Option, Some, None}
 use Rattle.std.specs.List.{All}
 use Rattle.st_calls.specs.Call.{rule_named}
@@ -22,15 +22,15 @@ use Rattle.st_grammar.specs.declared.env.Env.{Env}
 
 -- ---- names
 
--- a rule has a name always; what is outside the rules has one of letters, digits and `_` that is no rule's
+-- a rule's name can always be written; any other name has only letters, digits and `_`, and is no rule's
 abbrev pub IsWritableName : FilterName → Type 0
 IsWritableName (name.Rule rule) = Unit {0}
 IsWritableName (name.Other word) = (if_name word ≡ Some word) × (rule_named word ≡ None)
 
 -- ---- expressions
 
--- a test of an argument that filters of this name may test, whose label is a Word and no word of the grammar's own, whose index has
--- 32 bits, and whose text can stand in quotes
+-- a test of an argument that filters of this name may test; its label is a Word other than those of the grammar, its index has 32 bits, and
+-- its text can be quoted
 pub record IsWritableTest (name : FilterName) (label : List ℕ) (index : ℕ) (text : List ℕ) : Type 0 where
   pub word : is_word_text label ≡ true
   pub free : is_label label ≡ true
@@ -38,7 +38,7 @@ pub record IsWritableTest (name : FilterName) (label : List ℕ) (index : ℕ) (
   pub small : index < 2 ^ 32
   pub bytes : AreBytes text
 
--- each test of an expression is so, in filters of this name
+-- each test of an expression can be written, in filters of this name
 abbrev pub HasWritableTests : FilterName → Formula → Type 0
 HasWritableTests name True = Unit {0}
 HasWritableTests name (Test label index op text) = IsWritableTest name label index text
@@ -46,7 +46,7 @@ HasWritableTests name (Not f) = HasWritableTests name f
 HasWritableTests name (And f g) = HasWritableTests name f × HasWritableTests name g
 HasWritableTests name (Or f g) = HasWritableTests name f × HasWritableTests name g
 
--- how often a piece counts among the joins of an expression
+-- the number of joins that a piece adds to an expression: 1 or 0
 abbrev pub joins_of : Piece → ℕ
 joins_of (PlainWord word) = is_join (Word word)
 joins_of (QuotedText text) = 0
@@ -57,14 +57,14 @@ joins_of Space = 0
 abbrev pub written_joins : Formula → ℕ
 written_joins f = sum_by joins_of (expression_pieces f)
 
--- each test can be written, and there are no more joins than one expression may have
+-- each test can be written, and there are no more joins than an expression may have
 pub record IsWritableExpression (name : FilterName) (f : Formula) : Type 0 where
   pub tests : HasWritableTests name f
   pub few : written_joins f ≤ most_joins
 
 -- ---- what follows an expression
 
--- `ask` may not stand where filters are learnt
+-- an action can be written, but `ask` only if no filters are learnt
 abbrev pub IsWritableAction : Env → Action → Type 0
 IsWritableAction env Permit = Unit {0}
 IsWritableAction env (Deny errno) = Unit {0}
@@ -81,7 +81,7 @@ AreGranted (Some user) None = IsId user
 AreGranted None (Some group) = IsId group
 AreGranted (Some user) (Some group) = IsId user × IsId group
 
--- ids are granted only where the grammar lets a filter of this name and action grant some
+-- ids are granted only if the grammar lets a filter of this name and action grant ids
 abbrev pub IsWritableGrant : Env → FilterName → Action → Option Grant → Type 0
 IsWritableGrant env name action None = Unit {0}
 IsWritableGrant env name action (Some grant) = MayGrant env name action × AreGranted grant.user grant.group
@@ -101,17 +101,17 @@ pub record IsWritableFilter (env : Env) (f : FilterValue) : Type 0 where
   pub grant : IsWritableGrant env f.name f.action f.grant
   pub predicate : IsWritablePredicate f.predicate
 
--- a binary begins with `/`, and can stand in quotes
+-- a binary begins with `/`, and can be quoted
 pub record IsWritableBinary (binary : List ℕ) : Type 0 where
   pub absolute : if_absolute binary ≡ Some binary
   pub bytes : AreBytes binary
 
--- a policy's binary and filters
+-- a policy's binary and filters can be written
 pub record IsWritablePolicy (env : Env) (p : BinaryPolicy) : Type 0 where
   pub binary : IsWritableBinary p.binary
   pub filters : All (IsWritableFilter env) p.filters
 
--- policies, of which no two are for one binary, and which don't have too many filters
+-- policies can be written, no two are for one binary, and there are not too many filters
 pub record AreWritable (env : Env) (policies : List BinaryPolicy) : Type 0 where
   pub each : All (IsWritablePolicy env) policies
   pub new : AreNew [] policies

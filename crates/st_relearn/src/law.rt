@@ -44,7 +44,7 @@ pub fn what_can_be_written_is_read_again()
     ensures { (env : Env) (set : List BinaryPolicy) → AreWritable env set → Reads (canon set) env [] set }
 {}
 
-/// Policies were read from texts exactly where they can be written.
+/// Policies can be written exactly when they were read from texts.
 pub fn what_was_read_is_what_can_be_written()
     ensures { (env : Env) (set : List BinaryPolicy) → HasPlainDollars env → HasSmallIds env → WasRead env set ↔ AreWritable env set }
 {}
@@ -54,30 +54,30 @@ pub fn a_reply_can_be_written()
     ensures { (env : Env) (text : List ℕ) (f : FilterValue) → ReadsFilter text env f → AreTextBytes text → HasPlainDollars env → HasSmallIds env → IsWritableFilter env f }
 {}
 
-/// A filter that was learnt can be written, where the parts of its copies are the arguments of their rule and can stand in quotes.
+/// A filter that was learnt can be written if the parts of its copies are the arguments of their rule and can be quoted.
 pub fn what_is_learnt_can_be_written()
     ensures { (env : Env) (s : Snapshot) → AreArguments (args_of s.rule) s.parts → IsWritableFilter env (learnt_filter s) }
 {}
 
-/// The canonical text of policies and of what a session has added to them is read again as the same policies, where they and the
-/// session's filters can be written and there are not too many filters in all.
+/// The canonical text of policies, with what a session has added to them, is read again as the same policies, if they and the session's
+/// filters can be written and there are not too many filters in all.
 pub fn learnt_text_is_read_again()
     ensures { (env : Env) (policies : List BinaryPolicy) (session : List SessionFilter) → AreWritable env policies → All (IsWritableKept env) session → filters_in (learnt_policies policies session) ≤ MOST_FILTERS → Reads (policy_text policies session) env [] (learnt_policies policies session) }
 {}
 
-/// Each copy that a lawful run makes has the arguments of its rule, and they and its policy's binary can be written, where the texts of
-/// the script can stand in quotes.
+/// Each copy that a lawful run makes has the arguments of its rule, and the arguments and the binary of its policy can be written, if the
+/// texts of the script can be quoted.
 pub fn what_a_run_copies_can_be_written()
     ensures { (input : Input) → IsStartable input → HasPlainTexts input.start → (h : History) → IsLawfulBack input h → (q : ℕ) (s : Snapshot) → snapshot_in (looking_back input h) q ≡ Some s → AreWritableCopies s }
 {}
 
-/// Each filter that a lawful run adds can be written, where the texts of the script can stand in quotes and its replies can be written.
+/// Each filter that a lawful run adds can be written, if the texts of the script can be quoted and its replies can be written.
 pub fn what_a_run_adds_can_be_written()
     ensures { (env : Env) (input : Input) → IsStartable input → HasPlainTexts input.start → HasWritableReplies env input → (h : History) → IsLawfulBack input h → All (IsWritableKept env) (session_at input h) }
 {}
 
-/// The policies with what a run has added, written and read again, permit each held call that the run has made, under the ids that it
-/// was made under: where no filter that was read asks, all of them can be written, and there are not too many filters in all.
+/// The policies with what a run has added, written and read again, permit each held call that the run has made, under the ids that it was
+/// made under. This needs that no filter that was read asks, that all filters can be written, and that there are not too many in all.
 pub fn what_is_read_again_permits_what_was_made()
     ensures { (env : Env) (input : Input) → IsStartable input → HasPlainTexts input.start → HasWritableReplies env input → AreWritable env input.policies → NoneAsks input.policies → (later earlier : History) (t q : ℕ) (call : SysCall) (regs : List ℕ) (args : List ArgText) (ids : Ids) (result : CallResult) (changes : List Change) → IsLawfulBack input (later ++ Used t (Some q) call regs args ids result changes ∷ earlier) → filters_in (learnt_policies input.policies (session_at input (later ++ Used t (Some q) call regs args ids result changes ∷ earlier))) ≤ MOST_FILTERS → ReadsAndPermits (policy_text input.policies (session_at input (later ++ Used t (Some q) call regs args ids result changes ∷ earlier))) env (looking_back input earlier) q ids }
 {
@@ -85,9 +85,9 @@ pub fn what_is_read_again_permits_what_was_made()
     reading_is_one();
 }
 
-/// Where filters are learnt: the policies that were read and what the run has added, written and read again with the names, ids and
-/// texts with which they were read, permit each held call that the run has made, under the ids that it was made under, unless there
-/// are too many filters in all.
+/// If filters are learnt, the policies that were read, with what the run has added, are written and read again with the names, ids and
+/// texts that they were read with. The result permits each held call that the run has made, under the ids that it was made under, unless
+/// there are too many filters in all.
 pub fn learnt_text_permits_what_was_made()
     ensures { (env : Env) (input : Input) → IsStartable input → HasPlainTexts input.start → input.options.mode ≡ Learn → env.learn ≡ true → HasPlainDollars env → HasSmallIds env → WasRead env input.policies → (later earlier : History) (t q : ℕ) (call : SysCall) (regs : List ℕ) (args : List ArgText) (ids : Ids) (result : CallResult) (changes : List Change) → IsLawfulBack input (later ++ Used t (Some q) call regs args ids result changes ∷ earlier) → filters_in (learnt_policies input.policies (session_at input (later ++ Used t (Some q) call regs args ids result changes ∷ earlier))) ≤ MOST_FILTERS → ReadsAndPermits (policy_text input.policies (session_at input (later ++ Used t (Some q) call regs args ids result changes ∷ earlier))) env (looking_back input earlier) q ids }
 {
@@ -95,16 +95,16 @@ pub fn learnt_text_permits_what_was_made()
     reading_is_one();
 }
 
-/// A script that was read gives texts that can stand in quotes, ids of 32 bits, and replies that can be written.
+/// A script that was read has texts that can be quoted, ids of 32 bits, and replies that can be written.
 pub fn what_a_script_says_can_be_written()
     ensures { (text : List ℕ) (options : Options) (script : ReadScript) → AreTextBytes text → script_in text options ≡ Ok script → HasPlainScript script }
 {
     what_is_read_is_a_filter();
 }
 
-/// Where a script and policies were read and filters are learnt: the policies and what the run has added, written and read again as
-/// they were, permit each held call that the run has made, under the ids that it was made under, unless there are too many filters in
-/// all.
+/// If a script and policies were read and filters are learnt, the policies with what the run has added are written and read again with the
+/// same names and texts. The result permits each held call that the run has made, under the ids that it was made under, unless there are
+/// too many filters in all.
 pub fn what_a_script_learns_permits_what_was_made()
     ensures { (text : List ℕ) (options : Options) (script : ReadScript) (policies : List BinaryPolicy) → AreTextBytes text → script_in text options ≡ Ok script → options.mode ≡ Learn → 1 ≤ options.workers → options.workers ≤ 8 → WasRead script.env policies → (later earlier : History) (t q : ℕ) (call : SysCall) (regs : List ℕ) (args : List ArgText) (ids : Ids) (result : CallResult) (changes : List Change) → IsLawfulBack (input_with policies options script) (later ++ Used t (Some q) call regs args ids result changes ∷ earlier) → filters_in (learnt_policies policies (session_at (input_with policies options script) (later ++ Used t (Some q) call regs args ids result changes ∷ earlier))) ≤ MOST_FILTERS → ReadsAndPermits (policy_text policies (session_at (input_with policies options script) (later ++ Used t (Some q) call regs args ids result changes ∷ earlier))) script.env (looking_back (input_with policies options script) earlier) q ids }
 {

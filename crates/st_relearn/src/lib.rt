@@ -1,4 +1,4 @@
-//! What a session has learnt is written, and read again as the same policies.
+//! Proves that what a session has learnt, once written, is read again as the same policies.
 #![tactic(auto)]
 
 pub mod law;

@@ -14,13 +14,13 @@ use Rattle.st_report.specs.ScheduleText.{AreJoined, choice_text, repeat_line, re
 use Rattle.st_report.specs.declared.schedule.Repeat.{Repeat}
 use Rattle.st_reschedule.specs.Asked.{HasSmallNumber}
 
--- who moves
+-- who makes the choice
 abbrev pub choice_pieces : Choice → List Piece
 choice_pieces (Thread t) = PlainWord (codes "thread") ∷ Space ∷ PlainWord (decimal t) ∷ []
 choice_pieces (Worker w) = PlainWord (codes "worker") ∷ Space ∷ PlainWord (decimal w) ∷ []
 choice_pieces Operator = PlainWord (codes "operator") ∷ []
 
--- how often, unless it is once
+-- how often the choice is made, unless once
 abbrev pub times_pieces : Bool → ℕ → List Piece
 times_pieces true times = []
 times_pieces false times = Space ∷ PlainWord (decimal times) ∷ []
@@ -32,11 +32,11 @@ line_pieces once choice times = choice_pieces choice ++ times_pieces once times 
 abbrev pub repeat_pieces : Repeat → List Piece
 repeat_pieces each = line_pieces (each.times == 1) each.choice each.times
 
--- the lines of choices, each so many times
+-- the lines of choices, each with how often it is made
 abbrev pub repeats_pieces : List Repeat → List Piece
 repeats_pieces repeats = flat_map repeat_pieces repeats
 
--- ---- they are the text
+-- ---- the pieces are the text
 
 two_fields : (a b : List ℕ) → a ++ 32 ∷ (b ++ 10 ∷ []) ≡ a ++ [] ++ 32 ∷ (b ++ []) ++ 10 ∷ []
 two_fields a b =
@@ -57,9 +57,9 @@ repeats_printed (each ∷ repeats) =
     ∙ ap (λ (text : List ℕ). text ++ print (repeats_pieces repeats)) (line_printed (each.times == 1) each.choice each.times)
     ∙ ap (λ (text : List ℕ). repeat_line each ++ text) (repeats_printed repeats)
 
--- ---- they can be read
+-- ---- the pieces can be read
 
--- a line can be told: its number is small, and its choice is made once or more, not too often
+-- a line can be printed: its number is small, and its choice is made at least once, and not too often
 pub record IsTold (each : Repeat) : Type 0 where
   pub small : HasSmallNumber each.choice
   pub some : 1 ≤ each.times
@@ -79,7 +79,7 @@ well_repeats (each ∷ repeats) told =
     StandWell-after (choice_pieces each.choice ++ times_pieces (each.times == 1) each.times) (repeats_pieces repeats) (Sign Line)
     (well_line (each.times == 1) each.choice each.times told.0.small told.0.few) tt (well_repeats repeats told.1)
 
--- ---- joined neighbours are told
+-- ---- joined neighbours can be printed
 
 first_of_many : (n : ℕ) (c : Choice) → 1 ≤ n → AllByRecursion HasSmallNumber (replicate n c) → HasSmallNumber c
 first_of_many zero c some small = absurd (omega (arith, some))

@@ -1,4 +1,4 @@
--- What is printed of choices is read again as their lines.
+-- The text that is printed of choices is read again as their lines.
 use Rattle.std.proofs.Common.{◌≡◌, ℕ, suc, ◌+◌, ◌==◌, Bool, true, false, List, [], ◌∷◌, ◌++◌, codes, decimal, length, replicate, Option, Some, None, option_map, refl, ap, sym, subst, ◌∙◌, arith, append_assoc}
 use Rattle.std.proofs.lemmas.Bool.{eqb-true}
 use Rattle.std.proofs.lemmas.List.{length-append}
@@ -75,7 +75,7 @@ one_line_further line false (Thread t) n = refl
 one_line_further line false (Worker w) n = refl
 one_line_further line false Operator n = refl
 
--- a line, between what stands before it and what comes after it
+-- a line, between the text before it and the pieces after it
 module _ (front : List ℕ) (line : ℕ) (rest : List Piece) where
   abbrev whole : Bool → Choice → ℕ → List ℕ
   whole once c n = front ++ print (line_pieces once c n ++ rest)
@@ -97,7 +97,7 @@ module _ (front : List ℕ) (line : ℕ) (rest : List Piece) where
   spelled : (once : Bool) (c : Choice) (n : ℕ) → spelled_tokens (whole once c n) (tokens_at (length front) line (line_pieces once c n ++ rest)) ≡ piece_tokens (line_pieces once c n ++ rest)
   spelled once c n = spelled-tokens_at front (line_pieces once c n ++ rest) line
 
-  -- the schedule with this line in front
+  -- the schedule with this line added before it
   abbrev with_read : Bool → Choice → ℕ → Option ScheduleLine → ReadSchedule
   with_read once c n read = with_line line read (schedule_lines (whole once c n) None (rows (later once c n)))
 
@@ -141,7 +141,7 @@ module _ (front : List ℕ) (line : ℕ) (rest : List Piece) where
 
 -- ---- all lines
 
--- what is read of the tokens after a line, which then stands before them
+-- the schedule that is read from the tokens after a line, with the line moved to the text before them
 after_line : (front row : List ℕ) (line : ℕ) (rest : List Piece) (schedule : ReadSchedule) → schedule_lines ((front ++ row) ++ print rest) None (rows (tokens_at (length (front ++ row)) (suc line) rest)) ≡ schedule
     → schedule_lines (front ++ (row ++ print rest)) None (rows (tokens_at (length front + length row) (line + 1) rest)) ≡ schedule
 after_line front row line rest schedule e =
@@ -173,7 +173,7 @@ lines_read choices small =
     ∙ ap (λ (lexed : Lexed). schedule_lines (print pieces) (line_of_fault (print pieces) lexed.fault) (rows (looked_at lexed))) (tokens_from-print pieces 0 1 (well_repeats repeats told))
     ∙ repeats_read [] 1 repeats told
 
--- ---- what they ask for
+-- ---- the choices that the lines ask for
 
 asked_again : (line : ℕ) (repeats : List Repeat) → asked_by (lines_from line repeats) ≡ Some (spelled_choices repeats)
 asked_again line [] = refl

@@ -1,4 +1,4 @@
--- The line that a row of words is.
+-- The schedule line that a row of words spells.
 use Rattle.std.proofs.Common.{◌≡◌, ℕ, ◌≤◌, ◌<◌, ◌^◌, Bool, true, false, cond, ◌&&◌, nat_le, List, [], ◌∷◌, codes, decimal, Some, None, option_map, option_and_then, refl, ap, sym, ◌∙◌, arith}
 use Rattle.std.proofs.lemmas.Bool.{and_from, le-leb}
 use Rattle.std.specs.Str.{bytes_eq}
@@ -44,7 +44,7 @@ module _ (text : List ℕ) where
   asked_times : (line : ℕ) (what : What) (count : List Token) (n : ℕ) → count_in text count ≡ Some n → asked text line what count ≡ Some (line_of what n line)
   asked_times line what count n e = ap (option_map (λ n. line_of what n line)) e
 
-  -- ---- of whom
+  -- ---- whose choice
 
   small_kept : (n : ℕ) → n < 2 ^ 32 → saturated n ≡ n
   small_kept n small = grind (arith, small)

@@ -20,7 +20,7 @@ use Rattle.st_law.proofs.Ties.{state-is}
 use Rattle.st_report.proofs.PlayedAgain.{AreEnabled, enabled_of_run}
 use Rattle.st_reschedule.specs.Asked.{HasSmallNumber, HaveSmallNumbers}
 
--- what holds of each element of a list that was turned around holds of each of the list
+-- a property of all elements of a reversed list is a property of all elements of the list
 each-turned : {A : Type 0} (P : A → Type 0) (xs : List A) → AllByRecursion P (reverse xs) → AllByRecursion P xs
 each-turned P [] all = tt
 each-turned P (x ∷ xs) all =

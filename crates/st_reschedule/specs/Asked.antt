@@ -13,16 +13,16 @@ HasSmallNumber (Thread t) = t < 2 ^ 32
 HasSmallNumber (Worker w) = w < 2 ^ 32
 HasSmallNumber Operator = Unit {0}
 
--- those of all of them have
+-- the numbers of all these threads and workers have 32 bits
 abbrev pub HaveSmallNumbers : List Choice → Type 0
 HaveSmallNumbers choices = All HasSmallNumber choices
 
--- a choice so many times, before those that are asked for later; none where the rest is asked for, which says no choice
+-- a choice this many times, before those that are asked for later; nothing if the rest is asked for, which names no choice
 abbrev pub asked_before : What → ℕ → Option (List Choice) → Option (List Choice)
 asked_before (Choose choice) count later = option_map (λ choices. replicate count choice ++ choices) later
 asked_before Rest count later = None
 
--- the choices that lines ask for, in order
+-- the choices that lines ask for, in order; nothing if a line asks for the rest
 abbrev pub asked_by : List ScheduleLine → Option (List Choice)
 asked_by [] = Some []
 asked_by (each ∷ lines) = asked_before each.what each.count (asked_by lines)
@@ -32,20 +32,20 @@ abbrev pub unless_bad : Option ℕ → Option (List Choice) → Option (List Cho
 unless_bad None choices = choices
 unless_bad (Some line) choices = None
 
--- the choices that a schedule asks for, in order, if it has no bad line and each line says its choice
+-- the choices that a schedule asks for, in order, if it has no bad line and each line names its choice
 abbrev pub choices_asked : ReadSchedule → Option (List Choice)
 choices_asked schedule = unless_bad schedule.bad (asked_by schedule.lines)
 
--- ---- schedules that are written out
+-- ---- schedules written out
 
--- a line
+-- the line with this number, which asks for this so often
 abbrev pub line_of : What → ℕ → ℕ → ScheduleLine
 line_of what count line = record { what = what; count = count; line = line }
 
--- these lines, without a bad one
+-- the schedule of these lines, without a bad line
 abbrev pub schedule_of : List ScheduleLine → ReadSchedule
 schedule_of lines = record { lines = lines; bad = None }
 
--- no line before this bad one
+-- the schedule without lines, whose bad line is this
 abbrev pub bad_at : ℕ → ReadSchedule
 bad_at line = record { lines = []; bad = Some line }

@@ -12,9 +12,9 @@ ghost use Rattle.st_schedule.specs.Schedule.{schedule_in};
 ghost use Rattle.st_trace.specs.declared.entry.Choice.{Choice};
 ghost use Rattle.st_trace.specs.declared.entry.Choice.TheVariants.{Thread, Worker, Operator};
 
-/// What is printed of choices is read again as the lines that were printed, without a bad one, and these ask for exactly the choices, in
-/// order, where the numbers of their threads and workers have 32 bits. Those of each run have. So where choices were played, what is printed
-/// of them makes the same run.
+/// The text that is printed of choices is read again as the lines that were printed, without a bad line. These lines ask for exactly the
+/// choices, in order, if the numbers of their threads and workers have 32 bits, as those of each run have. So if choices were played, the
+/// text that is printed of them makes the same run.
 pub fn a_printed_schedule_is_read_again()
     ensures lines { (choices : List Choice) → HaveSmallNumbers choices → schedule_in (schedule_text choices) ≡ printed_schedule choices }
     ensures choices { (choices : List Choice) → HaveSmallNumbers choices → choices_asked (schedule_in (schedule_text choices)) ≡ Some choices }

@@ -1,4 +1,4 @@
-//! A schedule that is printed is read again as exactly its choices.
+//! Proves that a schedule that is printed is read again as exactly its choices.
 #![tactic(auto)]
 
 pub mod law;

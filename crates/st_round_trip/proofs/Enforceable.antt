@@ -36,7 +36,7 @@ module _ (written : WrittenIsReadAgain) (sound : IsSound) (complete : IsComplete
     (name : Word) (holds : held name ≡ FileBytes (printed print.Policy i choices)) (short : length (printed print.Policy i choices) ≤ FILE_LIMIT)
     (again : StepWords) (script_is : again.script ≡ step.script) (alone : again.policies ≡ name ∷ []) (ids : again.options.ids ≡ step.options.ids) where
   module _ (w : IsStepRead WasRead held step (Runs i schedule)) where
-    -- what the script is read as again
+    -- the script, as it is read again
     abbrev script : ReadScript
     script = record { start = w.script.start; env = environment_of again.options (lines_in w.script_text); replies = w.script.replies }
 

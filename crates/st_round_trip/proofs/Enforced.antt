@@ -1,4 +1,4 @@
--- What `step` has learnt and written is enforced by `step`.
+-- The policy that `step` has learnt and written is enforced by `step`.
 use Rattle.std.proofs.Common.{◌≡◌, ◌∙◌, ◌≤◌, ◌⊎◌, inl, inr, ℕ, List, [], ◌∷◌, Ok, refl, reverse, ap, sym, subst}
 use Rattle.st_command.specs.Command.{StepWords}
 use Rattle.st_command.specs.Reading.{IsWithinLimits}
@@ -33,7 +33,7 @@ use Rattle.st_round_trip.specs.RoundTrip.{HoldBytes, IsReadAgain, IsScriptOf, en
 use Rattle.st_round_trip.proofs.OtherOptions.{env_by, env_is}
 use Rattle.st_round_trip.proofs.ReadAgain.{held_once, was_read}
 
--- ---- the laws that this stands on
+-- ---- the laws that this proof uses
 
 abbrev pub WrittenIsReadAgain : Type 0
 WrittenIsReadAgain =
@@ -47,7 +47,7 @@ WrittenPermits = (held : Held) (step : StepWords) (input : Input) (schedule : Re
 
 -- ---- a text of policies under a name alone
 
--- what `step` reads where it has one file of policies
+-- what `step` reads if it has one policy file
 record IsReadAlone (held : Held) (step : StepWords) (name : Word) (i : Input) : Type 0 where
   script_text : List ℕ
   script_held : CanHold (held step.script) script_text
@@ -81,11 +81,11 @@ read_alone held step name i schedule alone meant =
       input_is = ap (input_or i) z.says;
     }
 
--- ---- what was learnt
+-- ---- the policies that were learnt
 
 module _ (written : WrittenIsReadAgain) (held : Held) (step : StepWords) (i : Input) (schedule : ReadSchedule) (bytes : HoldBytes held (step.script ∷ step.policies)) (limits : IsWithinLimits (Step step))
     (learning : step.options.mode ≡ Learn) (meant : Means held (Step step) (Runs i schedule)) (choices : List Choice) (few : filters_in (policies_behind i choices) ≤ MOST_FILTERS) where
-  -- the text is read again with what the same script gives under other options
+  -- the text is read again with the environment that the same script gives under other options
   pub read_under : (w : IsStepRead WasRead held step (Runs i schedule)) (other : Options) → other.ids ≡ step.options.ids →
       IsReadAgain (printed print.Policy i choices) (environment_of other (lines_in w.script_text)) (policies_behind i choices)
   read_under w other ids =
@@ -101,7 +101,7 @@ module _ (written : WrittenIsReadAgain) (held : Held) (step : StepWords) (i : In
 
   module _ (permits : WrittenPermits) (name : Word) (holds : held name ≡ FileBytes (printed print.Policy i choices)) (again : StepWords) (script_is : again.script ≡ step.script) (alone : again.policies ≡ name ∷ [])
       (ids : again.options.ids ≡ step.options.ids) where
-    -- these policies were read, with the names of this script
+    -- these policies were read, with the environment of this script
     same_policies : (other : Input) (x : IsReadAlone held again name other) → x.policies ≡ policies_behind i choices
     same_policies other x =
         let w = was_read held step bytes i schedule meant in

@@ -1,4 +1,4 @@
--- A filter that doesn't ask is one whether filters are learnt or not.
+-- A filter that doesn't ask is read as the same filter whether filters are learnt or not.
 use Rattle.std.proofs.Common.{◌≡◌, ◌≢◌, ◌∙◌, ℕ, Bool, List, Option, Some, None, Ok, Err, refl, ap, sym, subst}
 use Rattle.std.proofs.lemmas.Option.{same_Some}
 use Rattle.st_filter.specs.Formula.{Formula, FilterValue, Level}
@@ -18,7 +18,7 @@ use Rattle.st_grammar.specs.declared.env.Env.{Env}
 use Rattle.st_grammar.specs.declared.env.NamedId.{NamedId}
 use Rattle.st_script_faults.specs.Faults.{answer_of, unless_ask}
 
--- ---- the laws that this stands on
+-- ---- the laws that this proof uses
 
 abbrev pub IsSound : Type 0
 IsSound = (text : List ℕ) (env : Env) (f : FilterValue) → filter_in text env ≡ Ok f → ReadsFilter text env f
@@ -38,14 +38,14 @@ filter_kept f Permit unasked = refl
 filter_kept f (Deny errno) unasked = refl
 filter_kept f Ask unasked = absurd (unasked refl)
 
--- two that have the same values are one
+-- two options that have the same values are equal
 one_option : {A : Type 0} (o p : Option A) → ((x : A) → o ≡ Some x → p ≡ Some x) → ((x : A) → p ≡ Some x → o ≡ Some x) → o ≡ p
 one_option (Some x) p there back = sym (there x refl)
 one_option None (Some x) there back = back x refl
 one_option None None there back = refl
 
 module _ (users groups : List NamedId) (dollars : Dollars) (elevate : Bool) where
-  -- what filters are read with, whether they are learnt or not
+  -- the environment of filters, whether they are learnt or not
   abbrev pub env_with : Bool → Env
   env_with learn = record { users = users; groups = groups; dollars = dollars; elevate = elevate; learn = learn }
 
@@ -122,7 +122,7 @@ module _ (users groups : List NamedId) (dollars : Dollars) (elevate : Bool) wher
           let read : filter_in text (env_with b) ≡ Ok g = complete text (env_with b) g (text_so text g kept.1 (sound text (env_with a) g is)) in
           ap answer_of read ∙ (filter_kept g g.action kept.1 ∙ ap Some kept.0)
 
-  -- what a text answers doesn't rest on whether filters are learnt
+  -- the answer of a text doesn't depend on whether filters are learnt
   pub same_answer : IsSound → IsComplete → (a b : Bool) (text : List ℕ) → answer_of (filter_in text (env_with a)) ≡ answer_of (filter_in text (env_with b))
   same_answer sound complete a b text =
       one_option (answer_of (filter_in text (env_with a))) (answer_of (filter_in text (env_with b)))

@@ -1,5 +1,5 @@
--- What the text of a script gives under other options with the same ids: the same start and the same replies, and for policies the same
--- names and texts, whether filters are learnt or not.
+-- What the text of a script gives under other options with the same ids: the same start and the same replies, and the same environment for
+-- policies, whether filters are learnt or not.
 use Rattle.std.proofs.Common.{◌≡◌, ◌∙◌, ◌==◌, ◌⊎◌, inl, inr, ℕ, Bool, true, false, not, if◌then◌else◌, List, [], ◌∷◌, Option, Some, None, find, is_some, map, Ok, refl, ap, sym}
 use Rattle.std.specs.List.{cons_option, filter_map}
 use Rattle.st_filter.specs.declared.set.Reply.{Reply}
@@ -30,7 +30,7 @@ use Rattle.st_trace.specs.declared.start.UserRow.{UserRow}
 use Rattle.st_round_trip.specs.RoundTrip.{enforcing}
 use Rattle.st_round_trip.proofs.OtherFilters.{IsComplete, IsSound, env_with, same_answer}
 
--- ---- what policies are read with
+-- ---- the environment that policies are read with
 
 pub env_is : (text : List ℕ) (options : Options) (script : ReadScript) → script_in text options ≡ Ok script → script.env ≡ environment_of options (lines_in text)
 env_is text options script is = read_has (λ (other : ReadScript). other.env ≡ environment_of options (lines_in text)) text options (λ uncut none. refl) script is
@@ -43,7 +43,7 @@ module _ (options other : Options) (ids : other.ids ≡ options.ids) (lines : Li
   same_dollars users None = refl
   same_dollars users (Some process) = ap (λ (uid : ℕ). dollars_by uid process.cwd (find (λ user. user.uid == uid) users)) (same_user process)
 
-  -- the names and texts that these lines give, whether filters are learnt or not
+  -- the environment that these lines give, whether filters are learnt or not
   abbrev env_for : Bool → Env
   env_for learn = env_with (map user_id (users_below [] lines)) (map group_id (groups_below [] lines)) (dollars_of options (users_below [] lines) (first_traced [] lines)) (is_some options.ids) learn
 
@@ -55,7 +55,7 @@ module _ (options other : Options) (ids : other.ids ≡ options.ids) (lines : Li
       ap (λ (d : Dollars). env_with users groups d (is_some other.ids) (learns other.mode)) (same_dollars (users_below [] lines) (first_traced [] lines))
       ∙ (ap (λ (o : Option (ℕ × ℕ)). env_with users groups dollars (is_some o) (learns other.mode)) ids ∙ ap env_for is)
 
-  -- filters are learnt again, or they aren't
+  -- filters are learnt under the other options too, or they aren't
   pub env_by : options.mode ≡ Learn → (m : Mode) → other.mode ≡ m →
       (environment_of other lines ≡ environment_of options lines) ⊎ (environment_of other lines ≡ enforcing (environment_of options lines))
   env_by learning Learn is = inl (same_env true (ap learns is) ∙ sym (ap env_for (ap learns learning)))
@@ -140,7 +140,7 @@ module _ (sound : IsSound) (complete : IsComplete) (options other : Options) (id
       ap (λ (o : Option ScriptFault). unless_faulty o (script_with (environment_of other lines) lines)) (no_fault broken uncut none)
       ∙ ap (λ (replies : List Reply). Ok (record { start = start_of lines; env = environment_of other lines; replies = replies })) other_replies
 
--- what is read of a text under some options is read of it under others with the same ids
+-- a script that is read from a text under some options is read under others with the same ids
 pub script_so : IsSound → IsComplete → (text : List ℕ) (options other : Options) → other.ids ≡ options.ids → (script : ReadScript) → script_in text options ≡ Ok script →
     script_in text other ≡ Ok (record { start = script.start; env = environment_of other (lines_in text); replies = script.replies })
 script_so sound complete text options other ids script is =

@@ -27,7 +27,7 @@ use Rattle.st_trace.specs.declared.entry.Choice.{Choice}
 use Rattle.st_round_trip.specs.RoundTrip.{Plays, with_schedule}
 use Rattle.st_round_trip.proofs.ReadAgain.{AreRunnable}
 
--- ---- what is read before the schedule stays
+-- ---- what is read before the schedule is the same
 
 module _ (held : Held) (i : Input) (before later : ReadSchedule) where
   file_again : (h : FileView) (w : Which) (Read Other : List ℕ → Type 0) → ((text : List ℕ) → Read text → Other text) → Fetches h w Read (Runs i before) → Fetches h w Other (Runs i later)
@@ -81,7 +81,7 @@ module _ (held : Held) (step : StepWords) (i : Input) (before : ReadSchedule) (n
       (λ policies. schedule_again script policies)))
       meant
 
--- what is printed of choices that were played plays them again
+-- the schedule that is printed of choices that were played is played as the same choices
 abbrev pub PlayAgain : Type 0
 PlayAgain = (input : Input) → IsStartable input → (schedule : ReadSchedule) (choices : List Choice) → played input schedule ≡ Choices choices → played input (schedule_in (printed print.Schedule input choices)) ≡ Choices choices
 

@@ -1,4 +1,4 @@
--- What `step` has written of a run that learns is read again.
+-- The policies that `step` has written of a run that learns are read again.
 use Rattle.std.proofs.Common.{◌≡◌, ◌↔◌, ◌≤◌, ◌∙◌, ℕ, List, [], ◌∷◌, Option, Some, None, Ok, refl, reverse, ap, sym, subst}
 use Rattle.std.proofs.lemmas.List.Elements.{All-weaker}
 use Rattle.std.specs.List.{All}
@@ -44,7 +44,7 @@ use Rattle.st_trace.specs.declared.entry.Choice.{Choice}
 use Rattle.st_round_trip.specs.RoundTrip.{HoldsBytes, HoldBytes, IsReadAgain, IsScriptOf, enforcing}
 use Rattle.st_top.specs.Learning.{policies_behind}
 
--- ---- what can be written while filters are learnt can be written while they aren't
+-- ---- policies that can be written while filters are learnt can be written while they aren't
 
 action_enforced : (env : Env) (a : Action) → IsWritableAction env a → IsWritableAction (enforcing env) a
 action_enforced env Permit w = tt
@@ -72,7 +72,7 @@ policy_enforced env p w = record { binary = w.binary; filters = All-weaker (IsWr
 enforced_writable : (env : Env) (set : List BinaryPolicy) → AreWritable env set → AreWritable (enforcing env) set
 enforced_writable env set w = record { each = All-weaker (IsWritablePolicy env) (IsWritablePolicy (enforcing env)) (policy_enforced env) set w.each; new = w.new; few = w.few }
 
--- ---- files that are told
+-- ---- files that are known
 
 pub held_bytes : (h : FileView) (text : List ℕ) → HoldsBytes h → CanHold h text → AreTextBytes text
 held_bytes Unknown text bytes there = absurd bytes
@@ -84,7 +84,7 @@ held_once Unknown a b bytes here there = absurd bytes
 held_once Absent a b bytes here there = absurd here
 held_once (FileBytes content) a b bytes here there = here ∙ sym there
 
--- ---- the laws that this stands on
+-- ---- the laws that this proof uses
 
 abbrev pub AreRunnable : Type 0
 AreRunnable = (held : Held) (step : StepWords) (input : Input) (schedule : ReadSchedule) → Means held (Step step) (Runs input schedule) → IsRunnable step input
@@ -107,7 +107,7 @@ ReadsOnce = (text : List ℕ) (env : Env) (old a b : List BinaryPolicy) → Read
 
 -- ---- what `step` has read
 
--- policies of files of bytes were read from such
+-- policies of files that consist of bytes were read from texts of bytes
 read_kept : (held : Held) (names : List Word) → HoldBytes held names → AreKept WasRead held names
 read_kept held [] bytes = tt
 read_kept held (name ∷ names) bytes = (λ env text old set there reads was. Behind text old set (held_bytes (held name) text bytes.0 there) was reads, read_kept held names bytes.1)
@@ -116,7 +116,7 @@ module _ (held : Held) (step : StepWords) (bytes : HoldBytes held (step.script �
   pub was_read : (i : Input) (schedule : ReadSchedule) → Means held (Step step) (Runs i schedule) → IsStepRead WasRead held step (Runs i schedule)
   was_read i schedule meant = step_read WasRead (λ env. Nothing) held step (read_kept held step.policies bytes.1) (Runs i schedule) tt meant
 
-  -- there is one script
+  -- there is only one script
   pub one_script : (script other : ReadScript) → IsScriptOf held step script → IsScriptOf held step other → script ≡ other
   one_script script other a b =
       let same : a.text ≡ b.text = held_once (held step.script) a.text b.text bytes.0 a.there b.there in

@@ -16,13 +16,13 @@ use Rattle.st_script.specs.Reading.{script_in}
 use Rattle.st_script.specs.declared.reading.ReadScript.{ReadScript}
 use Rattle.st_trace.specs.declared.entry.Choice.{Choice}
 
--- it is told what a name holds, and a file is of bytes
+-- it is known what a name holds, and a file consists of bytes
 abbrev pub HoldsBytes : FileView → Type 0
 HoldsBytes Unknown = ⊥
 HoldsBytes Absent = Unit {0}
 HoldsBytes (FileBytes text) = AreTextBytes text
 
--- so with each of some names
+-- the same holds of each of some names
 abbrev pub HoldBytes : Held → List Word → Type 0
 HoldBytes held [] = Unit {0}
 HoldBytes held (name ∷ names) = HoldsBytes (held name) × HoldBytes held names
@@ -33,20 +33,20 @@ pub record IsScriptOf (held : Held) (step : StepWords) (script : ReadScript) : T
   pub there : CanHold (held step.script) text
   pub is : script_in text step.options ≡ Ok script
 
--- the names and texts that policies were read with, for filters that aren't learnt
+-- the environment that policies were read with, but for filters that aren't learnt
 abbrev pub enforcing : Env → Env
 enforcing env = record { users = env.users; groups = env.groups; dollars = env.dollars; elevate = env.elevate; learn = false }
 
--- a text is read alone as these policies, and as no others
+-- a text, read alone, gives these policies and no others
 pub record IsReadAgain (text : List ℕ) (env : Env) (policies : List BinaryPolicy) : Type 0 where
   pub reads : Reads text env [] policies
   pub alone : (other : List BinaryPolicy) → Reads text env [] other → other ≡ policies
 
--- the same words, but for the schedule, which is in this file
+-- the same words, except for the schedule, which is in this file
 abbrev pub with_schedule : StepWords → Word → StepWords
 with_schedule step name = record { policies = step.policies; script = step.script; schedule = name; options = step.options; print = step.print }
 
--- `step` means to run this input, by a schedule that comes to these choices
+-- `step` means to run this input, by a schedule that is played as these choices
 pub record Plays (held : Held) (step : StepWords) (input : Input) (choices : List Choice) : Type 0 where
   pub schedule : ReadSchedule
   pub meant : Means held (Step step) (Runs input schedule)

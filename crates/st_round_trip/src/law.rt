@@ -31,8 +31,8 @@ use st_relearn::law::{
 use st_reschedule::law::a_printed_schedule_is_read_again;
 use st_top::law::what_was_made_is_permitted_by_what_is_written;
 
-/// What `step` writes of a run that learns, where policies are asked for, is read again with what the script gives, while filters are
-/// learnt and while they aren't: as the policies behind the run, unless these have too many filters, and as no others.
+/// If `step` is asked for the policies of a run that learns, what it writes is read again with the script's environment, both while filters
+/// are learnt and while they aren't. It is read as the policies after the run, and as no others, unless these have too many filters.
 pub fn what_is_written_is_read_again()
     ensures { (held : Held) (step : StepWords) (input : Input) (schedule : ReadSchedule) → HoldBytes held (step.script ∷ step.policies) → IsWithinLimits (Step step) → step.options.mode ≡ Learn → Means held (Step step) (Runs input schedule) →
         (script : ReadScript) → IsScriptOf held step script → (choices : List Choice) → filters_in (policies_behind input choices) ≤ MOST_FILTERS →
@@ -46,8 +46,8 @@ pub fn what_is_written_is_read_again()
     reading_is_one();
 }
 
-/// Learnt, then enforced: where a name holds what `step` has written of a run that learnt, `step` under that policy alone, with the same
-/// script and the same ids, runs under policies that permit each held call that was made, under the ids that it was made under.
+/// Learnt, then enforced: if a name holds what `step` has written of a run that learnt, `step` with that policy alone, the same script and
+/// the same ids runs under policies that permit each held call that was made, under the ids that it was made under.
 pub fn what_was_learnt_is_enforced()
     ensures { (held : Held) (step : StepWords) (input : Input) (schedule : ReadSchedule) → HoldBytes held (step.script ∷ step.policies) → IsWithinLimits (Step step) → step.options.mode ≡ Learn → Means held (Step step) (Runs input schedule) →
         (choices : List Choice) → filters_in (policies_behind input choices) ≤ MOST_FILTERS → (name : Word) → held name ≡ FileBytes (printed print.Policy input choices) →
@@ -58,8 +58,9 @@ pub fn what_was_learnt_is_enforced()
     what_was_made_is_permitted_by_what_is_written();
 }
 
-/// What `step` writes of a run, where its schedule is asked for, makes the same run again: where a name holds that text, which isn't longer than a
-/// file may be, `step` with it as its schedule, and else the same words, means to run the same input, and its schedule comes to the same choices.
+/// If `step` is asked for the schedule of a run, what it writes makes the same run again. If a name holds that text, and the text isn't
+/// longer than a file may be, `step` with this schedule and otherwise the same words means to run the same input, and the schedule is
+/// played as the same choices.
 pub fn what_is_written_is_played_again()
     ensures { (held : Held) (step : StepWords) (input : Input) (schedule : ReadSchedule) → IsWithinLimits (Step step) → Means held (Step step) (Runs input schedule) → (choices : List Choice) → played input schedule ≡ Choices choices →
         (name : Word) → held name ≡ FileBytes (printed print.Schedule input choices) → length (printed print.Schedule input choices) ≤ FILE_LIMIT → Plays held (with_schedule step name) input choices }
@@ -68,9 +69,9 @@ pub fn what_is_written_is_played_again()
     a_printed_schedule_is_read_again();
 }
 
-/// What was learnt is not refused: where a name holds what `step` has written of a run that learnt, and that fits into a file, `step` under
-/// that policy alone, with the same script and the same ids, means a run of the same script under exactly the policies behind that run, by
-/// any schedule that can be fetched and with any other options.
+/// What was learnt is not refused: if a name holds what `step` has written of a run that learnt, and the text fits into a file, `step` with
+/// that policy alone, the same script and the same ids means a run of the same script under exactly the policies after that run, by any
+/// schedule that can be fetched and with any other options.
 pub fn what_was_learnt_can_be_enforced()
     ensures { (held : Held) (step : StepWords) (input : Input) (schedule : ReadSchedule) → HoldBytes held (step.script ∷ step.policies) → IsWithinLimits (Step step) → step.options.mode ≡ Learn → Means held (Step step) (Runs input schedule) →
         (choices : List Choice) → filters_in (policies_behind input choices) ≤ MOST_FILTERS → (name : Word) → held name ≡ FileBytes (printed print.Policy input choices) → length (printed print.Policy input choices) ≤ FILE_LIMIT →
