@@ -1,4 +1,4 @@
--- Messages that are posted and renewed: whose they are, and how many workers there are.
+-- Messages that are posted and renewed: which threads they are of, and how many workers there are.
 use native.Mathlib.Omega.{arith}
 use Rattle.std.proofs.Common.{◌≡◌, ◌<◌, ◌⊎◌, ℕ, ◌+◌, Bool, true, false, cond, List, [], ◌∷◌, ◌++◌, Option, Some, None, inl, inr, refl, subst}
 use Rattle.std.specs.Option.{option_map}
@@ -6,7 +6,7 @@ use Rattle.std.specs.Prelude.{find}
 use Rattle.st_messages.specs.Messages.{HeldCalls, calls_after_post, calls_after_renew, calls_after_renew_of, has_number, message_at, thread_at, waiting_message}
 use Rattle.st_messages.specs.declared.message.Message.{Message}
 
--- a thread has a message among some and one more: among those, or it is the one more's
+-- if a thread has a message after one more was added, it had one before, or the added message is its
 last_by : (b : Bool) (x : Message) (o p : Option Message) (t : ℕ) → ((option_map (λ (m : Message). m.tid) p ≡ Some t) → (option_map (λ (m : Message). m.tid) o ≡ Some t) ⊎ (t ≡ x.tid))
     → (y : Message) → option_map (λ (m : Message). m.tid) (cond b (Some y) p) ≡ Some t → (option_map (λ (m : Message). m.tid) (cond b (Some y) o) ≡ Some t) ⊎ (t ≡ x.tid)
 last_by true x o p t more y e = inl e
@@ -24,7 +24,7 @@ below : (t tid : ℕ) (P : Type 0) → (P → t < tid) → P ⊎ (t ≡ tid) →
 below t tid P f (inl p) = let less = f p in omega (arith, less)
 below t tid P f (inr e) = omega (arith, e)
 
--- threads below a number have messages, and the thread of this number gets one
+-- if only threads below a number have messages, and the thread of this number gets one, only threads up to it have messages
 pub posted : (calls new : HeldCalls) (tid : ℕ) → ((q t : ℕ) → thread_at calls q ≡ Some t → t < tid) → new ≡ calls_after_post calls tid → (q t : ℕ) → thread_at new q ≡ Some t → t < tid + 1
 posted calls new tid all is q t e = below t tid (thread_at calls q ≡ Some t) (all q t) (last calls.live (waiting_message calls.next tid) q t (subst (λ (c : HeldCalls). thread_at c q ≡ Some t) is e))
 

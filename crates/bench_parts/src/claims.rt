@@ -3,7 +3,7 @@ ghost use Rattle.std.specs.Prelude.{◌≡◌, ◌<◌, IfOk};
 use st_messages::Messages;
 use std::alloc::{AllocError, Global};
 
-// So many messages, of as many threads, that wait.
+// This many waiting messages, each of its own thread.
 #[tactic(auto, using(crate::proofs::Posted::posted))]
 fn waiting(alloc: Global, count: u32) -> Result<Messages, AllocError>
     requires { count < 100 }
@@ -16,7 +16,7 @@ fn waiting(alloc: Global, count: u32) -> Result<Messages, AllocError>
     Ok(messages)
 }
 
-// The sum of the numbers of 64 messages, each claimed.
+// The sum of the numbers of 64 messages, each of which is claimed.
 fn claim_all(mut messages: Messages) -> u64
     requires { messages.workers ≡ 1 }
 {
@@ -29,7 +29,7 @@ fn claim_all(mut messages: Messages) -> u64
     sum
 }
 
-/// The sum of the numbers that a worker claims, 64 at a time, so many times over.
+/// The sum of the numbers of 64 messages that a worker claims, this many times.
 pub fn claims(alloc: Global, count: u64) -> Result<u64, AllocError> {
     let mut sum: u64 = 0;
     for _ in 0..count {

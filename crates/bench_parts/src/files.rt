@@ -26,7 +26,7 @@ fn with_file(alloc: Global) -> Result<(Tree, Obj), AllocError>
     }
 }
 
-/// How many bytes were read, 4,096 so many times.
+/// The number of bytes read by reading 4,096 bytes this many times.
 pub fn reads(alloc: Global, count: u64) -> Result<u64, AllocError> {
     let (tree, obj) = with_file(alloc)?;
     let mut sum: u64 = 0;
@@ -37,7 +37,7 @@ pub fn reads(alloc: Global, count: u64) -> Result<u64, AllocError> {
     Ok(sum)
 }
 
-/// The size of a file that 4,096 bytes were written to, so many times.
+/// The size of a file after 4,096 bytes were written to it this many times.
 pub fn writes(alloc: Global, count: u64) -> Result<u64, AllocError> {
     let (mut tree, obj) = with_file(alloc)?;
     for _ in 0..count {

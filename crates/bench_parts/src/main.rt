@@ -1,4 +1,4 @@
-//! Does one thing a number of times with a proved part, so that its cost can be measured: `bench_parts KIND COUNT`.
+//! Measures the cost of proved parts: `bench_parts KIND COUNT` does one kind of work COUNT times.
 #![tactic(auto)]
 
 mod claims;
@@ -12,7 +12,7 @@ use std::env;
 use std::process::ExitCode;
 use std::rt::Env;
 
-// What a kind of work gives after so many times; none where the word names no kind.
+// The result of a kind of work done this many times; nothing if the word names no kind.
 fn work<R: AllocGlobal>(rt: &R, kind: &[u8], count: u64) -> Result<Option<u64>, AllocError> {
     let alloc = rt.alloc();
     if kind == b"look".as_slice() {

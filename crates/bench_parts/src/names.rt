@@ -20,7 +20,7 @@ fn directory() -> NewNode {
     }
 }
 
-// A tree of directories, one in the other, and the name of the innermost.
+// A tree of nested directories, and the name of the innermost.
 fn nested(alloc: Global) -> Result<(Tree, AbsName), AllocError> {
     let mut tree = Tree::new(alloc)?;
     let mut name = AbsName::root(alloc);
@@ -31,7 +31,7 @@ fn nested(alloc: Global) -> Result<(Tree, AbsName), AllocError> {
     Ok((tree, name))
 }
 
-/// How often a name of 16 components was seen, looked at so many times.
+/// How often a name of 16 components was seen, with this many looks.
 pub fn looks(alloc: Global, count: u64) -> Result<u64, AllocError> {
     let (tree, name) = nested(alloc)?;
     let mut seen: u64 = 0;
@@ -43,7 +43,7 @@ pub fn looks(alloc: Global, count: u64) -> Result<u64, AllocError> {
     Ok(seen)
 }
 
-/// How often a text of 16 components was resolved, walked so many times.
+/// How often a text of 16 components was resolved, with this many walks.
 pub fn walks(alloc: Global, count: u64) -> Result<u64, AllocError> {
     let (tree, _) = nested(alloc)?;
     let cwd = AbsName::root(alloc);

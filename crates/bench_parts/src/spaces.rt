@@ -1,7 +1,7 @@
 use st_memory::Spaces;
 use std::alloc::{AllocError, Global};
 
-/// The sum of the numbers of spaces that were copied from one, as fork(2) does, each given up at once.
+/// The sum of the numbers of spaces that were copied from one, as fork(2) does, each of which is given up at once.
 pub fn copies(alloc: Global, count: u64) -> Result<u64, AllocError> {
     let mut spaces = Spaces::new(alloc);
     let first = spaces.make(alloc)?;

@@ -1,4 +1,4 @@
--- What the end of a command says of its words, clause by clause.
+-- What the end of a command says of its words, one contract clause after the other.
 use Rattle.std.proofs.Common.{◌≡◌, ◌≢◌, ◌⊎◌, ℕ, inl, inr, List, ◌++◌, Option, Some, None, refl, sym, ◌∙◌, subst}
 use Rattle.std.proofs.lemmas.Option.{same_Some}
 use Rattle.st_outside.specs.Count.{HasRisen}
@@ -27,11 +27,11 @@ use Rattle.st_top.specs.declared.status.Status.TheVariants as status
 
 module _ (words : List Word) (held : Held) (c : Command) (faults faults_after : ℕ) (asked asked_after : List Word) (sink sink_after : ℕ) (old new : Option (List ℕ)) (end : Status)
     (spelled : command_in words ≡ Some c) (ends : Ends held c faults faults_after asked asked_after sink sink_after old new end) where
-  -- the end, as that of a status
+  -- the end of the command, given its status
   of : (other : Status) → end ≡ other → Ends held c faults faults_after asked asked_after sink sink_after old new other
   of other is = subst (Ends held c faults faults_after asked asked_after sink sink_after old new) is ends
 
-  -- words spell one command
+  -- words spell one command only
   same : (d : Command) → command_in words ≡ Some d → c ≡ d
   same d is = same_Some c d (sym spelled ∙ is)
 

@@ -1,4 +1,4 @@
--- What is written of a run that learns permits what the run has made.
+-- The policies that are written of a run that learns permit what the run has made.
 use Rattle.std.proofs.Common.{◌≡◌, ◌∷◌, ◌++◌, ℕ, List, Some, reverse, sym, subst}
 use Rattle.st_base.specs.declared.ids.Ids.{Ids}
 use Rattle.st_calls.specs.declared.argument.ArgText.{ArgText}
@@ -24,7 +24,7 @@ use Rattle.st_trace.specs.declared.entry.Entry.TheVariants.{Used}
 use Rattle.st_top.specs.Learning.{PermitsWhatWasMade, policies_behind}
 use Rattle.st_top.proofs.Preparing.{AllRunnable, can_run}
 
--- where no filter that was read asks, what a lawful history has made is permitted by what it has learnt
+-- if no filter that was read asks, the calls that a lawful history has made are permitted by what it has learnt
 abbrev pub LearntPermits : Type 0
 LearntPermits = (i : Input) → NoneAsks i.policies → (later earlier : History) (t q : ℕ) (call : SysCall) (regs : List ℕ) (args : List ArgText) (ids : Ids) (result : CallResult) (changes : List Change) →
     IsLawfulBack i (later ++ Used t (Some q) call regs args ids result changes ∷ earlier) →

@@ -1,4 +1,4 @@
--- What words come to is one thing, and the end of a command is what its words come to.
+-- Words have exactly one outcome, and a command ends with the outcome of its words.
 use Rattle.std.proofs.Common.{◌≡◌, ◌⊎◌, ℕ, inl, inr, false, List, Option, Some, None, refl, sym, ap, ◌∙◌, subst}
 use Rattle.st_outside.specs.Count.{HasRisen}
 use Rattle.st_outside.specs.Sink.{Appends}
@@ -24,7 +24,7 @@ play_goes_on : (print : Print) (i : Input) (o : ScheduleOutcome) → is_stop (ou
 play_goes_on print i (Choices choices) = refl
 play_goes_on print i (BadLine line) = refl
 
--- a command comes to a stop exactly where it means one
+-- the outcome of a command is a stop exactly when its meaning is one
 stops : (print : Print) (m : Meaning) → is_stop (outcome_of print m) ≡ meaning.is_stop m
 stops print (meaning.Stops w) = refl
 stops print (meaning.Refuses r) = refl
@@ -85,7 +85,7 @@ module _ (held : Held) (faults faults_after : ℕ) (asked asked_after : List Wor
       )
   settled c (status.TooLong w) x quiet sink_quiet = inr (meaning.Refuses (refusal.TooLong w), refl, x.0.0, refl)
 
-  -- so it ended as its words come to, unless memory was wanting
+  -- so the command ended with the outcome of its words, unless memory ran out
   pub ended_as : (c : Command) (end : Status) → Ends held c faults faults_after asked asked_after sink sink_after old new end → (HasRisen faults faults_after → ⊥) → (HasRisen sink sink_after → ⊥) →
       (words : List Word) → command_in words ≡ Some c → AreTold held (names_asked (command_in words)) → (outcome : Outcome) → is_stop outcome ≡ false → WordsComeTo words held outcome →
       (end ≡ status.NoMemory) ⊎ EndsAs outcome old new end
@@ -97,7 +97,7 @@ module _ (held : Held) (faults faults_after : ℕ) (asked asked_after : List Wor
           let one : outcome_of (print_of c) p.0 ≡ outcome = one_of held (Some c) (outcome_of (print_of c) p.0) outcome (subst (λ (o : Option Command). AreTold held (names_asked o)) spelled told) (stops (print_of c) p.0 ∙ p.1) go (p.0, p.2, refl) (subst (λ (o : Option Command). ComesTo held o outcome) spelled comes) in
           inr (subst (λ (o : Outcome). EndsAs o old new end) one p.3)
 
--- words that spell no command come to wrong usage, and that is the end
+-- the outcome of words that spell no command is wrong usage, and the call ends with it
 pub ended_unserved : (words : List Word) (held : Held) (old new : Option (List ℕ)) (outcome : Outcome) → command_in words ≡ None → WordsComeTo words held outcome → EndsAs outcome old new status.Usage
 ended_unserved words held old new outcome none comes =
     subst (λ (o : Outcome). EndsAs o old new status.Usage) (sym (subst (λ (o : Option Command). ComesTo held o outcome) none comes)) refl

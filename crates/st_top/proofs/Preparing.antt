@@ -1,4 +1,4 @@
--- What is ready before anything is written, by what was read and shown.
+-- What is prepared before anything is written, given what was read and printed.
 use native.Mathlib.Omega.{arith}
 use Rattle.std.proofs.Common.{◌≡◌, ℕ, inl, inr, List, Result, Ok, Err, sym, subst}
 use Rattle.st_law.specs.Inputs.{IsStartable}
@@ -28,9 +28,9 @@ use Rattle.st_top.specs.Outcome.{print_of, status_of}
 use Rattle.st_top.specs.declared.status.Status.{Status}
 use Rattle.st_top.specs.declared.status.Status.TheVariants as status
 
--- ---- what was refused
+-- ---- refusals
 
--- a refusal of the reader refuses
+-- a refusal of the reader is a refusal of the command
 pub refused_as : (held : Held) (c : Command) (faults faults_after : ℕ) (old new : List Word) (refused : Refusal) → reading.Refused held c faults faults_after old new refused → Refused held c faults faults_after old new (status_of refused)
 refused_as held c faults faults_after old new (refusal.Missing w) x = x
 refused_as held c faults faults_after old new (refusal.TooLong w) x = x
@@ -39,9 +39,9 @@ refused_as held c faults faults_after old new (refusal.Script fault) x = x
 refused_as held c faults faults_after old new (refusal.Policy n fault) x = x
 refused_as held c faults faults_after old new refusal.NoMemory x = inl x
 
--- ---- what can be run
+-- ---- inputs that can be run
 
--- what the kernel asks of an input
+-- what the kernel requires of an input
 pub record CanRun (i : Input) : Type 0 where
   pub startable : IsStartable i
   pub system : CanStart i
@@ -49,7 +49,7 @@ pub record CanRun (i : Input) : Type 0 where
   pub ungranted : SetIdsUngranted i.policies
   pub replies : RepliesUngranted i.replies
 
--- what `step` means to run can be run
+-- the law that what `step` means to run can be run
 abbrev pub AllRunnable : Type 0
 AllRunnable = (held : Held) (step : StepWords) (i : Input) (schedule : ReadSchedule) → Means held (Step step) (Runs i schedule) → IsRunnable step i
 
@@ -78,7 +78,7 @@ pub can_run : AllRunnable → (held : Held) (c : Command) (i : Input) (schedule 
 can_run runnable held (Step step) i schedule limits meant = runs_of_step runnable held step i schedule limits meant
 can_run runnable held (Check check) i schedule limits meant = absurd (check_runs_nothing held check check.script i schedule meant)
 
--- ---- what was read
+-- ---- commands that were read
 
 -- a command was read to be run
 module _ (held : Held) (c : Command) (old new : List Word) (read : Reading) (meant : Means held c (as_meaning read) × AskedTo c (last_file c) old new) (i : Input) (schedule : ReadSchedule) (is : read ≡ reading_is.Run i schedule) where
@@ -88,10 +88,10 @@ module _ (held : Held) (c : Command) (old new : List Word) (read : Reading) (mea
   pub ready : AllRunnable → IsWithinLimits c → CanRun i
   ready runnable limits = can_run runnable held c i schedule limits run_meant
 
--- ---- what is ready
+-- ---- what is prepared
 
 module _ (held : Held) (faults faults_after : ℕ) (old new : List Word) where
-  -- what is shown of the run that is meant
+  -- the text that is printed of the run that is meant
   shown_of_step : (step : StepWords) (i : Input) (schedule : ReadSchedule) → IsStartable i → Means held (Step step) (Runs i schedule) → AskedTo (Step step) (last_file (Step step)) old new →
       (result : Result (List ℕ) Status) → RunShown step.print i schedule result → Prepares held (Step step) faults faults_after old new result
   shown_of_step step i schedule startable meant asked (Ok text) x =
@@ -112,7 +112,7 @@ module _ (held : Held) (faults faults_after : ℕ) (old new : List Word) where
   shown_ready (Step step) i schedule startable meant asked result x = shown_of_step step i schedule startable meant asked result x
   shown_ready (Check check) i schedule startable meant asked result x = absurd (check_runs_nothing held check check.script i schedule meant)
 
-  -- a text of no run
+  -- a text without a run
   pub printed_ready : (c : Command) (text : List ℕ) → Means held c (Prints text) → AskedTo c (last_file c) old new → Prepares held c faults faults_after old new (Ok text)
   printed_ready (Step step) text meant asked = absurd (step_prints_nothing held step text meant)
   printed_ready (Check check) text meant asked = (meant, asked)

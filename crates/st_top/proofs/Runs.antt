@@ -1,4 +1,4 @@
--- What is shown of a run, by how its schedule was played.
+-- What is printed of a run, by how its schedule was played.
 use Rattle.std.proofs.Common.{◌≡◌, ◌∙◌, ℕ, List, [], Result, Ok, Err, refl, ap, sym, subst}
 use Rattle.std.specs.Result.{IsErr, IsErrAnd}
 use Rattle.st_law.specs.Inputs.{IsStartable}
@@ -23,7 +23,7 @@ module _ (print : Print) (schedule : ReadSchedule) (course : Course) (choices : 
   abbrev i : Input
   i = course.input
 
-  -- what the lines come to from the first state on is what the schedule does
+  -- playing the lines from the first state on is playing the schedule
   from_first : lines_played schedule.lines schedule.bad i (standing course) ≡ played i schedule
   from_first = ap (λ (made : List Choice). lines_played schedule.lines schedule.bad i (standing (record { input = i; choices = made }))) choices
 
@@ -33,20 +33,20 @@ module _ (print : Print) (schedule : ReadSchedule) (course : Course) (choices : 
   refused (play.BadLine line) bad (Err s) failed same = subst (λ (end : Status). RunShown print i schedule (Err end)) (sym same) (sym from_first ∙ bad line refl)
   refused play.NoMemory bad (Err s) failed same = subst (λ (end : Status). RunShown print i schedule (Err end)) (sym same) tt
 
-  -- what holds of no entries holds of those before the first choice
+  -- a property of the empty trace holds of the entries before the first choice
   pub none_yet : (P : Input → List Entry → Type 0) → P i [] → P i (trace_of course)
   none_yet P x = subst (λ (made : List Choice). P i (run i made)) (sym choices) x
 
-  -- the text that is asked for is shown
+  -- the text that is asked for is printed
   pub shown : (new : Course) (text : List ℕ) → new.input ≡ i → lines_played schedule.lines schedule.bad i (standing course) ≡ Choices new.choices → text ≡ printed print new.input new.choices → RunShown print i schedule (Ok text)
   shown new text same played_to is = (new.choices, sym from_first ∙ played_to, is ∙ ap (λ (j : Input). printed print j new.choices) same)
 
--- where memory runs out, there is nothing more to say
+-- if memory runs out, nothing more is required
 pub out_of_memory : (print : Print) (i : Input) (schedule : ReadSchedule) (result : Result (List ℕ) Status) → IsErr result → IsErrAnd result (λ s. s ≡ NoMemory) → RunShown print i schedule result
 out_of_memory print i schedule (Ok text) failed same = cc
 out_of_memory print i schedule (Err s) failed same = subst (λ (end : Status). RunShown print i schedule (Err end)) (sym same) tt
 
--- a run goes on under the input that it started with, and is lawful
+-- a run keeps the input that it started with, and is lawful
 pub starts_so : (i : Input) (new : Course) → new.input ≡ i → IsStartable i → IsStartable new.input
 starts_so i new same startable = subst IsStartable (sym same) startable
 

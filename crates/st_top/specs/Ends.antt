@@ -1,4 +1,4 @@
--- How a call of the program ends, against what its words and files come to.
+-- How a call of the program ends, compared with what its words and files mean.
 use Rattle.std.specs.Prelude.{◌≡◌, ◌⊎◌, ℕ, List, [], Option, Some, None, Result, Ok, Err}
 use Rattle.st_outside.specs.Count.{HasRisen}
 use Rattle.st_outside.specs.Sink.{Appends, AppendsFront}
@@ -27,7 +27,7 @@ use Rattle.st_top.specs.declared.status.Status.TheVariants.{Done, Missing, Usage
 
 -- ---- what is written
 
--- a text is the one that is asked for of the run that `step` and its files mean, and the run is lawful
+-- a text is what `step` and its files ask to be printed of the run that they mean, and the run is lawful
 pub record IsOfRun (held : Held) (step : StepWords) (text : List ℕ) : Type 0 where
   pub input : Input
   pub schedule : ReadSchedule
@@ -37,14 +37,14 @@ pub record IsOfRun (held : Held) (step : StepWords) (text : List ℕ) : Type 0 w
   pub lawful : Lawful input (run input choices)
   pub text_is : text ≡ printed step.print input choices
 
--- a text is what a command and its files mean to be written
+-- a text is what a command and its files ask to be written
 abbrev pub IsMeant : Held → Command → List ℕ → Type 0
 IsMeant held (command.Step step) text = IsOfRun held step text
 IsMeant held (command.Check check) text = Means held (command.Check check) (Prints text)
 
--- ---- what refuses
+-- ---- what is refused
 
--- a line of the schedule is bad: the schedule of the run that is meant comes to it
+-- a line of the schedule is bad: the schedule of the run that is meant can be played only up to it
 pub record HasBadLine (held : Held) (c : Command) (line : ℕ) : Type 0 where
   pub input : Input
   pub schedule : ReadSchedule
@@ -57,12 +57,12 @@ pub record MeansRun (held : Held) (c : Command) : Type 0 where
   pub schedule : ReadSchedule
   pub meant : Means held c (Runs input schedule)
 
--- memory was wanting while the command was read, or for the run that it and its files mean, once all of them were asked for
+-- memory ran out while the command was read, or for the run that it and its files mean, after all its files were asked for
 abbrev pub WantsMemory : Held → Command → List Word → List Word → Type 0
 WantsMemory held c old new = reading.WantsMemory held c old new ⊎ (MeansRun held c × AskedTo c (last_file c) old new)
 
--- before anything is written: a status is meant, and the names up to the file that it is of were asked for; or a file that is come to
--- can't be read and the count of faults rose; or memory is wanting
+-- before anything is written: the status is what the command means, and the names up to the file of the status were asked for; or a file
+-- that was reached couldn't be read and the count of faults rose; or memory ran out
 abbrev pub Refused : Held → Command → ℕ → ℕ → List Word → List Word → Status → Type 0
 Refused held c faults faults_after old new (Missing w) = Means held c (Refuses (refusal.Missing w)) × AskedTo c w old new
 Refused held c faults faults_after old new (TooLong w) = Means held c (Refuses (refusal.TooLong w)) × AskedTo c w old new
@@ -75,14 +75,15 @@ Refused held c faults faults_after old new Usage = ⊥
 Refused held c faults faults_after old new Done = ⊥
 Refused held c faults faults_after old new WriteFault = ⊥
 
--- what is ready before anything is written: a text that is meant, all names asked for, or a status that refuses
+-- what is prepared before anything is written: the text that is meant, with all names asked for, or the status of a refusal
 abbrev pub Prepares : Held → Command → ℕ → ℕ → List Word → List Word → Result (List ℕ) Status → Type 0
 Prepares held c faults faults_after old new (Ok text) = IsMeant held c text × AskedTo c (last_file c) old new
 Prepares held c faults faults_after old new (Err status) = Refused held c faults faults_after old new status
 
 -- ---- how a command ends
 
--- a text that is meant was written, all of it, or a front of it where writing failed; or a status refuses and nothing was written
+-- the text that is meant was written: all of it, or a front of it if writing failed; or a status refuses the command and nothing was
+-- written
 abbrev pub Ends : Held → Command → ℕ → ℕ → List Word → List Word → ℕ → ℕ → Option (List ℕ) → Option (List ℕ) → Status → Type 0
 Ends held c faults faults_after asked asked_after sink sink_after old new Done =
     ((text : List ℕ) × IsMeant held c text × Appends old new text) × AskedTo c (last_file c) asked asked_after
@@ -92,7 +93,7 @@ Ends held c faults faults_after asked asked_after sink sink_after old new status
 
 -- ---- runs
 
--- what is shown of the run by a schedule, or why there is no run
+-- what is printed of the run by a schedule, or why there is no run
 abbrev pub RunShown : Print → Input → ReadSchedule → Result (List ℕ) Status → Type 0
 RunShown print i schedule (Ok text) = (choices : List Choice) × (played i schedule ≡ Choices choices) × (text ≡ printed print i choices)
 RunShown print i schedule (Err (Schedule line)) = played i schedule ≡ BadLine line
@@ -101,20 +102,20 @@ RunShown print i schedule (Err _) = ⊥
 
 -- ---- by the words
 
--- words spell a command, which with its files means this, and its names up to this file were asked for
+-- words spell a command that with its files has this meaning, and its names up to this file were asked for
 pub record Meets (words : List Word) (held : Held) (m : Meaning) (w : Which) (old new : List Word) : Type 0 where
   pub served : Command
   pub spelled : command_in words ≡ Some served
   pub meant : Means held served m
   pub asked : AskedTo served w old new
 
--- a text is what words and files mean to be written
+-- a text is what words and files ask to be written
 pub record IsMeantBy (words : List Word) (held : Held) (text : List ℕ) : Type 0 where
   pub served : Command
   pub spelled : command_in words ≡ Some served
   pub meant : IsMeant held served text
 
--- memory was wanting: before any file was asked for, or for a command
+-- memory ran out before any file was asked for, or for a command
 abbrev pub WantsMemoryFor : Held → Option Command → List Word → List Word → Type 0
 WantsMemoryFor held None old new = new ≡ old
 WantsMemoryFor held (Some c) old new = WantsMemory held c old new
@@ -124,7 +125,7 @@ abbrev pub names_asked : Option Command → List Word
 names_asked None = []
 names_asked (Some c) = names_of c
 
--- the status is that of the outcome, and the outcome's text was written; of a stop nothing is said here
+-- the status is that of the outcome, and the outcome's text was written; a stop is left open
 abbrev pub EndsAs : Outcome → Option (List ℕ) → Option (List ℕ) → Status → Type 0
 EndsAs (outcome.Stops w) old new status = Unit {0}
 EndsAs (outcome.Refuses refused) old new status = status ≡ refused

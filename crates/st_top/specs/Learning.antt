@@ -1,4 +1,4 @@
--- What is written of a run that learns permits what the run has made.
+-- The policies that are written of a run that learns permit what the run has made.
 use Rattle.std.specs.Prelude.{◌≡◌, ℕ, List, ◌∷◌, ◌++◌, Some, reverse}
 use Rattle.st_base.specs.declared.ids.Ids.{Ids}
 use Rattle.st_calls.specs.declared.argument.ArgText.{ArgText}
@@ -15,7 +15,7 @@ use Rattle.st_law.specs.Threads.{History}
 use Rattle.st_learn.specs.Learnt.{learnt_policies}
 use Rattle.st_learn.specs.Permitted.{IsPermittedBy}
 
--- the policies behind the run by these choices: those that were read, with what the run has added
+-- the policies after the run by these choices: those that were read, with what the run has added
 abbrev pub policies_behind : Input → List Choice → List BinaryPolicy
 policies_behind i choices = learnt_policies i.policies (session_at i (reverse (run i choices)))
 

@@ -2,7 +2,7 @@ use Rattle.std.specs.Prelude.{ℕ}
 use Rattle.st_top.specs.declared.status.Status.{Status}
 use Rattle.st_top.specs.declared.status.Status.TheVariants.{Done, Missing, Usage, Policy, Script, ReadFault, WriteFault, NoMemory, Schedule, TooLong}
 
--- the number with which the program ends
+-- the exit status of the program, as a number
 abbrev pub number_of_status : Status → ℕ
 number_of_status Done = 0
 number_of_status (Missing which) = 1

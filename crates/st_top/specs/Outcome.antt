@@ -1,4 +1,4 @@
--- What words and files come to: a refusal, or a text that is written.
+-- The outcome of words and files: a refusal, or a text that is written.
 use Rattle.std.specs.Prelude.{◌≡◌, ℕ, Bool, true, false, List, Option, Some, None}
 use Rattle.st_trace.specs.declared.entry.Choice.{Choice}
 use Rattle.st_law.specs.declared.input.Input.{Input}
@@ -56,35 +56,35 @@ print_of (command.Check check) = print.Audit
 
 -- ---- outcomes
 
--- what a call of the program comes to: it stops at a file that can't be read, it refuses, or it writes a text
+-- the outcome of a call of the program: a stop at a file that can't be read, a refusal, or a text to be written
 pub data Outcome : Type 0 where
   Stops : Which → Outcome
   Refuses : Status → Outcome
   Writes : List ℕ → Outcome
 
--- whether an outcome is a stop, which any file that is come to can cause
+-- whether an outcome is a stop, which any file that is reached can cause
 abbrev pub is_stop : Outcome → Bool
 is_stop (Stops which) = true
 is_stop (Refuses status) = false
 is_stop (Writes text) = false
 
--- a schedule that is played has the text of its run written; one with a bad line is refused
+-- the text of the run of a schedule that can be played, or the refusal of a schedule with a bad line
 abbrev pub outcome_of_play : Print → Input → ScheduleOutcome → Outcome
 outcome_of_play print i (Choices choices) = Writes (printed print i choices)
 outcome_of_play print i (BadLine line) = Refuses (Schedule line)
 
--- what a command comes to, by what it and its files mean
+-- the outcome of a command, by what it and its files mean
 abbrev pub outcome_of : Print → Meaning → Outcome
 outcome_of print (meaning.Stops which) = Stops which
 outcome_of print (meaning.Refuses refusal) = Refuses (status_of refusal)
 outcome_of print (meaning.Runs i schedule) = outcome_of_play print i (played i schedule)
 outcome_of print (meaning.Prints text) = Writes text
 
--- what words come to, by the command that they spell: wrong usage where they spell none
+-- the outcome of words, by the command that they spell: wrong usage if they spell none
 abbrev pub ComesTo : Held → Option Command → Outcome → Type 0
 ComesTo held None outcome = outcome ≡ Refuses Usage
 ComesTo held (Some c) outcome = (m : Meaning) × Means held c m × (outcome ≡ outcome_of (print_of c) m)
 
--- what words come to over files of which this much is told
+-- the outcome of words over files of which this much is known
 abbrev pub WordsComeTo : List Word → Held → Outcome → Type 0
 WordsComeTo words held outcome = ComesTo held (command_in words) outcome

@@ -18,15 +18,15 @@ ghost use Rattle.st_trace.specs.declared.entry.Choice.{Choice};
 use st_learn::law::what_was_made_is_permitted_by_what_was_learnt;
 use st_reading::law::what_is_meant_to_run_can_run;
 
-/// Words over files that are told come to exactly one thing, beside the files at which reading may stop.
+/// Over known files words have exactly one outcome, besides the files at which reading may stop.
 pub fn words_come_to_one_thing()
     ensures some { (words : List Word) (held : Held) → AreTold held (names_asked (command_in words)) → (outcome : Outcome) × (is_stop outcome ≡ false) × WordsComeTo words held outcome }
     ensures one { (words : List Word) (held : Held) (a b : Outcome) → AreTold held (names_asked (command_in words)) → is_stop a ≡ false → is_stop b ≡ false →
         WordsComeTo words held a → WordsComeTo words held b → a ≡ b }
 {}
 
-/// Each held call that a run which learns has made is permitted, under the ids that it was made under, by the policies alone whose text
-/// `step` writes of the run where policies are asked for.
+/// Each held call that a run which learns has made is permitted, under the ids that it was made under, by the policies that `step` writes
+/// of the run if it is asked for them. These policies alone suffice.
 pub fn what_was_made_is_permitted_by_what_is_written()
     ensures written { (input : Input) (choices : List Choice) → printed print.Policy input choices ≡ canon (policies_behind input choices) }
     ensures permitted { (held : Held) (step : StepWords) (input : Input) (schedule : ReadSchedule) → IsWithinLimits (Step step) → step.options.mode ≡ Learn → Means held (Step step) (Runs input schedule) →

@@ -1,4 +1,4 @@
-//! The top call of the program: words, files and a sink in, one status out.
+//! The proved top call of the program, which takes words, files and a sink, and gives one status.
 #![tactic(auto)]
 
 pub mod law;

@@ -38,7 +38,7 @@ fn print_of(command: &Command<'_>) -> Print
     }
 }
 
-// What a command writes, or why it is refused.
+// The text that a command writes, or why the command is refused.
 fn prepare<F: Files>(alloc: Global, command: &Command<'_>, files: &mut F) -> Result<Text, Status>
     requires limits { IsWithinLimits command.now }
     ensures held { F.held files.new ≡ F.held files.old }
@@ -52,7 +52,7 @@ fn prepare<F: Files>(alloc: Global, command: &Command<'_>, files: &mut F) -> Res
     }
 }
 
-// Serves a command.
+// Runs a command, and writes its text.
 fn serve<F: Files, S: Sink>(
     alloc: Global,
     command: &Command<'_>,
@@ -74,16 +74,16 @@ fn serve<F: Files, S: Sink>(
     }
 }
 
-/// Serves the words of the command line, those behind the program's name: `step` or `check`, over these files, into this sink.
+/// Runs the command of the words after the program's name: `step` or `check`, with these files and this sink.
 ///
-/// The words are read first, then the script, then each policy file, then the schedule; the first that is refused decides.
+/// The words are read first, then the script, then each policy file, then the schedule. The first of them that is refused decides.
 pub fn systrace_plain<F: Files, S: Sink>(
     alloc: Global,
     words: &[Text],
     files: &mut F,
     out: &mut S,
 ) -> Status
-    // `step` writes what is asked for of the run that its words and files mean, and that run is lawful.
+    // `step` writes what its words ask for of the run that the words and files mean, and that run is lawful.
     ensures step { result ≡ Status.Done → (step : StepWords) → command_in words.now ≡ Some (Step step) →
         (input : Input) × (schedule : ReadSchedule) × (choices : List Choice) ×
         Means (F.held files.old) (Step step) (Runs input schedule) ×
@@ -94,11 +94,11 @@ pub fn systrace_plain<F: Files, S: Sink>(
     ensures check { result ≡ Status.Done → (check : CheckWords) → command_in words.now ≡ Some (Check check) →
         (text : List ℕ) × Means (F.held files.old) (Check check) (Prints text) × Appends (S.written out.old) (S.written out.new) text }
     ensures served { result ≡ Status.Done → command_in words.now ≢ None }
-    // Where a text was written, whole or not, all names of the command were asked for, in order.
+    // If a text was written, whole or in part, all names of the command were asked for, in order.
     ensures asked { (result ≡ Status.Done) ⊎ (result ≡ Status.WriteFault) → F.asked files.new ≡ F.asked files.old ++ names_asked (command_in words.now) }
 
-    // Each refusal is the one that is meant, and the names that were asked for are those up to the file that it is of: none where the
-    // words spell no command.
+    // Each refusal is what the words and files mean, and the names that were asked for are those up to the refused file: none if the words
+    // spell no command.
     ensures usage { result ≡ Status.Usage → (command_in words.now ≡ None) × (F.asked files.new ≡ F.asked files.old) }
     ensures missing { (w : Which) → result ≡ Status.Missing w → Meets words.now (F.held files.old) (Refuses (refusal.Missing w)) w (F.asked files.old) (F.asked files.new) }
     ensures too_long { (w : Which) → result ≡ Status.TooLong w → Meets words.now (F.held files.old) (Refuses (refusal.TooLong w)) w (F.asked files.old) (F.asked files.new) }
@@ -111,13 +111,13 @@ pub fn systrace_plain<F: Files, S: Sink>(
         ((text : List ℕ) × IsMeantBy words.now (F.held files.old) text × AppendsFront (S.written out.old) (S.written out.new) text) }
     ensures no_memory { result ≡ Status.NoMemory → WantsMemoryFor (F.held files.old) (command_in words.now) (F.asked files.old) (F.asked files.new) }
 
-    // All else stays: nothing is written unless all is done or writing fails, and no count rises without its fault.
+    // Nothing is written unless the call succeeds or writing fails, the files stay as they are, and no count rises without its fault.
     ensures unwritten { result ≢ Status.Done → result ≢ Status.WriteFault → S.written out.new ≡ S.written out.old }
     ensures held { F.held files.new ≡ F.held files.old }
     ensures quiet { result ≢ Status.ReadFault → F.faults files.new ≡ F.faults files.old }
     ensures sink_quiet { result ≢ Status.WriteFault → S.faults out.new ≡ S.faults out.old }
 
-    // Where each name of the words is told and no count rose, the answer is what the words come to, unless memory runs out.
+    // If each name of the words is known and no count rose, the answer is the outcome of the words, unless memory runs out.
     ensures complete { AreTold (F.held files.old) (names_asked (command_in words.now)) → (HasRisen (F.faults files.old) (F.faults files.new) → ⊥) → (HasRisen (S.faults out.old) (S.faults out.new) → ⊥) →
         (outcome : Outcome) → is_stop outcome ≡ false → WordsComeTo words.now (F.held files.old) outcome →
         (result ≡ Status.NoMemory) ⊎ EndsAs outcome (S.written out.old) (S.written out.new) result }

@@ -1,4 +1,4 @@
-// A run, and what is shown of it.
+// Plays a run, and prints what is asked for of it.
 ghost use Rattle.std.specs.Prelude.{◌≡◌, []};
 ghost use Rattle.st_command.specs.declared.given.Print.TheVariants as print;
 ghost use Rattle.st_law.specs.Inputs.{IsStartable};
@@ -50,7 +50,7 @@ fn schedule_of(
     Ok(repeats_text(alloc, kernel.schedule())?)
 }
 
-// The policies behind the run by a schedule.
+// The policies after the run by a schedule.
 fn policies_of(
     alloc: Global,
     kernel: &mut Kernel<'_>,
@@ -63,7 +63,7 @@ fn policies_of(
     Ok(policies_text(alloc, kernel.input(), kernel.session())?)
 }
 
-// The text that is asked for of the run by a schedule. It has the kernel by reference, so that the kernel is let go of in one place.
+// The text that is asked for of the run by a schedule. It borrows the kernel, so that the kernel is dropped in one place.
 fn text_of(
     alloc: Global,
     print: Print,
@@ -82,7 +82,7 @@ fn text_of(
     }
 }
 
-/// Plays a schedule, and gives the text that is asked for of its run.
+/// Plays a schedule, and prints what is asked for of its run.
 pub fn text_of_run(
     alloc: Global,
     print: Print,

@@ -12,7 +12,7 @@ use std::alloc::AllocError;
 pub enum Status {
     /// The whole text was written.
     Done,
-    /// No file of that name is held.
+    /// No file has that name.
     Missing(Which),
     /// The words spell no command.
     Usage,
@@ -32,7 +32,7 @@ pub enum Status {
 }
 
 impl Status {
-    /// The number with which the program ends.
+    /// The exit status of the program, as a number.
     pub fn number(self) -> u8
         ensures { result ≡ number_of_status self }
     {

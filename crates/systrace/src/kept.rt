@@ -1,4 +1,4 @@
-//! Files that keep what they gave, so that a refusal is told from the very bytes that were refused.
+//! Files that keep copies of what they gave, so that a refusal is reported from the very bytes that were refused.
 
 ghost use Rattle.std.specs.Prelude.{◌≡◌, ◌≢◌, ◌≤◌, [], ◌∷◌, ◌++◌, length, IfOk};
 ghost use Rattle.st_outside.specs.Count.{HasRisen};
@@ -58,7 +58,7 @@ impl<F: Files> Files for KeptFiles<F> {
         ensures quiet { result ≢ Err FetchFault.Failed → F.faults self.new.files ≡ F.faults self.old.files }
     {
         let text = self.files.fetch(alloc, name)?;
-        // A file that can't be kept for want of memory is read all the same; only why it is refused can't be told then.
+        // If memory runs out for the copy, the file is read all the same; only the reason of a refusal can't be reported then.
         let _ = keep(alloc, &mut self.kept, name, &text);
         Ok(text)
     }

@@ -1,4 +1,5 @@
-//! The command line over the top call: words in, what they ask for on standard output, a number out, and on standard error why not.
+//! The program `systrace`, which runs the top call on the words of the command line. It writes the text to standard output and the reason
+//! of a refusal to standard error, and ends with the status's number.
 #![tactic(auto)]
 
 ghost use Rattle.std.specs.Prelude.{◌≡◌};
@@ -29,7 +30,7 @@ fn words_of<R: Env + AllocGlobal>(rt: &R) -> io::Result<Vec<Text>> {
     Ok(words)
 }
 
-// How words end, and the files that were read for them.
+// The status of words, and copies of the files that were read for them.
 fn serve<R: Files + Print + AllocGlobal>(rt: &R, words: &[Text]) -> (Status, MemoryFiles) {
     let alloc = rt.alloc();
     match answer_of(words) {
@@ -46,7 +47,7 @@ fn serve<R: Files + Print + AllocGlobal>(rt: &R, words: &[Text]) -> (Status, Mem
     }
 }
 
-// Tells a person of a status. A failed write is ignored, since there is nobody else to tell.
+// Reports a status on standard error. A failed write is ignored, since there is no one else to report it to.
 fn tell(alloc: Global, err: &impl Print, status: Status, words: &[Text], files: &mut MemoryFiles) {
     let _ = match line_of(alloc, files, words, status) {
         Ok(mut line) => match line.push(b'\n') {
@@ -57,7 +58,7 @@ fn tell(alloc: Global, err: &impl Print, status: Status, words: &[Text], files: 
     };
 }
 
-// How the program ends with this status, over the files that were read.
+// Reports a status, with the files that were read, and gives the exit status of the program.
 fn end(
     alloc: Global,
     err: &impl Print,
@@ -82,7 +83,7 @@ fn main(rt: HostRuntime) -> ExitCode {
             end(alloc, &err, status, words.as_slice(), &mut files)
         }
         Err(error) => {
-            // A word that is no text is no word of a command.
+            // A word that isn't valid text is no word of a command.
             let status = match error.kind() {
                 io::ErrorKind::InvalidData => Status::Usage,
                 _ => Status::NoMemory,

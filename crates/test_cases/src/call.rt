@@ -5,7 +5,7 @@ use st_telling::line_of;
 use st_top::{Status, systrace_plain};
 use std::alloc::{AllocError, Global};
 
-/// How a call ends: its status, the same as a text, what it writes, and what is told of it.
+/// How a call ends: its status, the same as a text, what it writes, and the message that reports it.
 #[derive(Drop)]
 pub struct Ended {
     pub status: Status,
@@ -14,7 +14,7 @@ pub struct Ended {
     pub told: Text,
 }
 
-/// What is told of words that end with this status, where no file can be read.
+/// The message for words that end with this status, if no file can be read.
 pub fn tell_status(alloc: Global, words: &[Text], status: Status) -> Result<Text, AllocError> {
     let mut files = MemoryFiles::new(alloc);
     line_of(alloc, &mut files, words, status)
@@ -26,7 +26,7 @@ fn shown(alloc: Global, status: Status) -> Result<Text, AllocError> {
     Text::of(alloc, text.as_bytes())
 }
 
-// Lets a sink keep the limits of its writes.
+// Sets the limits of a sink's writes.
 fn limit(sink: &mut MemorySink, limits: Limits) -> Result<(), AllocError> {
     sink.short_at(limits.short)?;
     sink.fail_at(limits.fail)

@@ -2,7 +2,7 @@ use st_base::Text;
 use st_base::number::number_of;
 use std::alloc::{AllocError, Global};
 
-/// The number that digits write; 0 where they write none.
+/// The number that digits spell; 0 if they spell none.
 pub fn count_of(digits: &[u8]) -> u32 {
     match number_of(digits) {
         Some(number) if number <= u64::from(u32::MAX) => number as u32,
@@ -10,7 +10,7 @@ pub fn count_of(digits: &[u8]) -> u32 {
     }
 }
 
-/// The words that a line has, each after a blank.
+/// The words of a line, each after a blank.
 pub fn words_of(alloc: Global, line: &[u8]) -> Result<Vec<Text>, AllocError> {
     let mut words = Vec::new(alloc);
     for word in line.split(|byte| *byte == b' ').skip(1) {

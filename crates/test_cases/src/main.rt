@@ -1,4 +1,4 @@
-//! Tests: makes the calls of the tables that its words name, and writes what each comes to.
+//! Makes the calls of the tables that its words name, and writes the result of each.
 #![tactic(auto)]
 
 mod call;
@@ -21,7 +21,7 @@ fn serve_lines(table: &mut Table, text: &[u8]) -> Result<(), AllocError> {
     Ok(())
 }
 
-// Serves the table of this name; a line says so where it can't be read.
+// Serves the table of this name; if it can't be read, writes a line that says so.
 fn serve_table<R: rt::Files>(
     rt: &R,
     alloc: Global,
@@ -35,7 +35,7 @@ fn serve_table<R: rt::Files>(
     }
 }
 
-// What the calls of all tables come to.
+// The results of the calls of all tables.
 fn serve_tables<R: rt::Env + rt::Files + AllocGlobal>(rt: &R) -> Result<Table, AllocError> {
     let mut table = Table::new(rt.alloc());
     if let Ok(names) = env::args(rt) {

@@ -7,7 +7,7 @@ const REFUSAL: PolicyRefusal = PolicyRefusal {
     place: Place::Start,
 };
 
-// Why a file is refused, or isn't read.
+// The status of a file that is refused, or isn't read.
 fn status_of_file(number: u32) -> Status {
     match number {
         5 => Status::Missing(Which::Policy(1)),
@@ -21,7 +21,7 @@ fn status_of_file(number: u32) -> Status {
     }
 }
 
-/// The status of a number by which a table names it.
+/// The status that this number means in a table.
 pub fn status_of(number: u32) -> Status {
     match number {
         0 => Status::Done,

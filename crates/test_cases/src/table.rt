@@ -3,20 +3,20 @@
 //! | Byte | Rest |
 //! |---|---|
 //! | `#` | a remark |
-//! | `@` | nothing: no file is held any more, and no read or write fails |
-//! | `=` | a name: a file begins, which is held from the next call on |
+//! | `@` | nothing: all files are dropped, and no read or write fails any more |
+//! | `=` | a name: a file begins, which exists from the next call on |
 //! | `|` | a line of the file |
 //! | `.` | bytes of the file, without a newline |
-//! | `x` | how many times the next such line or bytes stand in the file |
+//! | `x` | how often the next such line or bytes are repeated in the file |
 //! | `f` | which fetch of a file fails |
 //! | `r`, `s`, `w` | how much room there is for what is written; which write takes one byte; which write fails |
 //! | `n` | the number of a status |
 //! | `$`, `&`, `?`, `!`, `^` | words, each after a blank: a call |
-//! | `:` | words that end with the status of the number, where no file can be read |
-//! | `a` | words that are answered or not |
+//! | `:` | words that end with the status of the number, if no file can be read |
+//! | `a` | words: whether they are answered, as `--help` and `--version` are |
 //!
-//! Of a call there is written, after its line: by `$` what it writes, the number that it ends with, and what is told; by `&` what it writes,
-//! and its status; by `?` what is told, by `!` the first line of this, and by `^` the other lines.
+//! What is written of a call, after its line: for `$` its output, the number that it ends with, and its message; for `&` its output, and
+//! its status; for `?` its message, for `!` the first line of the message, and for `^` the other lines.
 
 use crate::call::{Ended, call, tell_status};
 use crate::lines::{count_of, first_line, other_lines, words_of};
@@ -26,7 +26,7 @@ use st_outside::MemoryFiles;
 use st_telling::answer_of;
 use std::alloc::{AllocError, Global};
 
-/// What the lines have said so far, and what was written of them.
+/// The state of a table after the lines so far, and what was written of them.
 #[derive(Drop)]
 pub struct Table {
     alloc: Global,
@@ -39,7 +39,7 @@ pub struct Table {
     written: Text,
 }
 
-/// How much room there is for what a call writes, which of its writes takes one byte, and which fails; none is number 0.
+/// How much room there is for what a call writes, which of its writes takes one byte, and which fails; 0 means none.
 #[derive(Clone, Copy)]
 pub struct Limits {
     pub room: u32,
@@ -54,7 +54,7 @@ const AMPLE: Limits = Limits {
 };
 
 impl Table {
-    /// Before the first line.
+    /// The state before the first line.
     pub fn new(alloc: Global) -> Self {
         Table {
             alloc,
@@ -125,7 +125,7 @@ impl Table {
         }
     }
 
-    // Holds the file that has begun.
+    // Adds the file that has begun.
     fn hold(&mut self) -> Result<(), AllocError> {
         if self.name.is_empty() {
             return Ok(());
@@ -170,7 +170,7 @@ impl Table {
         }
     }
 
-    // Tells of the words where they end with the status of the number, and no file can be read.
+    // Writes the message for words that end with the status of the number, if no file can be read.
     fn tell(&mut self, words: &[Text]) -> Result<(), AllocError> {
         let status = status_of(self.number);
         self.write_number(status.number())?;
@@ -189,7 +189,7 @@ impl Table {
         self.show(mark, &ended)
     }
 
-    // Writes what a call has come to.
+    // Writes the result of a call.
     fn show(&mut self, mark: u8, ended: &Ended) -> Result<(), AllocError> {
         match mark {
             b'$' => {

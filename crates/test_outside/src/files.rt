@@ -5,15 +5,15 @@ use std::process::{self, Abort};
 use std::test::Fail;
 use std::{fs, rt};
 
-// A name, and what its fetch gives, by its length.
+// A name, and the result of its fetch, as a length.
 type Fetch<'a> = (&'a [u8], Result<usize, FetchFault>);
 
-// One letter over and over.
+// Bytes that are all one letter.
 fn repeated(alloc: Global, len: usize) -> Result<Vec<u8>, Fail> {
     Ok(vec![in alloc; b'x'; len]?)
 }
 
-// What a fetch gives, by its length.
+// The result of a fetch, as a length.
 fn fetched_len<F: Files>(
     files: &mut F,
     alloc: Global,
@@ -26,7 +26,7 @@ fn fetched_len<F: Files>(
     })
 }
 
-// Makes a fetch, and compares what it gives.
+// Makes a fetch, and compares its result.
 fn fetch_one(
     rt: &(impl Abort + AllocGlobal),
     files: &mut impl Files,
@@ -75,7 +75,7 @@ fn add_long(files: &mut MemoryFiles, alloc: Global, name: &[u8], len: usize) -> 
     add(files, alloc, name, &bytes)
 }
 
-// A file that is added twice, one that is as long as a fetch gives, and one that is longer.
+// Adds a file twice, one as long as the limit of a fetch, and one that is longer.
 fn fill(files: &mut MemoryFiles, alloc: Global) -> Result<(), Fail> {
     add(files, alloc, b"name", b"earlier")?;
     add_long(files, alloc, b"limit", 1_048_576)?;
@@ -83,7 +83,7 @@ fn fill(files: &mut MemoryFiles, alloc: Global) -> Result<(), Fail> {
     add(files, alloc, b"name", b"content")
 }
 
-// The second and the sixth fail.
+// The second and the sixth fetch fail.
 const FROM_MEMORY: [Fetch<'static>; 6] = [
     (b"name", Ok(7)),
     (b"name", Err(FetchFault::Failed)),
@@ -110,7 +110,7 @@ fn path_of(rt: &HostRuntime) -> Result<String, Fail> {
     Ok(format!(in rt.alloc(); "/tmp/st_outside_{}", process::id(rt.process()))?)
 }
 
-// Fetches a file of this length, which is written here.
+// Writes a file of this length, and fetches it.
 fn fetch_written(
     rt: &(impl Abort + AllocGlobal + rt::Files),
     path: &str,
@@ -122,7 +122,7 @@ fn fetch_written(
     fetch_one(rt, &mut StdFiles::new(rt), path.as_bytes(), gives)
 }
 
-// Fetches files that are written, and then none.
+// Fetches files that were written, then one that was removed.
 fn fetch_until_it_is_removed(
     rt: &(impl Abort + AllocGlobal + rt::Files),
     path: &str,

@@ -4,7 +4,7 @@ use std::process::Abort;
 use std::test::Fail;
 use std::{fs, io};
 
-// A piece, how much of it is taken, and the bytes after it.
+// A piece, how much of it is taken, and the sink's bytes afterwards.
 type Write = (&'static [u8], Result<usize, Failed>, &'static [u8]);
 
 // Whether these are the bytes of a sink.
@@ -21,7 +21,7 @@ fn write_pieces(rt: &impl Abort, sink: &mut MemorySink, writes: &[Write]) {
     }
 }
 
-// The second is short, the third fails, and for the fifth no room is left.
+// The second write is short, the third fails, and for the fifth there is no room left.
 const PIECES: [Write; 5] = [
     (b"abc", Ok(3), b"abc"),
     (b"de", Ok(1), b"abcd"),
@@ -40,7 +40,7 @@ fn writes_pieces_to_memory(rt: HostRuntime) -> Result<(), Fail> {
     Ok(())
 }
 
-// Writes a whole text, and compares what comes and the bytes after it.
+// Writes a whole text, and compares the result and the sink's bytes afterwards.
 fn write_whole(
     rt: &impl Abort,
     sink: &mut MemorySink,
@@ -81,7 +81,7 @@ impl Print for FullDisk<'_> {
     }
 }
 
-// A device that takes so many bytes at a time, and writes none.
+// A device that takes this many bytes at a time, and writes none.
 #[derive(Drop)]
 struct Slow(usize);
 
