@@ -343,8 +343,7 @@ kept_tokens (t ∷ ts) end text ys h i =
     let T : List ℕ → List SpelledToken = λ bytes. record { kind = t.kind; text = bytes } ∷ spelled_tokens (take end text ++ ys) ts in
     ap T (kept_token t end text ys h.0 i) ∙ ap (λ (more : List SpelledToken). spelled_token text t ∷ more) (kept_tokens ts end text ys h.1 i)
 
--- a text that is cut after one of its tokens, and continues with a blank and pieces, is read as the tokens up to the cut and then the
--- pieces
+-- a text that is cut after one of its tokens, and continues with a blank and pieces, is read as its tokens up to the cut, then the pieces
 pub cut_is_read : (text : List ℕ) (kept after : List Token) (pieces : List TextPiece) → (lexed_text text).tokens ≡ kept ++ after → StandWell pieces → IsReadAs (take (end_of 0 kept) text ++ print (Space ∷ pieces)) (spelled_tokens text kept ++ piece_tokens pieces)
 cut_is_read text kept after pieces e well =
     let c = cut_from (length text) 0 1 text kept after (print pieces) (omega arith) e in

@@ -128,8 +128,7 @@ pub data Tells (text : List ℕ) (env : Env) (old : List BinaryPolicy) (before b
 
 -- ---- the first fault
 
--- some text that is read begins with the tokens before the fault, none begins with the symbol at the fault as well, and this is the fault
--- of that symbol
+-- some text that is read begins with the tokens before the fault, none begins with the symbol there as well, and this is its fault
 pub record IsFirstFault (text : List ℕ) (env : Env) (old : List BinaryPolicy) (fault : PolicyFault) : Type 0 where
   pub before : List Token
   pub behind : List Token

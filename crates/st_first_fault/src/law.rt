@@ -41,8 +41,8 @@ pub fn what_is_a_filter_is_read()
     what_is_read_is_a_filter();
 }
 
-/// A text that is cut after one of its tokens, and continued with a blank and printed pieces, is read as its tokens up to the cut and then
-/// the pieces.
+/// A text that is cut after one of its tokens, and continued with a blank and printed pieces, is read as its tokens up to there, then the
+/// pieces.
 pub fn a_cut_text_keeps_its_tokens()
     ensures { (text : List ℕ) (before after : List spec.Token) (pieces : List Piece) → (lexed_text text).tokens ≡ before ++ after → StandWell pieces →
         IsReadAs (take (end_of 0 before) text ++ print (Space ∷ pieces)) (spelled_tokens text before ++ piece_tokens pieces) }

@@ -16,8 +16,8 @@ fn only(alloc: Global, name: &[u8]) -> Result<Sequence<NamedId>, AllocError>
     Ok(rows)
 }
 
-/// The environment that policies are read with if there is no script: the user `root` and the group `wheel`. With `elevate` filters may
-/// grant ids.
+/// The environment that policies are read with without a script: the user `root` and the group `wheel`. With `elevate` filters may grant
+/// ids.
 pub fn bare_env(alloc: Global, elevate: bool) -> Result<Env, AllocError>
     ensures { IfOk result (λ env. env ≡ bare_env elevate) }
 {

@@ -49,8 +49,7 @@ abbrev pub process_of : Option Statement → Option ScriptProcess
 process_of (Some (says.Process process)) = Some process
 process_of _ = None
 
--- whether a process is refused, given the processes above: its name is one of theirs, there are too many, or its binary or directory is too
--- long
+-- whether a process is refused, given the processes above: its name is taken, there are too many, or its binary or directory is too long
 abbrev pub is_refused : List Name → ScriptProcess → Bool
 is_refused known process =
     has_name known process.name || (nat_le MOST_PROCESSES (length known) || (is_long process.binary || is_long process.cwd))

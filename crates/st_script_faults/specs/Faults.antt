@@ -90,8 +90,7 @@ expects_other whole below (says.Thread name process) = not whole.is_cut && not (
 expects_other whole below (says.Reply binary filter) = not (is_some (reply_in whole.env binary filter))
 expects_other whole below _ = false
 
--- an object whose directory doesn't exist, a thread whose process doesn't exist, or, unless the script is cut off, a fork of a thread that
--- doesn't exist
+-- an object without its directory, a thread without its process, or, unless the script is cut off, a fork of a thread that doesn't exist
 abbrev pub is_unknown : Whole → Names → Statement → Bool
 is_unknown whole above (says.Object path new) = not (is_directory above.directories (directory_of path))
 is_unknown whole above (says.Thread name (Some process)) = not (has_name above.processes process)

@@ -157,8 +157,7 @@ fn expects_other(
     }
 }
 
-// An object whose directory doesn't exist, a thread whose process doesn't exist, or, unless the script is cut off, a fork of a thread that
-// doesn't exist.
+// An object without its directory, a thread without its process, or, unless the script is cut off, a fork of a thread that doesn't exist.
 fn is_unknown(whole: &Whole, above: &NamesAbove, statement: &Statement) -> bool
     ensures { result ≡ is_unknown whole.now above.now statement.now }
 {

@@ -82,8 +82,7 @@ Prepares held c faults faults_after old new (Err status) = Refused held c faults
 
 -- ---- how a command ends
 
--- the text that is meant was written: all of it, or a front of it if writing failed; or a status refuses the command and nothing was
--- written
+-- the text that is meant was written, all of it or, if writing failed, a front of it; or a status refuses and nothing was written
 abbrev pub Ends : Held → Command → ℕ → ℕ → List Word → List Word → ℕ → ℕ → Option (List ℕ) → Option (List ℕ) → Status → Type 0
 Ends held c faults faults_after asked asked_after sink sink_after old new Done =
     ((text : List ℕ) × IsMeant held c text × Appends old new text) × AskedTo c (last_file c) asked asked_after
