@@ -1,4 +1,4 @@
--- What is found among entries in the order of their keys, once one is put.
+-- Lookups in a list of entries sorted by key, after an insertion.
 use Rattle.std.proofs.Common.{◌≡◌, ap, refl, sym, ◌∙◌, subst, ℕ, ◌==◌, Bool, true, false, cond, List, [], ◌∷◌, Some, Option, arith}
 use Rattle.std.proofs.lemmas.Bool.{eq-eqb, ne_eqb}
 use Rattle.std.proofs.lemmas.Cmp.{alike_right, eq_by_cmp_equiv, nat_cmp_total, ranked}
@@ -32,7 +32,7 @@ module _ {K X : Type 0} {R : K → K → Ordering} (total : IsTotalOrder R) (k :
       let wrong : is_eq Greater ≡ true = sym (ap is_eq is) ∙ sym same ∙ here in
       cc)
 
-  -- the new value at its key, and what was found before at each other key
+  -- a lookup finds the new value at its key, and at every other key what it found before
   pub lookup-insert_entry : (q : K) (es : List (K × X)) → lookup (is_at (R q)) (insert_entry R es k v) ≡ cond (is_eq (R q k)) (Some v) (lookup (is_at (R q)) es)
   lookup-insert_entry q [] = refl
   lookup-insert_entry q (e ∷ es) = found_by q (R k e.0) e es refl (lookup-insert_entry q es)
@@ -44,7 +44,7 @@ is_at_number-by q k Less is = let below = ranked q k Less is in sym (ne_eqb q k 
 is_at_number-by q k Equal is = sym (eq-eqb q k (ranked q k Equal is))
 is_at_number-by q k Greater is = let above = ranked q k Greater is in sym (ne_eqb q k (λ e. omega (arith, e, above)))
 
--- a number is found where it is the one that is looked for
+-- an entry's number matches exactly when it equals the number that is looked up
 pub is_at_number : (q k : ℕ) → is_at (nat_cmp q) k ≡ (q == k)
 is_at_number q k = is_at_number-by q k (nat_cmp q k) refl
 
@@ -52,6 +52,6 @@ pub lookup-insert_number : {X : Type 0} (q k : ℕ) (v : X) (es : List (ℕ × X
 lookup-insert_number q k v es =
     lookup-insert_entry nat_cmp_total k v q es ∙ ap (λ (b : Bool). cond b (Some v) (lookup (is_at (nat_cmp q)) es)) (is_at_number q k)
 
--- what was put is found
+-- the inserted value is found at its key
 pub lookup-inserted : {X : Type 0} (k : ℕ) (v : X) (es : List (ℕ × X)) → lookup (is_at (nat_cmp k)) (insert_entry nat_cmp es k v) ≡ Some v
 lookup-inserted k v es = lookup-insert_number k k v es ∙ ap (λ (b : Bool). cond b (Some v) (lookup (is_at (nat_cmp k)) es)) (eq-eqb k k refl)

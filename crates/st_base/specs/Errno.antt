@@ -1,10 +1,11 @@
+-- Error numbers, their names, and the choice of the first error whose condition is true.
 use Rattle.std.specs.Prelude.{ℕ, Bool, if◌then◌else◌, List, [], ◌∷◌, codes, map, find, Option, Some, None}
 use Rattle.std.specs.Str.{bytes_eq}
 use Rattle.std.specs.Char.{to_ascii_lowercase}
 use Rattle.st_base.specs.declared.errno.Errno.{Errno}
 use Rattle.st_base.specs.declared.errno.Errno.TheVariants.{EPERM, ENOENT, ESRCH, E2BIG, ENOEXEC, EBADF, EACCES, EFAULT, EEXIST, ENOTDIR, EISDIR, EINVAL, EMFILE, ENOSPC, EAGAIN, EADDRINUSE, ECONNREFUSED, ELOOP, ENAMETOOLONG, ENOTEMPTY, ENOSYS}
 
--- the numbers of OpenBSD's errno(2)
+-- the number of an error in OpenBSD's errno(2)
 abbrev pub number_of_error : Errno → ℕ
 number_of_error EPERM = 1
 number_of_error ENOENT = 2
@@ -28,7 +29,7 @@ number_of_error ENAMETOOLONG = 63
 number_of_error ENOTEMPTY = 66
 number_of_error ENOSYS = 78
 
--- the names, in capitals
+-- the name of an error, in capital letters
 abbrev pub name_of_error : Errno → List ℕ
 name_of_error EPERM = codes "EPERM"
 name_of_error ENOENT = codes "ENOENT"
@@ -52,25 +53,25 @@ name_of_error ENAMETOOLONG = codes "ENAMETOOLONG"
 name_of_error ENOTEMPTY = codes "ENOTEMPTY"
 name_of_error ENOSYS = codes "ENOSYS"
 
--- how a policy writes the name: in small letters
+-- the name of an error as a policy writes it, in small letters
 abbrev pub word_of_error : Errno → List ℕ
 word_of_error errno = map to_ascii_lowercase (name_of_error errno)
 
--- the errors, in the order of their numbers
+-- all errors, by increasing number
 abbrev pub every_error : List Errno
 every_error =
     EPERM ∷ ENOENT ∷ ESRCH ∷ E2BIG ∷ ENOEXEC ∷ EBADF ∷ EACCES ∷ EFAULT ∷ EEXIST ∷ ENOTDIR ∷ EISDIR ∷
     EINVAL ∷ EMFILE ∷ ENOSPC ∷ EAGAIN ∷ EADDRINUSE ∷ ECONNREFUSED ∷ ELOOP ∷ ENAMETOOLONG ∷ ENOTEMPTY ∷ ENOSYS ∷ []
 
--- the error of this name, in small letters
+-- the error whose name in small letters is this word
 abbrev pub error_named : List ℕ → Option Errno
 error_named word = find (λ errno. bytes_eq (word_of_error errno) word) every_error
 
--- a reason for refusal, where it is met
+-- this error if its condition is true, otherwise none
 abbrev pub error_if : Bool → Errno → Option Errno
 error_if met errno = if met then Some errno else None
 
--- the first reason of those that are met, in their order
+-- the first error in the list, if it has any
 abbrev pub first_error : List (Option Errno) → Option Errno
 first_error [] = None
 first_error (None ∷ reasons) = first_error reasons

@@ -1,13 +1,14 @@
+-- How words spell numbers.
 use Rattle.std.specs.Prelude.{ℕ, ◌^◌, ◌-◌, Bool, ◌&&◌, if◌then◌else◌, nat_lt, nat_le, nat_eq, List, length, drop, codes, Option, Some, None}
 use Rattle.std.specs.Char.{is_digit}
 use Rattle.std.specs.List.{list_all, starts_with}
 use Rattle.std.specs.Str.Parse.{digits_value}
 
--- one digit of the radix or more, and nothing else
+-- whether a word is one or more digits of the radix and nothing else
 abbrev pub is_numeral : ℕ → List ℕ → Bool
 is_numeral radix word = nat_lt 0 (length word) && list_all (λ c. is_digit c radix) word
 
--- the number that digits of the radix write, where it is at most this
+-- the number that a word of digits of the radix spells, if it is at most `most`
 abbrev pub numeral_up_to : ℕ → ℕ → List ℕ → Option ℕ
 numeral_up_to most radix word =
     if is_numeral radix word && nat_le (digits_value radix word) most then Some (digits_value radix word) else None

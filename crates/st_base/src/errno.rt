@@ -29,7 +29,7 @@ pub enum Errno {
 }
 
 impl Errno {
-    /// Every error, in the order of the numbers.
+    /// All errors, by increasing number.
     pub const ALL: [Errno; 21] = [
         Errno::EPERM,
         Errno::ENOENT,
@@ -54,7 +54,7 @@ impl Errno {
         Errno::ENOSYS,
     ];
 
-    /// The number of OpenBSD's errno(2).
+    /// The error's number in OpenBSD's errno(2).
     pub fn number(self) -> u32
         ensures { result ≡ number_of_error self }
     {
@@ -83,7 +83,7 @@ impl Errno {
         }
     }
 
-    /// The name in capitals, as it is printed.
+    /// The error's name in capital letters, as it is printed.
     pub fn name(self) -> &'static [u8]
         ensures { result.now ≡ name_of_error self }
     {
@@ -112,7 +112,7 @@ impl Errno {
         }
     }
 
-    // The name in small letters, as a policy writes it.
+    // The error's name in small letters, as a policy writes it.
     fn word(self) -> &'static [u8]
         ensures { result.now ≡ word_of_error self }
     {
@@ -141,7 +141,7 @@ impl Errno {
         }
     }
 
-    /// The error that a policy's word names, in small letters.
+    /// The error whose name in small letters is this word of a policy.
     pub fn of_word(word: &[u8]) -> Option<Errno>
         ensures { result ≡ error_named word.now }
     {
@@ -149,7 +149,7 @@ impl Errno {
     }
 }
 
-// The first of some errors with this name.
+// The first of these errors whose name in small letters is this word.
 fn first_named(errors: &[Errno], word: &[u8]) -> Option<Errno>
     ensures { result ≡ find (λ errno. bytes_eq (word_of_error errno) word.now) errors.now }
 {

@@ -1,22 +1,23 @@
 ghost use Rattle.std.specs.Prelude.{◌≡◌};
 ghost use Rattle.st_base.specs.Ids.{identity};
 
-/// A process's number, from 1 in the order of the script.
+/// A process's number, counted from 1 in the order of the script.
 pub type Pid = u32;
 
-/// A thread's number, from 1 in the order of the script.
+/// A thread's number, counted from 1 in the order of the script.
 pub type Tid = u32;
 
-/// A worker's number, from 1.
+/// A worker's number, counted from 1.
 pub type Worker = u32;
 
-/// A memory's number, from 1: that of each first process is the process's own, and each that is made later has the next.
+/// The number of a process's memory, counted from 1. The memory of each initial process has that process's number. Each memory that is
+/// made later has the next number.
 pub type Space = u32;
 
-/// The number of an object of the file tree, from 1, which is the root.
+/// The number of an object of the file tree, counted from 1. The root has number 1.
 pub type Obj = u32;
 
-/// A message's sequence number, from 1; none is used twice.
+/// A message's sequence number, counted from 1. No number is used twice.
 pub type Seq = u64;
 
 /// Who a process is: real and effective user and group, as in credentials(7) and setuid(2).
@@ -29,7 +30,7 @@ pub struct Ids {
 }
 
 impl Ids {
-    /// The identity of one user and one group, real and effective.
+    /// The ids whose real and effective user are `uid`, and whose real and effective group are `gid`.
     pub fn of(uid: u32, gid: u32) -> Self
         ensures { result ≡ identity uid gid }
     {

@@ -1,5 +1,4 @@
-//! What every crate speaks of: the kernel's errors and numbers, identities, texts, lists, values that are shared, and words that
-//! spell numbers.
+//! Basic types that all crates share, such as errors, ids, texts, lists and shared values, and the reading of numbers.
 #![tactic(auto)]
 
 pub mod errno;

@@ -2,7 +2,7 @@ ghost use Rattle.std.specs.Prelude.{◌≡◌, ℕ, ◌+◌, ◌*◌, ◌^◌, �
 ghost use Rattle.std.specs.Char.{digit_value};
 ghost use Rattle.st_base.specs.Number.{numeral_up_to, number_in, mode_in};
 
-// The number that goes on with one more digit, where it is a digit of the radix and the number is below 2^64.
+// The number with one more digit appended, if the byte is a digit of the radix and the new number is below 2^64.
 fn with_digit(radix: u32, value: u64, byte: u8) -> Option<u64>
     requires low { 2 ≤ radix }
     requires high { radix ≤ 36 }
@@ -15,7 +15,7 @@ fn with_digit(radix: u32, value: u64, byte: u8) -> Option<u64>
         .checked_add(u64::from(digit))
 }
 
-/// The number that digits of the radix write, where it is at most this.
+/// The number that these digits of the radix spell, if it is at most `most`.
 pub fn numeral_up_to(most: u64, radix: u32, digits: &[u8]) -> Option<u64>
     requires low { 2 ≤ radix }
     requires high { radix ≤ 36 }

@@ -4,7 +4,7 @@ use std::alloc::{AllocError, Global};
 use std::marker::Model;
 use std::rc::Rc;
 
-/// A value that several records hold, and that is there once.
+/// A value that is stored once and that several records share.
 #[derive(Debug, Drop)]
 pub struct Shared<T> {
     held: Rc<T>,
@@ -17,7 +17,7 @@ impl<T> Model for Shared<T> {
 }
 
 impl<T: Drop> Shared<T> {
-    /// A value that one record holds yet.
+    /// A shared value that a single record holds so far.
     pub fn new(alloc: Global, value: T) -> Result<Self, AllocError>
         ensures { IfOk result (λ shared. shared ≡ value) }
     {
@@ -34,7 +34,7 @@ impl<T: Drop> Shared<T> {
         self.held.as_ref()
     }
 
-    /// The same value for one more record. It takes no memory, and fails only where no more records can be counted.
+    /// The same value for one more record. It allocates no memory, and fails only if the count of records can't be increased.
     pub fn share(&self) -> Result<Self, AllocError>
         ensures { IfOk result (λ shared. shared ≡ self.now) }
     {

@@ -19,7 +19,7 @@ impl Model for Text {
 }
 
 impl Text {
-    /// The empty text, which takes no memory.
+    /// The empty text. It allocates no memory.
     pub fn new(alloc: Global) -> Self
         ensures { result ≡ [] }
     {
@@ -28,7 +28,7 @@ impl Text {
         }
     }
 
-    /// A text of these bytes.
+    /// A text with a copy of these bytes.
     pub fn of(alloc: Global, bytes: &[u8]) -> Result<Self, AllocError>
         ensures { IfOk result (λ text. text ≡ bytes.now) }
     {
@@ -44,7 +44,7 @@ impl Text {
         self.bytes.as_slice()
     }
 
-    /// The bytes alone.
+    /// Turns the text into the vector of its bytes.
     pub fn into_bytes(self) -> Vec<u8>
         ensures { result.items ≡ self }
     {
@@ -58,21 +58,21 @@ impl Text {
         self.bytes.len()
     }
 
-    /// Whether there are none.
+    /// Whether there are no bytes.
     pub fn is_empty(&self) -> bool
         ensures { IsTrue result ↔ (self.now ≡ []) }
     {
         self.bytes.is_empty()
     }
 
-    /// Keeps so many bytes at the front, or all where there are fewer.
+    /// Keeps the first `len` bytes, or all bytes if there are fewer.
     pub fn truncate(&mut self, len: usize)
         ensures { self.new ≡ take len self.old }
     {
         self.bytes.truncate(len);
     }
 
-    /// Adds a byte at the end.
+    /// Appends a byte. If out of memory, the text doesn't change.
     pub fn push(&mut self, byte: u8) -> Result<(), AllocError>
         ensures ok { OnOk result (self.new ≡ self.old ++ byte ∷ []) }
         ensures err { OnErr result (self.new ≡ self.old) }
@@ -81,7 +81,7 @@ impl Text {
         Ok(())
     }
 
-    /// Adds bytes at the end.
+    /// Appends bytes. If out of memory, the text doesn't change.
     pub fn append(&mut self, bytes: &[u8]) -> Result<(), AllocError>
         ensures ok { OnOk result (self.new ≡ self.old ++ bytes.now) }
         ensures err { OnErr result (self.new ≡ self.old) }
@@ -89,7 +89,7 @@ impl Text {
         self.bytes.extend_from_slice(bytes)
     }
 
-    /// Adds a number in decimal digits at the end.
+    /// Appends a number in decimal digits. If out of memory, the text doesn't change.
     pub fn append_number(&mut self, number: u64) -> Result<(), AllocError>
         ensures ok { OnOk result (self.new ≡ self.old ++ decimal number) }
         ensures err { OnErr result (self.new ≡ self.old) }
@@ -98,7 +98,7 @@ impl Text {
         self.append(buffer.format(number).as_bytes())
     }
 
-    /// An equal text of its own.
+    /// A copy of the text, with bytes of its own.
     pub fn copy(&self, alloc: Global) -> Result<Self, AllocError>
         ensures { IfOk result (λ text. text ≡ self.now) }
     {

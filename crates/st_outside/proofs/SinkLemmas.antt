@@ -1,4 +1,4 @@
--- Texts that are written front by front.
+-- Texts that are written prefix by prefix.
 use Rattle.std.proofs.Common.{◌≡◌, ℕ, ◌+◌, ◌≤◌, List, ◌++◌, length, take, drop, refl, sym, ◌∙◌, ap, append_assoc, arith, length-drop, Option, Some, None}
 use Rattle.std.proofs.Math.Seq.{take-add, take-length}
 use Rattle.std.specs.List.{slice_range}
@@ -9,7 +9,7 @@ option_map-twice : (a : Option (List ℕ)) (p q : List ℕ) → option_map (λ b
 option_map-twice None p q = refl
 option_map-twice (Some bytes) p q = ap Some (append_assoc bytes p q)
 
--- a piece and then another are one piece
+-- appending one piece and then another appends their concatenation
 Appends-twice : (a b c : Option (List ℕ)) (p q : List ℕ) → Appends a b p → Appends b c q → Appends a c (p ++ q)
 Appends-twice a b c p q first second =
     second ∙ ap (option_map (λ bytes. bytes ++ q)) first ∙ option_map-twice a p q
@@ -17,7 +17,7 @@ Appends-twice a b c p q first second =
 rest : (text : List ℕ) (n : ℕ) → slice_range text n (length text) ≡ drop n text
 rest text n = ap (λ k. take k (drop n text)) (sym (length-drop n text)) ∙ take-length (drop n text)
 
--- a front of the text, and then a front of the rest
+-- appending a prefix of the text and then a prefix of the rest appends one longer prefix
 pub Appends-more : (a b c : Option (List ℕ)) (text : List ℕ) (n m : ℕ) → Appends a b (take n text) → Appends b c (take m (slice_range text n (length text))) → Appends a c (take (n + m) text)
 Appends-more a b c text n m first second =
     let next : take n text ++ take m (slice_range text n (length text)) ≡ take (n + m) text =

@@ -1,31 +1,32 @@
+-- What is known of a file's content, and which results of a fetch agree with it.
 use Rattle.std.specs.Prelude.{◌≡◌, ℕ, ◌<◌, ◌≤◌, List, length}
 use Rattle.st_outside.specs.declared.files.TheConstants.{FILE_LIMIT}
 
--- what a name holds, as far as it is told: not told, no file, or a file of these bytes
+-- what is known of a name: nothing, that no file has it, or that a file with these bytes has it
 pub data FileView : Type 0 where
   Unknown : FileView
   Absent : FileView
   FileBytes : List ℕ → FileView
 
--- the name can hold exactly this text
+-- a fetch may return this text: nothing is known, or it is the known content
 abbrev pub CanHold : FileView → List ℕ → Type 0
 CanHold Unknown text = Unit {0}
 CanHold Absent text = ⊥
 CanHold (FileBytes content) text = text ≡ content
 
--- there can be no file of the name
+-- the file may be missing: nothing is known, or it is known to be absent
 abbrev pub CanLack : FileView → Type 0
 CanLack Unknown = Unit {0}
 CanLack Absent = Unit {0}
 CanLack (FileBytes content) = ⊥
 
--- the name can hold more bytes than a fetch gives
+-- the file may be too long: nothing is known, or the known content has more than `FILE_LIMIT` bytes
 abbrev pub CanExceed : FileView → Type 0
 CanExceed Unknown = Unit {0}
 CanExceed Absent = ⊥
 CanExceed (FileBytes content) = FILE_LIMIT < length content
 
--- the name can hold a file that a fetch gives
+-- the file may exist and be short enough: nothing is known, or the known content has at most `FILE_LIMIT` bytes
 abbrev pub CanFit : FileView → Type 0
 CanFit Unknown = Unit {0}
 CanFit Absent = ⊥

@@ -6,28 +6,28 @@ use st_base::Text;
 use std::alloc::Global;
 use thiserror::Error;
 
-/// The greatest length of a file that a fetch gives, in bytes.
+/// The greatest length of a file that a fetch returns, in bytes.
 pub const FILE_LIMIT: u64 = 1_048_576;
 
-/// Why a fetch gave no text.
+/// Why a fetch returned no text.
 #[derive(Clone, Copy, Debug, PartialEq, Eq, Drop, Error)]
 pub enum FetchFault {
-    /// The outside failed, and counted a fault.
+    /// Reading failed, and a fault was counted.
     #[error("reading failed")]
     Failed,
-    /// There is no file of that name.
+    /// No file has this name.
     #[error("no such file")]
     Missing,
     /// The file has more than `FILE_LIMIT` bytes.
     #[error("the file is too long")]
     TooLong,
-    /// No memory was left for the text.
+    /// Out of memory for the text.
     #[error("out of memory")]
     NoMemory,
 }
 
-/// Files by name. Each name holds something, where that is told; the names that were asked for are known, in order; and a count of
-/// faults never falls.
+/// Files by name. The model has the content of each name as far as it is known, the names that were fetched in order, and a count of
+/// faults that never decreases.
 pub trait Files {
     ghost held: { Self → List ℕ → FileView };
 
@@ -35,7 +35,7 @@ pub trait Files {
 
     ghost faults: { Self → ℕ };
 
-    /// The whole content of the file of that name, which is asked for whatever comes.
+    /// Returns the whole content of the file with this name. The name is recorded as fetched even if the fetch fails.
     fn fetch(&mut self, alloc: Global, name: &Text) -> Result<Text, FetchFault>
         ensures held { held self.new ≡ held self.old }
         ensures asked { asked self.new ≡ asked self.old ++ name.now ∷ [] }

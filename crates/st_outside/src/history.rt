@@ -1,10 +1,10 @@
-//! A history that only contracts read. It takes no memory, and its calls do nothing when they run.
+//! A history that only contracts read. It takes no memory, and its functions do nothing at run time.
 ghost use Rattle.std.specs.Prelude.{◌≡◌, List, [], ◌∷◌, ◌++◌};
 ghost use Rattle.std.specs.Borrow.{ftrue};
 
 use std::marker::{Model, PhantomData};
 
-/// What came so far, in order.
+/// The items so far, in order. Only contracts can read them.
 #[derive(Drop)]
 pub struct History<T> {
     of: PhantomData<T>,
@@ -16,14 +16,14 @@ impl<T> Model for History<T> {
 }
 
 impl<T> History<T> {
-    /// Nothing so far.
+    /// The empty history.
     pub fn new() -> History<T>
         ensures { result.items ≡ [] }
     {
         History { of: PhantomData }
     }
 
-    /// The same, and then this.
+    /// The history with this item appended.
     pub fn and(&self, item: &T) -> History<T>
         ensures { result.items ≡ self.now.items ++ item.now ∷ [] }
     {

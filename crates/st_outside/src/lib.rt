@@ -1,4 +1,4 @@
-//! Where the kernel meets the outside: files by name and sinks of bytes, over memory and over the host.
+//! Interfaces to the outside, that is files by name and sinks of bytes, each implemented in memory and on the host.
 #![tactic(auto)]
 
 mod count;

@@ -10,14 +10,14 @@ use st_base::Text;
 use std::alloc::{AllocError, Global};
 use std::marker::Model;
 
-/// A file in memory, by its name.
+/// A file in memory: its name and its content.
 #[derive(Debug, Drop)]
 pub struct HeldFile {
     pub name: Text,
     pub content: Text,
 }
 
-/// Files in memory. They tell what each name holds, and the named fetches fail.
+/// Files in memory. The content of each name is known, and the fetches with chosen numbers fail.
 #[derive(Drop)]
 pub struct MemoryFiles {
     files: Vec<HeldFile>,
@@ -36,7 +36,7 @@ impl Model for MemoryFiles {
 }
 
 impl MemoryFiles {
-    /// No files, and no fetch that fails.
+    /// An empty set of files, of which no fetch is set to fail.
     pub fn new(alloc: Global) -> Self
         ensures { result ≡ record { files = []; fetches = 0; failing = []; faults = 0; asked = [] } }
     {
@@ -49,7 +49,7 @@ impl MemoryFiles {
         }
     }
 
-    /// Adds a file. A name that is added again holds the later content. Without memory the file is dropped.
+    /// Adds a file. If a name is added again, it holds the later content. If out of memory, the file is dropped.
     pub fn add(&mut self, name: Text, content: Text) -> Result<(), AllocError>
         ensures ok { OnOk result (self.new ≡ record self.old { files = self.old.files ++ record { name = name; content = content } ∷ [] }) }
         ensures later { OnOk result (view_of_name self.new.files name ≡ FileBytes content) }
@@ -60,7 +60,7 @@ impl MemoryFiles {
         Ok(())
     }
 
-    /// Lets the fetch of this number fail, counted from 1.
+    /// Makes the fetch with this number fail. Fetches are counted from 1.
     pub fn fail_at(&mut self, call: u32) -> Result<(), AllocError>
         ensures ok { OnOk result (self.new ≡ record self.old { failing = self.old.failing ++ call ∷ [] }) }
         ensures err { OnErr result (self.new ≡ self.old) }
@@ -69,7 +69,7 @@ impl MemoryFiles {
         Ok(())
     }
 
-    /// How many faults there were; at 2^64 - 1 the count stays.
+    /// The number of faults so far, saturating at 2^64 - 1.
     pub fn faults(&self) -> u64
         ensures { result ≡ self.now.faults }
     {
@@ -77,7 +77,7 @@ impl MemoryFiles {
     }
 }
 
-// The content that a name holds: of its files the one that was added last.
+// The content that a name holds: that of the last file added under this name.
 fn content_of<'a>(files: &'a [HeldFile], name: &Text) -> Option<&'a Text>
     ensures { MatchOption result (view_of_name files.now name.now ≡ Absent) (λ content. view_of_name files.now name.now ≡ FileBytes content.now) }
 {
@@ -108,7 +108,7 @@ impl Files for MemoryFiles {
         ensures failed { result ≡ Err FetchFault.Failed → HasRisen self.old.faults self.new.faults }
         ensures quiet { result ≢ Err FetchFault.Failed → self.new.faults ≡ self.old.faults }
 
-        // Exactly when each fault comes, what it gives, and what it leaves.
+        // Exactly when each fault occurs, which text a fetch returns, and the state after it.
         ensures fails { (result ≡ Err FetchFault.Failed) ↔ IsTrue (fetch_fails self.old) }
         ensures lacks { (result ≡ Err FetchFault.Missing) ↔ (IsFalse (fetch_fails self.old) × (view_of_name self.old.files name.now ≡ Absent)) }
         ensures exceeds { (result ≡ Err FetchFault.TooLong) ↔ (IsFalse (fetch_fails self.old) × CanExceed (view_of_name self.old.files name.now)) }

@@ -8,7 +8,7 @@ use crate::sink::{Failed, Sink};
 use std::alloc::{AllocError, Global};
 use std::marker::Model;
 
-/// A sink in memory with room for so many bytes. It tells its bytes, and named calls fail or are short.
+/// A sink in memory with room for a fixed number of bytes. Its bytes are known, and the calls with chosen numbers fail or are short.
 #[derive(Debug, Drop)]
 pub struct MemorySink {
     bytes: Vec<u8>,
@@ -31,7 +31,7 @@ impl Model for MemorySink {
 }
 
 impl MemorySink {
-    /// An empty sink with room for this many bytes, which is taken at once.
+    /// An empty sink with room for this many bytes, which are allocated at once.
     pub fn new(alloc: Global, room: u32) -> Result<Self, AllocError>
         ensures { IfOk result (λ sink. sink ≡ record { bytes = []; room = room; calls = 0; failing = []; short = []; faults = 0 }) }
     {
@@ -46,7 +46,7 @@ impl MemorySink {
         })
     }
 
-    /// Lets the call of this number fail, counted from 1.
+    /// Makes the call with this number fail. Calls are counted from 1.
     pub fn fail_at(&mut self, call: u32) -> Result<(), AllocError>
         ensures ok { OnOk result (self.new ≡ record self.old { failing = self.old.failing ++ call ∷ [] }) }
         ensures err { OnErr result (self.new ≡ self.old) }
@@ -55,7 +55,7 @@ impl MemorySink {
         Ok(())
     }
 
-    /// Lets the call of this number take one byte, counted from 1.
+    /// Makes the call with this number write a single byte. Calls are counted from 1.
     pub fn short_at(&mut self, call: u32) -> Result<(), AllocError>
         ensures ok { OnOk result (self.new ≡ record self.old { short = self.old.short ++ call ∷ [] }) }
         ensures err { OnErr result (self.new ≡ self.old) }
@@ -71,7 +71,7 @@ impl MemorySink {
         self.bytes.as_slice()
     }
 
-    /// How many faults there were; at 2^64 - 1 the count stays.
+    /// The number of faults so far, saturating at 2^64 - 1.
     pub fn faults(&self) -> u64
         ensures { result ≡ self.now.faults }
     {
@@ -93,7 +93,7 @@ impl Sink for MemorySink {
         ensures failed { OnErr result (HasRisen self.old.faults self.new.faults) }
         ensures unwritten { OnErr result (Some self.new.bytes ≡ Some self.old.bytes) }
 
-        // Exactly when it fails, how much it takes, and what it leaves.
+        // Exactly when a call fails, how many bytes it writes, and the state after it.
         ensures fails { IsErr result ↔ IsTrue (will_fail self.old) }
         ensures count { IfOk result (λ n. n ≡ accepted_len self.old (length piece.now)) }
         ensures ok { OnOk result (self.new ≡ record self.old { bytes = self.new.bytes; calls = next_count self.old.calls }) }
@@ -108,7 +108,7 @@ impl Sink for MemorySink {
         let short = contains_call(&self.short, self.calls);
         let taken = if short { 1 } else { piece.len().min(left) };
 
-        // `new` took the room, so this cannot fail.
+        // `new` allocated the room, so this can't fail.
         let _ = self.bytes.extend_from_slice(&piece[..taken]);
         Ok(taken)
     }

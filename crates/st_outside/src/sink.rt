@@ -4,18 +4,18 @@ ghost use Rattle.st_outside.specs.Sink.{Appends, AppendsFront};
 
 use thiserror::Error;
 
-/// A sink took nothing, and counted a fault.
+/// A sink wrote nothing, and counted a fault.
 #[derive(Clone, Copy, Debug, PartialEq, Eq, Drop, Error)]
 #[error("writing failed")]
 pub struct Failed;
 
-/// Takes bytes in order. It tells the bytes written so far or does not, and a count of faults never falls.
+/// Writes bytes in order. The model has the bytes written so far, if they are known, and a count of faults that never decreases.
 pub trait Sink {
     ghost written: { Self → Option (List ℕ) };
 
     ghost faults: { Self → ℕ };
 
-    /// Takes a front of the piece, at least a byte of it, and says how many bytes it took.
+    /// Writes a prefix of the piece, at least one byte, and returns its length.
     fn write_piece(&mut self, piece: &[u8]) -> Result<usize, Failed>
         requires { 0 < length piece.now }
         ensures some { IfOk result (λ n. 0 < n) }
@@ -26,7 +26,7 @@ pub trait Sink {
         ensures unwritten { OnErr result (written self.new ≡ written self.old) };
 }
 
-/// Writes the whole text, piece by piece. After a failure a front of it was written.
+/// Writes the whole text, piece by piece. If it fails, it has written a proper prefix of the text.
 pub fn write_all<S: Sink>(out: &mut S, text: &[u8]) -> Result<(), Failed>
     ensures ok { OnOk result (Appends (S.written out.old) (S.written out.new) text.now) }
     ensures quiet { OnOk result (S.faults out.new ≡ S.faults out.old) }

@@ -13,7 +13,7 @@ use std::io::{self, ErrorKind, Read};
 use std::marker::Model;
 use std::{fs, rt, str};
 
-/// The host's files by name. They tell nothing of what a name holds.
+/// The host's files by name. The content of a name isn't known.
 #[derive(Drop)]
 pub struct StdFiles<'a, R: rt::Files> {
     rt: &'a R,
@@ -41,7 +41,7 @@ impl<'a, R: rt::Files> StdFiles<'a, R> {
         }
     }
 
-    /// How many faults there were; at 2^64 - 1 the count stays.
+    /// The number of faults so far, saturating at 2^64 - 1.
     pub fn faults(&self) -> u64
         ensures { result ≡ self.now.faults }
     {
@@ -67,7 +67,7 @@ impl<'a, R: rt::Files> Files for StdFiles<'a, R> {
         ensures failed { result ≡ Err FetchFault.Failed → HasRisen self.old.faults self.new.faults }
         ensures quiet { result ≢ Err FetchFault.Failed → self.new.faults ≡ self.old.faults }
 
-        // The host has no file whose name isn't UTF-8.
+        // The fetch of a name that isn't UTF-8 fails.
         ensures no_text { (IsUtf8 name.now → ⊥) → result ≡ Err FetchFault.Failed }
     {
         self.asked = self.asked.and(name);
@@ -79,7 +79,7 @@ impl<'a, R: rt::Files> Files for StdFiles<'a, R> {
     }
 }
 
-// Why a file wasn't opened. Only where the host says that there is none it is missing.
+// Why a file wasn't opened. It is missing exactly when the host reports `NotFound`; any other error is a failure.
 fn fault_of_open(error: &io::Error) -> FetchFault
     ensures missing { (result ≡ FetchFault.Missing) ↔ (error_kind error.now ≡ ErrorKind.NotFound) }
     ensures failed { result ≢ FetchFault.Missing → result ≡ FetchFault.Failed }
@@ -90,7 +90,7 @@ fn fault_of_open(error: &io::Error) -> FetchFault
     }
 }
 
-// The file of that name.
+// Reads the file with this name.
 fn read_named<R: rt::Files>(rt: &R, alloc: Global, name: &Text) -> Result<Text, FetchFault>
     ensures within { IfOk result (λ text. length text ≤ FILE_LIMIT) }
     ensures no_text { (IsUtf8 name.now → ⊥) → result ≡ Err FetchFault.Failed }
@@ -102,7 +102,7 @@ fn read_named<R: rt::Files>(rt: &R, alloc: Global, name: &Text) -> Result<Text, 
     }
 }
 
-// All that is left to read, where that is within the limit.
+// Reads all remaining bytes, if they are within the limit.
 fn read_text<F: Read>(file: &mut F, alloc: Global) -> Result<Text, FetchFault>
     ensures content { IfOk result (λ text. IfSome (F.remaining file.old) (λ bytes. text ≡ bytes)) }
     ensures within { IfOk result (λ text. length text ≤ FILE_LIMIT) }

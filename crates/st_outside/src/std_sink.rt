@@ -4,7 +4,7 @@ use crate::count::one_more;
 use crate::sink::{Failed, Sink};
 use std::marker::Model;
 
-/// Standard output. It tells nothing of what was written.
+/// Standard output. The bytes written aren't known.
 #[derive(Drop)]
 pub struct StdSink<'a, R: Print> {
     rt: &'a R,
@@ -27,7 +27,7 @@ impl<'a, R: Print> StdSink<'a, R> {
         StdSink { rt, faults: 0 }
     }
 
-    /// How many faults there were; at 2^64 - 1 the count stays.
+    /// The number of faults so far, saturating at 2^64 - 1.
     pub fn faults(&self) -> u64
         ensures { result ≡ self.now }
     {
@@ -40,7 +40,7 @@ impl<'a, R: Print> Sink for StdSink<'a, R> {
 
     ghost faults = { λ s. s };
 
-    // The bytes go to the host at once, so that none of them waits in a buffer.
+    // The bytes go to the host at once, so that none of them stays in a buffer.
     fn write_piece(&mut self, piece: &[u8]) -> Result<usize, Failed> {
         match self.rt.write_some(piece) {
             Ok(taken) if taken > 0 => Ok(taken),

@@ -2,7 +2,7 @@ use Rattle.std.proofs.Common.{length, ◌-◌, ◌≡◌, ◌≤◌, take}
 use Rattle.st_outside.specs.Sink.{Appends}
 use Rattle.st_outside.proofs.sink.write_all.Given as goal
 
--- what is done was appended, and no fault was counted
+-- the first `done` bytes were appended, and no fault was counted
 abbrev pub invariant-loop-done : goal.invariant-loop-done
 invariant-loop-done g l = record {
   within : l.done ≤ length l.text;

@@ -3,7 +3,7 @@ use Rattle.std.specs.Io.KnownBytes.{Consumes}
 use Rattle.st_outside.specs.declared.files.TheConstants.{FILE_LIMIT}
 use Rattle.st_outside.proofs.std_files.read_text.Given as goal
 
--- what was read so far is the text
+-- the bytes read so far are the text
 abbrev pub invariant-loop-buffer : goal.invariant-loop-buffer
 invariant-loop-buffer g l = record {
   most : l.most ≡ FILE_LIMIT + 1;
