@@ -28,7 +28,7 @@ members-plain b (c ∷ rest) e = rw e refl
 members-pair : (b c : ℕ) (rest : List ℕ) → (b == 92) ≡ true → members (b ∷ c ∷ rest) ≡ record { byte = c; bare = false } ∷ members rest
 members-pair b c rest e = rw e refl
 
--- a member and bytes that don't begin with a dash
+-- a member before bytes that don't begin with a dash is a range of one byte
 lists-no-dash : (m : Member) (b : ℕ) (rest : List ℕ) (c : ℕ) → (b == dash) ≡ false → has_byte (m ∷ members (b ∷ rest)) c ≡ (in_range m.byte m.byte c || has_byte (members (b ∷ rest)) c)
 lists-no-dash m b [] c e = lists-plain m (record { byte = b; bare = true }) [] c e
 lists-no-dash m b (d ∷ rest) c e =
@@ -46,7 +46,7 @@ pub listed-plain : (class behind : List ℕ) (m : Member) → members class ≡ 
 listed-plain class [] m e h c = ap (λ (ms : List Member). has_byte ms c) e ∙ lists-single m c
 listed-plain class (b ∷ rest) m e h c = ap (λ (ms : List Member). has_byte ms c) e ∙ lists-no-dash m b rest c (grind (arith, nat_tests))
 
--- a member, a dash and a further member are a range
+-- a member, a dash and another member are a range
 pub listed-range : (class behind : List ℕ) (m h : Member) (more : ℕ) →
     members class ≡ m ∷ members behind → 2 ≤ length behind → get_or behind 0 0 ≡ 45 → members (drop 1 behind) ≡ h ∷ members (drop more (drop 1 behind)) →
     (c : ℕ) → is_listed class c ≡ (in_range m.byte h.byte c || is_listed (drop more (drop 1 behind)) c)
@@ -85,7 +85,7 @@ bracket-here [] h e = absurd (omega arith)
 bracket-here (b ∷ []) h e = grind (arith, nat_tests)
 bracket-here (b ∷ c ∷ rest) h e = grind (arith, nat_tests)
 
--- ---- where no bracket closes
+-- ---- unclosed brackets
 
 further-is-none : (k : ℕ) (n : Option ℕ) → farther_by k n ≡ None → n ≡ None
 further-is-none k None e = refl
@@ -94,7 +94,7 @@ further-is-none k (Some n) e = absurd (cc)
 no-bracket : (b : ℕ) (rest : List ℕ) → to_bracket (b ∷ rest) ≡ None → b ≢ 93
 no-bracket b rest e h = let f : to_bracket (b ∷ rest) ≡ Some 0 = bracket-here (b ∷ rest) (omega arith) h in absurd (cc)
 
--- a byte that is no backslash is skipped alone
+-- a byte that isn't a backslash is skipped alone
 pub unclosed-behind : (b : ℕ) (rest : List ℕ) → (b == 92) ≡ false → to_bracket (b ∷ rest) ≡ None → to_bracket rest ≡ None
 unclosed-behind b [] n e = refl
 unclosed-behind b (c ∷ rest) n e =
@@ -123,7 +123,7 @@ unclosed-item behind e =
 pub unclosed-bracket : (behind : List ℕ) → to_bracket (91 ∷ behind) ≡ None → bracket_item behind ≡ byte_item 91
 unclosed-bracket behind e = unclosed-item behind (unclosed-behind 91 behind refl e)
 
--- what holds in each case of a test
+-- a property of a choice, from both of its values
 pub tested : {A : Type 0} (P : A → Type 0) (b : Bool) (x y : A) → P x → P y → P (cond b x y)
 tested P true x y p q = p
 tested P false x y p q = q
@@ -137,7 +137,7 @@ behind-backslash : (behind : List ℕ) → to_bracket (92 ∷ behind) ≡ None �
 behind-backslash [] e = refl
 behind-backslash (b ∷ rest) e = further-is-none 2 (to_bracket rest) e
 
--- behind the first item of a pattern where no bracket closes none does either
+-- if no closing bracket follows in a pattern, none follows after its first item
 pub still-unclosed : (b : ℕ) (behind : List ℕ) → to_bracket (b ∷ behind) ≡ None → to_bracket (drop (first_item b behind).behind behind) ≡ None
 still-unclosed b behind e =
     let P : Type 0 = to_bracket (drop (first_item b behind).behind behind) ≡ None in

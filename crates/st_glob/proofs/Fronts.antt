@@ -1,4 +1,4 @@
--- The definition of a match and the relation agree.
+-- The function `matches` and the relation `FillsFront` agree.
 use Rattle.std.proofs.Common.{◌≡◌, ◌≢◌, ℕ, ◌==◌, ◌&&◌, not, Bool, true, List, [], ◌∷◌, ◌++◌, refl, ap, sym, ◌∙◌, arith, ◌↔◌}
 use Rattle.std.specs.Prelude.{IsTrue}
 use Rattle.std.proofs.lemmas.Bool.Decides.{nat_tests}
@@ -19,7 +19,7 @@ is-slash c e = grind (arith, nat_tests)
 is-slash-test : (c : ℕ) → c ≡ slash → (c == slash) ≡ true
 is-slash-test c e = grind (arith, nat_tests)
 
--- ---- what matches fills a front
+-- ---- items that match fill a prefix
 
 ended-front : (text : List ℕ) → IsEnded text → FillsFront [] text
 ended-front text e = record { front = []; left = text; parts = refl; fills = Nothing; ended = e }
@@ -57,7 +57,7 @@ to-front (Exactly b ∷ more) (c ∷ text) e = taken_len-front (Exactly b) more 
 to-front (Within class ∷ more) (c ∷ text) e = taken_len-front (Within class) more c text (to-front more) e
 to-front (Without class ∷ more) (c ∷ text) e = taken_len-front (Without class) more c text (to-front more) e
 
--- ---- what fills a front matches
+-- ---- items that fill a prefix match
 
 ended-matches : (left : List ℕ) → IsEnded left → matches [] left ≡ true
 ended-matches [] e = refl

@@ -1,4 +1,4 @@
--- Patterns that the definitions answer as they should.
+-- Examples of patterns and of the texts that they match or don't match.
 use Rattle.std.proofs.Common.{◌≡◌, true, false, refl, codes}
 use Rattle.st_glob.specs.Glob.{glob}
 

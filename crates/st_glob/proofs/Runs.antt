@@ -1,4 +1,4 @@
--- Runs that a star takes, and why one star is enough.
+-- Runs of bytes that a star matches, and why only the last star has to be tried again.
 use Rattle.std.proofs.Common.{◌≡◌, ℕ, ◌==◌, ◌||◌, ◌&&◌, not, Bool, true, false, List, [], ◌∷◌, refl, sym, ◌∙◌, arith}
 use Rattle.std.proofs.lemmas.Bool.{or_right}
 use Rattle.std.proofs.lemmas.Bool.Decides.{nat_tests}
@@ -26,7 +26,7 @@ run-twice f (c ∷ text) e =
     or_cases (matches_after_run f (c ∷ text) ≡ true) (matches_after_run f (c ∷ text)) (not (c == slash) && matches_after_run (matches_after_run f) text) e (λ h. h)
     (λ h. and_cases (matches_after_run f (c ∷ text) ≡ true) (not (c == slash)) (matches_after_run (matches_after_run f) text) h (λ n r. run-longer f c text n (run-twice f text r)))
 
--- an item that takes some byte but a slash takes no slash
+-- an item that matches some byte other than a slash doesn't match a slash
 takes-no-slash : (item : Item) (c d : ℕ) → matches_byte item c ≡ true → not (c == slash) ≡ true → matches_byte item d ≡ true → not (d == slash) ≡ true
 takes-no-slash Star c d t n u = absurd (cc)
 takes-no-slash Any c d t n u = u
@@ -34,7 +34,7 @@ takes-no-slash (Exactly b) c d t n u = grind (arith, nat_tests)
 takes-no-slash (Within class) c d t n u = and_cases (not (d == slash) ≡ true) (not (d == slash)) (is_listed class d) u (λ x y. x)
 takes-no-slash (Without class) c d t n u = and_cases (not (d == slash) ≡ true) (not (d == slash)) (not (is_listed class d)) u (λ x y. x)
 
--- what follows an item that takes one byte
+-- if the first item matches the first byte, the rest decides
 pub matches-takes : (item : Item) (rest : List Item) (c : ℕ) (text : List ℕ) → matches_byte item c ≡ true → matches (item ∷ rest) (c ∷ text) ≡ matches rest text
 matches-takes Star rest c text e = absurd (cc)
 matches-takes Any rest c text e = rw e refl
@@ -56,7 +56,7 @@ matches-none (Exactly b) rest c e = refl
 matches-none (Within class) rest c e = refl
 matches-none (Without class) rest c e = refl
 
--- behind a longer run an item and the rest match only where the rest matches behind a run
+-- if an item and the rest match after a run, the rest matches after a run
 shift : (item : Item) (rest : List Item) (c : ℕ) (text : List ℕ) → matches_byte item c ≡ true → not (c == slash) ≡ true → matches_after_run (matches (item ∷ rest)) text ≡ true → matches_after_run (matches rest) text ≡ true
 shift item rest c [] t n e = let f : matches (item ∷ rest) [] ≡ false = matches-none item rest c t in absurd (cc)
 shift item rest c (d ∷ text) t n e =
@@ -67,7 +67,7 @@ shift item rest c (d ∷ text) t n e =
     (λ h. and_cases P (not (d == slash)) (matches_after_run (matches (item ∷ rest)) text) h
     (λ m r. run-longer (matches rest) d text m (shift item rest c text t n r)))
 
--- so once an item has taken its byte, no longer run before it is of use
+-- after an item has matched its byte, a longer run before the item isn't needed
 pub run-commit : (item : Item) (rest : List Item) (c : ℕ) (text : List ℕ) → matches_byte item c ≡ true → matches_after_run (matches (item ∷ rest)) (c ∷ text) ≡ true → matches_after_run (matches rest) text ≡ true
 run-commit item rest c text t e =
     let P : Type 0 = matches_after_run (matches rest) text ≡ true in

@@ -1,4 +1,4 @@
--- What the first item of a pattern takes.
+-- Matching of the first item of a pattern.
 use Rattle.std.proofs.Common.{◌≡◌, ℕ, ◌<◌, ◌≤◌, ◌≢◌, ◌==◌, not, Bool, true, false, List, [], ◌∷◌, length, drop, get_or, Option, None, Some, refl, ap, sym, subst, ◌∙◌, arith, suc, cond, zero}
 use Rattle.std.specs.Cmp.{both_ways}
 use Rattle.std.proofs.lemmas.Bool.Decides.{nat_tests}
@@ -71,7 +71,8 @@ taken_len-none s c e =
 
 -- ---- from item to item
 
--- a pattern and a text, and what is left of both: they match alike, and behind a run the first match only where the second do
+-- a pattern and a text, and the rest of both: one pair matches exactly when the other does, and if the first matches after a run, so
+-- does the second
 pub record IsKept (pattern text left rest : List ℕ) : Type 0 where
   pub same : glob pattern text ≡ glob left rest
   pub runs : matches_after_run (glob pattern) text ≡ true → matches_after_run (glob left) rest ≡ true
@@ -110,7 +111,7 @@ kept-run : (pattern text after rest : List ℕ) → IsKept pattern text (42 ∷ 
 kept-run pattern text after rest k =
     (k.same, both_ways (matches_after_run (glob pattern) text) (matches_after_run (glob after) rest) (λ h. run-twice (glob after) rest (k.runs h)) (λ h. run-here (glob pattern) text (k.same ∙ h)))
 
--- ---- the same for slices that aren't empty
+-- ---- items of slices that aren't empty
 
 pub star-after : (pattern text left rest : List ℕ) → 1 ≤ length left → get_or left 0 0 ≡ 42 → IsKept pattern text left rest →
     (glob pattern text ≡ matches_after_run (glob (drop 1 left)) rest) × (matches_after_run (glob pattern) text ≡ matches_after_run (glob (drop 1 left)) rest)

@@ -1,7 +1,7 @@
 ghost use Rattle.std.specs.Prelude.{◌≡◌, ℕ, ◌<◌, ◌≤◌, ◌==◌, ◌||◌, ◌∷◌, length, drop, IfSome};
 ghost use Rattle.st_glob.specs.Items.{members, member_len, in_range, is_listed, to_bracket, class_len};
 
-// The bytes from `low` to `high`, and how many bytes of a class spell them.
+// The bytes from `low` to `high`, and the number of bytes of a class that spell this range.
 #[derive(Drop)]
 struct Range {
     low: u8,
@@ -9,7 +9,7 @@ struct Range {
     len: usize,
 }
 
-// The first member of a class, and how many bytes spell it: two where a backslash takes it.
+// The first member of a class, and the number of bytes that spell it: two if a backslash escapes it, otherwise one.
 fn member(class: &[u8]) -> (u8, usize)
     requires { 0 < length class.now }
     ensures first { members class.now ≡ record { byte = result.0; bare = result.1 == 1 } ∷ members (drop result.1 class.now) }
@@ -23,7 +23,7 @@ fn member(class: &[u8]) -> (u8, usize)
     }
 }
 
-// The first range of a class, or its first member as a range.
+// The first range of a class, or its first member as a range of one byte.
 fn first_range(class: &[u8]) -> Range
     requires { 0 < length class.now }
     ensures first { (c : ℕ) → is_listed class.now c ≡ (in_range result.low result.high c || is_listed (drop result.len class.now) c) }
@@ -62,7 +62,7 @@ pub fn is_listed(class: &[u8], byte: u8) -> bool
     false
 }
 
-/// How many bytes stand before the first closing bracket that no backslash takes.
+/// The number of bytes before the first closing bracket that no backslash escapes.
 pub fn to_bracket(bytes: &[u8]) -> Option<usize>
     ensures is { result ≡ to_bracket bytes.now }
     ensures within { IfSome result (λ count. count < length bytes.now) }
@@ -80,7 +80,7 @@ pub fn to_bracket(bytes: &[u8]) -> Option<usize>
     None
 }
 
-/// How many bytes a class has before the bracket that closes it.
+/// The number of bytes that a class has before its closing bracket.
 pub fn class_len(bytes: &[u8]) -> Option<usize>
     ensures is { result ≡ class_len bytes.now }
     ensures within { IfSome result (λ count. count < length bytes.now) }

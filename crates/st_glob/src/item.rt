@@ -12,14 +12,15 @@ fn is_negated(behind: &[u8]) -> bool
     !behind.is_empty() && (behind[0] == b'!' || behind[0] == b'^')
 }
 
-// Whether a class that may be negated takes a byte.
+// Whether a class, negated or not, matches a byte.
 fn class_takes(class: &[u8], negated: bool, byte: u8) -> bool
     ensures { result ≡ (if negated then matches_byte (Without class.now) byte else matches_byte (Within class.now) byte) }
 {
     byte != b'/' && is_listed(class, byte) != negated
 }
 
-// Where the class behind an opening bracket takes the byte, how many bytes it has; an unclosed bracket is a byte.
+// If the class after an opening bracket matches the byte, the number of bytes that spell it after the bracket. An unclosed bracket
+// matches itself.
 fn bracket_taken_len(behind: &[u8], byte: u8) -> Option<usize>
     ensures is { result ≡ taken_len (bracket_item behind.now) byte }
     ensures within { IfSome result (λ len. len ≤ length behind.now) }
@@ -36,8 +37,8 @@ fn bracket_taken_len(behind: &[u8], byte: u8) -> Option<usize>
     }
 }
 
-/// Where the first item of a pattern takes the byte, how many bytes of the pattern it has behind its first. Where no closing bracket
-/// follows, which a caller may know already, no class is looked for.
+/// If the first item of a pattern matches the byte, the number of bytes that spell the item after its first byte. If `unclosed` is
+/// true, the caller knows that no closing bracket follows, and no class is searched for.
 pub fn taken_len(first: u8, behind: &[u8], byte: u8, unclosed: bool) -> Option<usize>
     requires { unclosed ≡ true → to_bracket (first ∷ behind.now) ≡ None }
     ensures is { result ≡ taken_len (first_item first behind.now) byte }

@@ -1,4 +1,4 @@
-//! Patterns: which texts a pattern of the policy language matches.
+//! Matching of texts against patterns of the policy language.
 #![tactic(auto)]
 
 mod class;

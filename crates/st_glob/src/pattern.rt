@@ -7,23 +7,24 @@ ghost use Rattle.st_glob.specs.Taken.{IsFront, IsShorter};
 use crate::class::to_bracket;
 use crate::item::taken_len;
 
-// What a pattern makes of a text before its first star.
+// The result of matching a pattern against a text up to the pattern's first star.
 enum Front<'a> {
     // The pattern has no star and matches.
     Whole,
-    // The items up to a star took their bytes: what stands behind the star, and the text that is left.
+    // The items up to a star matched: the pattern after the star, and the rest of the text.
     Run(&'a [u8], &'a [u8]),
     Differs,
 }
 
-// Whether a text is at its end or at a slash, where a match may end.
+// Whether the rest of a text is empty or begins with a slash, so that a match may end there.
 fn is_end(text: &[u8]) -> bool
     ensures { result ≡ matches [] text.now }
 {
     text.is_empty() || text[0] == b'/'
 }
 
-// Matches items and bytes one by one, up to the first star. Once no bracket closes a class, none is looked for again.
+// Matches items and bytes one by one, up to the first star. After a bracket that nothing closes, no closing bracket is searched for
+// again.
 fn match_front<'a>(pattern: &'a [u8], text: &'a [u8]) -> Front<'a>
     ensures is { IsFront pattern.now text.now result }
     ensures shorter { IsShorter pattern.now text.now result }
@@ -52,8 +53,8 @@ fn match_front<'a>(pattern: &'a [u8], text: &'a [u8]) -> Front<'a>
     }
 }
 
-// Whether the pattern matches behind some run of bytes without a slash. Where the next star is reached, the place of this one is
-// forgotten: no longer run of it could lead to more.
+// Whether the pattern matches after some run of bytes without a slash. When the next star is reached, the offset of the current star
+// is dropped, because a longer run of the current star couldn't lead to more matches.
 fn glob_after_run(pattern: &[u8], text: &[u8]) -> bool
     ensures { result ≡ matches_after_run (glob pattern.now) text.now }
 {
@@ -76,8 +77,8 @@ fn glob_after_run(pattern: &[u8], text: &[u8]) -> bool
     }
 }
 
-/// Whether a pattern matches a text, or a front of it that a slash follows. It takes no memory, and reads the pattern's bytes at most
-/// a few times for each byte of the text.
+/// Whether a pattern matches a text, or a prefix of it that a slash follows. It allocates no memory, and reads the pattern's bytes at
+/// most a few times for each byte of the text.
 pub fn glob(pattern: &[u8], text: &[u8]) -> bool
     ensures is { result ≡ glob pattern.now text.now }
     ensures fills { IsTrue result ↔ FillsFront (items pattern.now) text.now }

@@ -1,10 +1,10 @@
--- Distances and faults that begin some bytes earlier, added up.
+-- Counts and faults whose offsets are increased twice.
 use Rattle.std.proofs.Common.{◌≡◌, ℕ, ◌+◌, Option, None, Some, refl, ap, arith}
 use Rattle.st_lex.specs.declared.token.LexFault.{LexFault}
 use Rattle.st_lex.specs.declared.token.LexFault.TheVariants.{BadByte, OpenQuote, BadEscape}
 use Rattle.st_lex.specs.Quoted.{count_after, fault_after, optional_fault_after}
 
--- two distances add up
+-- two increases add up
 pub further-further : (a b : ℕ) (o : Option ℕ) → count_after a (count_after b o) ≡ count_after (a + b) o
 further-further a b None = refl
 further-further a b (Some n) = ap (λ (m : ℕ). Some m) (omega arith)

@@ -1,4 +1,4 @@
--- Texts that the definitions read as they should.
+-- Examples of texts and the tokens that the definitions give for them.
 use Rattle.std.proofs.Common.{◌≡◌, ℕ, true, List, [], ◌∷◌, ◌++◌, None, Some, refl, arith, codes, map}
 use Rattle.st_lex.specs.declared.token.Token.{Token}
 use Rattle.st_lex.specs.declared.token.TokenKind.{TokenKind}
@@ -59,6 +59,6 @@ plain_dollar = refl
 line_of_pieces : print (PlainWord (codes "a") ∷ Sign Colon ∷ Space ∷ QuotedText (codes "b$") ∷ Sign NotEqual ∷ PlainWord (codes "7") ∷ Sign Line ∷ []) ≡ codes "a: \"b\\x24\"!=7" ++ 10 ∷ []
 line_of_pieces = refl
 
--- a line of pieces whose word is any
+-- a line of pieces with any Word
 line_read : (w : List ℕ) → is_word_text w ≡ true → IsReadAs (w ++ codes ": \"b\\x24\"!=7") (record { kind = Word; text = w } ∷ record { kind = Colon; text = codes ":" } ∷ record { kind = Quoted; text = codes "\"b\\x24\"" } ∷ record { kind = NotEqual; text = codes "!=" } ∷ record { kind = Word; text = codes "7" } ∷ [])
 line_read w is = print_is_read (PlainWord w ∷ Sign Colon ∷ Space ∷ QuotedText (codes "b$") ∷ Sign NotEqual ∷ PlainWord (codes "7") ∷ []) (is, tt, (refl, ((omega arith, omega arith, (omega arith, omega arith, tt)), (refl, (refl, tt, tt)))))

@@ -1,4 +1,4 @@
--- The token that stands first in a text, and how the text is read behind it.
+-- The first token of a text, and how the text is read after it.
 use Rattle.std.proofs.Common.{◌≡◌, ℕ, ◌+◌, true, false, List, [], ◌∷◌, ◌++◌, length, take, drop, Option, None, Some, refl, ap, sym, ◌∙◌, arith, nat_eq, append_assoc}
 use Rattle.std.proofs.lemmas.Bool.{false_from_ne_true, and_parts}
 use Rattle.std.specs.List.{prefix_len, list_all}
@@ -17,7 +17,7 @@ use Rattle.st_lex.proofs.Runs.{blank_no_word, is_at}
 use Rattle.st_lex.proofs.Scans.{closing_len-quote, inner_fault-quote}
 use Rattle.st_lex.proofs.Skips.{tokens_from-piece}
 
--- the front of a list, and what stands behind it
+-- the prefix of a list, and the rest after it
 pub take_front : (xs ys : List ℕ) → take (length xs) (xs ++ ys) ≡ xs
 take_front [] ys = refl
 take_front (x ∷ xs) ys = ap (λ (zs : List ℕ). x ∷ zs) (take_front xs ys)
@@ -26,7 +26,7 @@ pub drop_front : (xs ys : List ℕ) → drop (length xs) (xs ++ ys) ≡ ys
 drop_front [] ys = refl
 drop_front (x ∷ xs) ys = drop_front xs ys
 
--- the bytes of a token whose place and length are those of a part
+-- the bytes of a token whose offset and length are those of a part
 pub text_of_part : (front part rest : List ℕ) (token : Token) → token.at ≡ length front → token.len ≡ length part → text_of_token (front ++ (part ++ rest)) token ≡ part
 text_of_part front part rest token at len =
     ap (λ (n : ℕ). take n (drop token.at (front ++ (part ++ rest)))) len
@@ -34,7 +34,7 @@ text_of_part front part rest token at len =
     ∙ ap (take (length part)) (drop_front front (part ++ rest))
     ∙ take_front part rest
 
--- no word goes on into these bytes
+-- no word continues into these bytes
 abbrev pub EndsWord : List ℕ → Type 0
 EndsWord [] = Unit {0}
 EndsWord (b ∷ bs) = is_word_byte b ≡ false
@@ -62,7 +62,7 @@ prefix_len-word (b ∷ bs) rest a e =
     let t : prefix_len is_word_byte (bs ++ rest) ≡ length bs = prefix_len-word bs rest ((and_parts (is_word_byte b) (list_all is_word_byte bs) a).1) e in
     rw h (omega (arith, t))
 
--- a piece that is the front of the text
+-- a piece at the front of the text is its first token
 piece_first : (kind : TokenKind) (b : ℕ) (bs rest : List ℕ) (at line : ℕ) → TokenOf kind (length (b ∷ bs)) ≡ front_of (b ∷ (bs ++ rest)) → tokens_from 0 at line ((b ∷ bs) ++ rest) ≡ with_token (record { kind = kind; at = at; len = length (b ∷ bs); line = line }) (tokens_from 0 (at + length (b ∷ bs)) (line_after kind line) rest)
 piece_first kind b bs rest at line e =
     let k : ℕ = length (b ∷ bs) in
@@ -70,7 +70,7 @@ piece_first kind b bs rest at line e =
     tokens_from-piece kind k at line b (bs ++ rest) e (omega arith) (omega (arith, length-append bs rest))
     ∙ ap (λ (xs : List ℕ). with_token T (tokens_from 0 (at + k) (line_after kind line) xs)) (drop_front (b ∷ bs) rest)
 
--- a Word that stands first, behind which no word byte stands
+-- a Word at the front, with no word byte after it, is the first token
 pub word_first : (w rest : List ℕ) (at line : ℕ) → is_word_text w ≡ true → EndsWord rest → tokens_from 0 at line (w ++ rest) ≡ with_token (record { kind = Word; at = at; len = length w; line = line }) (tokens_from 0 (at + length w) line rest)
 word_first [] rest at line is e = absurd (cc)
 word_first (b ∷ bs) rest at line is e =
@@ -78,7 +78,7 @@ word_first (b ∷ bs) rest at line is e =
     let n : 1 + prefix_len is_word_byte (bs ++ rest) ≡ length (b ∷ bs) = omega (arith, prefix_len-word bs rest all.1 e) in
     piece_first Word b bs rest at line (sym (front_of-word b (bs ++ rest) all.0 ∙ ap (λ (k : ℕ). TokenOf Word k) n))
 
--- a quoted form that stands first
+-- a quoted form at the front is the first token
 pub quoted_first : (bytes rest : List ℕ) (at line : ℕ) → AreBytes bytes → tokens_from 0 at line (quoted bytes ++ rest) ≡ with_token (record { kind = Quoted; at = at; len = length (quoted bytes); line = line }) (tokens_from 0 (at + length (quoted bytes)) line rest)
 quoted_first bytes rest at line a =
     let q : List ℕ = quoted_bytes bytes in
@@ -90,7 +90,7 @@ quoted_first bytes rest at line a =
     piece_first Quoted 34 (q ++ 34 ∷ []) rest at line
     (sym (ap (λ (o : Option ℕ). quoted_front o (inner_fault ((q ++ 34 ∷ []) ++ rest))) c ∙ ap (quoted_front (Some (length q + 1))) f ∙ ap (λ (k : ℕ). TokenOf Quoted k) n))
 
--- a sign that stands first; a newline raises the line
+-- a sign at the front is the first token; a newline increases the line
 pub sign_first : (kind : TokenKind) (rest : List ℕ) (at line : ℕ) → is_sign kind ≡ true → tokens_from 0 at line (sign_bytes kind ++ rest) ≡ with_token (record { kind = kind; at = at; len = length (sign_bytes kind); line = line }) (tokens_from 0 (at + length (sign_bytes kind)) (line_after kind line) rest)
 sign_first Word rest at line is = absurd (cc)
 sign_first Quoted rest at line is = absurd (cc)
@@ -106,6 +106,6 @@ sign_first Less rest at line is = piece_first Less 60 [] rest at line refl
 sign_first Greater rest at line is = piece_first Greater 62 [] rest at line refl
 sign_first Line rest at line is = piece_first Line 10 [] rest at line refl
 
--- a space that stands first is no token
+-- a space at the front is no token
 pub space_first : (rest : List ℕ) (at line : ℕ) → tokens_from 0 at line (32 ∷ rest) ≡ tokens_from 0 (at + 1) line rest
 space_first rest at line = refl

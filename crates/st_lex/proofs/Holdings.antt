@@ -1,4 +1,4 @@
--- What quoted texts hold are bytes that can be quoted.
+-- The contents of quoted texts are bytes that can be quoted.
 use Rattle.std.proofs.Common.{zero, suc, ◌≡◌, ℕ, ◌+◌, ◌-◌, ◌*◌, ◌<◌, ◌≢◌, Bool, true, false, cond, ◌==◌, ◌||◌, nat_eq, List, [], ◌∷◌, ◌++◌, length, take, drop, codes, None, refl, ap, sym, subst, ◌∙◌, arith, take-append-drop}
 use Rattle.std.specs.Char.{digit_value}
 use Rattle.std.specs.List.{AllByRecursion, starts_with}
@@ -14,7 +14,7 @@ AreBytes-append : (xs ys : List ℕ) → AreBytes xs → AreBytes ys → AreByte
 AreBytes-append [] ys a b = b
 AreBytes-append (x ∷ xs) ys a b = (a.0, a.1, AreBytes-append xs ys a.2 b)
 
--- no backslash stands among the first bytes
+-- no backslash is among the first `k` bytes
 abbrev pub NoMarks : ℕ → List ℕ → Type 0
 NoMarks zero bs = Unit {0}
 NoMarks (suc k) [] = Unit {0}
@@ -25,7 +25,7 @@ pub record IsPlainName (named : Named) : Type 0 where
   pub bytes : AreBytes named.text
   pub no_marks : (rest : List ℕ) → NoMarks (length named.name - 1) (drop 1 (named.name ++ rest))
 
--- what a front stands for can be quoted, and no backslash is among the bytes that spell it, but for the first
+-- the text that a front spells can be quoted, and no backslash is among the bytes that spell it after the first byte
 pub record IsPlainFront (front : Spelling) (bs : List ℕ) : Type 0 where
   pub bytes : AreBytes front.text
   pub no_marks : NoMarks (front.len - 1) bs
@@ -51,7 +51,7 @@ named_plain [] b bs all p = plain_byte b bs p
 named_plain (named ∷ others) b bs all p =
     named_by named b bs (named_front others (b ∷ bs)) (starts_with nat_eq (b ∷ bs) named.name) refl all.0 (named_plain others b bs all.1 p)
 
--- ---- behind a backslash
+-- ---- after a backslash
 
 marked_front : (names : List Named) (b : ℕ) (bs : List ℕ) → AreApart names → ((b == 34) || (b == 92)) ≡ true → named_front names (92 ∷ b ∷ bs) ≡ record { text = b ∷ []; len = 2 }
 marked_front names b bs apart m = apart 92 (b ∷ bs) (λ e. omega arith) ∙ rw m refl
@@ -67,7 +67,7 @@ lone_by b bs false false e f n p = refl
 lone_front : (names : List Named) (b : ℕ) (bs : List ℕ) → AreApart names → b ≢ 120 → IsPlainByte b → named_front names (92 ∷ b ∷ bs) ≡ record { text = 92 ∷ []; len = 1 }
 lone_front names b bs apart n p = apart 92 (b ∷ bs) (λ e. omega arith) ∙ lone_by b bs ((b == 34) || (b == 92)) (nat_eq b 120) refl refl n p
 
--- a front is put before what stands for the rest
+-- the text of a front comes before the text of the rest
 put_first : (names : List Named) (b : ℕ) (bs : List ℕ) (front : Spelling) → named_front names (b ∷ bs) ≡ front → AreBytes (front.text ++ unquoted_from names (front.len - 1) bs) → AreBytes (unquoted_from names 0 (b ∷ bs))
 put_first names b bs front e a = subst (λ (f : Spelling). AreBytes (f.text ++ unquoted_from names (f.len - 1) bs)) (sym e) a
 
@@ -76,7 +76,7 @@ plain_first names b bs all p rest =
     let f : IsPlainFront (named_front names (b ∷ bs)) bs = named_plain names b bs all p in
     AreBytes-append (named_front names (b ∷ bs)).text _ f.bytes (rest ((named_front names (b ∷ bs)).len - 1) f.no_marks)
 
--- what stands inside a quoted text stands for bytes that can be quoted
+-- the bytes inside a quoted text spell bytes that can be quoted
 holds : (names : List Named) {bs : List ℕ} → AreApart names → AllByRecursion IsPlainName names → IsInside bs → (k : ℕ) → NoMarks k bs → AreBytes (unquoted_from names k bs)
 holds names apart all Nothing k marks = tt
 holds names apart all (Plain b bs p is) zero marks = plain_first names b bs all p (holds names apart all is)

@@ -1,4 +1,4 @@
--- What stands between the quotes of a quoted text without a fault.
+-- The bytes between the quotes of a quoted text without a fault.
 use Rattle.std.proofs.Common.{zero, suc, ◌≡◌, ℕ, ◌+◌, ◌-◌, ◌*◌, ◌<◌, ◌≤◌, ◌≢◌, Bool, true, false, not, ◌==◌, ◌||◌, ◌&&◌, List, [], ◌∷◌, take, Option, None, Some, refl, ap, sym, subst, ◌∙◌, arith, nat_eq, nat_le, leb-true}
 use Rattle.std.proofs.lemmas.Bool.{and_parts}
 use Rattle.std.specs.Char.{digit_value, is_ascii_hexdigit}
@@ -26,7 +26,7 @@ pub record IsHexByte (h l : ℕ) : Type 0 where
   pub high_mark : h ≢ 92
   pub low_mark : l ≢ 92
 
--- plain bytes; behind a backslash a quote or another backslash, `x` and two digits, or a plain byte
+-- plain bytes, and a backslash followed by a quote or another backslash, by `x` and two digits, or by a plain byte
 pub data IsInside : List ℕ → Type 0 where
   Nothing : IsInside []
   Plain : (b : ℕ) (bs : List ℕ) → IsPlainByte b → IsInside bs → IsInside (b ∷ bs)
@@ -38,7 +38,7 @@ by_test : (b n : ℕ) (P : Type 0) → (b ≡ n → P) → (b ≢ n → P) → (
 by_test b n P same other true e = same (grind (arith, nat_tests))
 by_test b n P same other false e = other (grind (arith, nat_tests))
 
--- whether a byte is this one
+-- a case distinction: whether a byte equals this byte
 byte_is : (b n : ℕ) (P : Type 0) → (b ≡ n → P) → (b ≢ n → P) → P
 byte_is b n P same other = by_test b n P same other (nat_eq b n) refl
 
@@ -72,7 +72,7 @@ closing_len-positive (b ∷ c ∷ cs) =
     (λ _. tested IsPositive (nat_eq c 10) None _ (λ _. tt) (λ _. further-positive 2 (closing_len cs) (omega arith)))
     (λ _. further-positive 1 (closing_len (c ∷ cs)) (omega arith))))
 
--- the place of the closing quote, behind so many bytes
+-- the offset of the closing quote, after this many bytes
 closes_after : (k n : ℕ) (o : Option ℕ) → IsPositive o → count_after k o ≡ Some (suc n) → (m : ℕ) × (k + m ≡ n) × (o ≡ Some (suc m))
 closes_after k n None p e = absurd (cc)
 closes_after k n (Some zero) p e = absurd (omega (arith, p))
@@ -132,9 +132,9 @@ hex_byte_is h l e =
     let some : 0 < digit_value h * 16 + digit_value l = positive (digit_value h) (digit_value l) (λ x y. not_both h l p.1 (a.zero_is x) (b.zero_is y)) in
     (a, b, record { high = a.value; low = b.value; some = some; high_mark = a.no_mark; low_mark = b.no_mark })
 
--- ---- what is closed without a fault
+-- ---- quoted texts that are closed without a fault
 
--- what is closed further on is so
+-- if the text is closed and has no fault, `IsInside` holds of its bytes before the closing quote
 abbrev pub Closes : List ℕ → Type 0
 Closes bs = (n : ℕ) → closing_len bs ≡ Some (suc n) → inner_fault bs ≡ None → IsInside (take n bs)
 
@@ -156,7 +156,7 @@ closes_plain b bs small q l m ih n e f =
     let some : 0 < b = omega arith in
     subst (λ (k : ℕ). IsInside (take k (b ∷ bs))) longer (Plain b (take c.0 bs) (record { some = some; byte = small; no_quote = q; no_mark = m }) inside))
 
--- behind a backslash: a mark or a plain byte
+-- after a backslash: a mark or a plain byte
 pair_of : (c : ℕ) (bs : List ℕ) → c < 256 → c ≢ 0 → c ≢ 120 → IsInside bs → IsInside (92 ∷ c ∷ bs)
 pair_of c bs small z x inside =
     let some : 0 < c = omega arith in
@@ -164,7 +164,7 @@ pair_of c bs small z x inside =
     (λ q. byte_is c 92 (IsInside (92 ∷ c ∷ bs)) (λ m. Marked c bs some small (ap (λ (b : ℕ). (b == 34) || (b == 92)) m) inside)
     (λ m. Lone c bs x (record { some = some; byte = small; no_quote = q; no_mark = m }) inside))
 
--- behind `\x`: two digits, which don't close the text
+-- after `\x`: two digits, which don't close the text
 escape_of : (cs : List ℕ) (m : ℕ) → is_byte_escape cs ≡ true → closing_len cs ≡ Some (suc m) → IsInside (take m cs) → IsInside (92 ∷ 120 ∷ take m cs)
 escape_of [] m x e inside = absurd (cc)
 escape_of (h ∷ []) m x e inside = absurd (cc)
@@ -197,7 +197,7 @@ closes_pair c cs small ih n e f =
     let longer : suc (suc b.0) ≡ n = omega (arith, b.1) in
     subst (λ (k : ℕ). IsInside (take k (92 ∷ c ∷ cs))) longer (pair_closed c cs b.0 small z f b.2 (ih b.0 b.2))))
 
--- at any byte
+-- the step for any first byte
 closes_first : (b c : ℕ) (cs : List ℕ) → b < 256 → c < 256 → Closes cs → Closes (c ∷ cs) → Closes (b ∷ c ∷ cs)
 closes_first b c cs small next pair rest n e f =
     let P : Type 0 = IsInside (take n (b ∷ c ∷ cs)) in
@@ -209,7 +209,7 @@ closes_first b c cs small next pair rest n e f =
 pub closing_len-one : (b : ℕ) → b ≢ 34 → closing_len (b ∷ []) ≡ None
 closing_len-one b q = grind (arith, nat_tests)
 
--- what a quoted text without a fault has between its quotes
+-- `IsInside` holds of the bytes between the quotes of a quoted text without a fault
 pub closed_inside : (bs : List ℕ) → AllByRecursion (λ b. b < 256) bs → Closes bs
 closed_inside [] small n e f = absurd (cc)
 closed_inside (b ∷ []) small n e f =

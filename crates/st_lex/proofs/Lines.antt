@@ -1,4 +1,4 @@
--- The first row of some tokens, and the rows behind it.
+-- The first row of some tokens, and the rows after it.
 use Rattle.std.proofs.Common.{suc, ◌≡◌, ℕ, ◌+◌, ◌-◌, ◌<◌, ◌≤◌, Bool, true, false, List, [], ◌∷◌, length, take, drop, get_or, nat_eq, refl, ap, sym, subst, ◌∙◌, arith}
 use Rattle.std.proofs.lemmas.Bool.{not-true, not_from_false, not_from_true}
 use Rattle.std.specs.Prelude.{All}
@@ -11,7 +11,7 @@ use Rattle.st_lex.specs.declared.token.Token.{Token}
 use Rattle.st_lex.specs.Rows.{ends_line, is_in_line, lines, has_token, rows, IsNextRow}
 use Rattle.std.specs.List.{onto_first}
 
--- a test's value, with the equation
+-- a case distinction by a test's value, with the equation
 either : (b : Bool) (P : Type 0) → (b ≡ true → P) → (b ≡ false → P) → P
 either true P f g = f refl
 either false P f g = g refl
@@ -33,7 +33,7 @@ rows-blank (t ∷ ts) =
     (λ e. rows-line t ts e ∙ rows-blank ts ∙ sym (ap (λ (n : ℕ). rows (drop n (t ∷ ts))) (prefix-yes ends_line t ts e)))
     (λ e. sym (ap (λ (n : ℕ). rows (drop n (t ∷ ts))) (prefix-no ends_line t ts e)))
 
--- the lines behind the first one
+-- the lines of the tokens after the first token
 later_lines : List Token → List (List Token)
 later_lines [] = []
 later_lines (t ∷ ts) = lines ts
@@ -58,7 +58,7 @@ unfolding later_lines
 rows-later [] = refl
 rows-later (t ∷ ts) = refl
 
--- the list is empty, or begins with a token that stands in a line
+-- the list is empty, or begins with a token that doesn't end a line
 abbrev BeginsRow : List Token → Type 0
 BeginsRow [] = Unit {0}
 BeginsRow (t ∷ ts) = ends_line t ≡ false

@@ -1,4 +1,4 @@
--- The tokens of a text are parts of it, in its order, each on the line where it says.
+-- The tokens of a text are slices of it, in its order, each with its line.
 use Rattle.std.proofs.Common.{zero, suc, ◌≡◌, ℕ, ◌+◌, ◌-◌, ◌<◌, ◌≤◌, Bool, true, false, ◌&&◌, List, [], ◌∷◌, length, take, drop, get_or, refl, ap, sym, subst, ◌∙◌, arith}
 use Rattle.std.specs.List.{prefix_len}
 use Rattle.std.proofs.Math.Seq.{take-add}
@@ -15,7 +15,7 @@ use Rattle.st_lex.proofs.Runs.{Ends, IsPiece, Tells, front_tells}
 use Rattle.st_lex.proofs.Skips.{by_front, tokens_from-front}
 use Rattle.st_lex.proofs.Within.{front_of-within}
 
--- tokens of a text, from a place on
+-- tokens of a text in order, each at or after this offset
 abbrev Stands : List ℕ → ℕ → List Token → Type 0
 Stands text end [] = Unit {0}
 Stands text end (t ∷ ts) = (end ≤ t.at) × IsTokenOf text t × Stands text (t.at + t.len) ts
@@ -33,7 +33,7 @@ each text end [] s k d h = absurd (omega arith)
 each text end (t ∷ ts) s zero d h = s.1
 each text end (t ∷ ts) s (suc k) d h = each text (t.at + t.len) ts s.2 k d (omega arith)
 
--- no word goes on over this place of the text
+-- no word continues across this offset of the text
 Bounds : List ℕ → ℕ → Type 0
 Bounds text n = (is_word_byte (byte_before text n) && is_word_byte (get_or text n 0)) ≡ false
 
@@ -70,7 +70,7 @@ length-at text at b bs e =
     let n : length text - at ≡ length (b ∷ bs) = sym (length-drop at text) ∙ ap length e in
     omega arith
 
--- a piece at the front of what is left is a token of the text
+-- a piece at the front of the rest of the text is a token of the text
 piece_is : (text : List ℕ) (at line b : ℕ) (bs : List ℕ) (kind : TokenKind) (k : ℕ) → drop at text ≡ b ∷ bs → line ≡ newlines (take at text) + 1 → Bounds text at → 0 < k → k ≤ length bs + 1 → IsPiece (b ∷ bs) kind k → IsTokenOf text (record { kind = kind; at = at; len = k; line = line })
 unfolding Bounds
 piece_is text at line b bs kind k e l bound p q is =

@@ -15,7 +15,7 @@ use Rattle.st_lex.proofs.Fronts.{EndsWord, text_of_part, word_first, quoted_firs
 abbrev pub token_at : TokenKind → List ℕ → ℕ → ℕ → Token
 token_at kind bytes at line = record { kind = kind; at = at; len = length bytes; line = line }
 
--- the tokens of pieces that are printed from a place and a line on
+-- the tokens of pieces that are printed from an offset and a line
 abbrev pub tokens_at : ℕ → ℕ → List Piece → List Token
 tokens_at at line [] = []
 tokens_at at line (PlainWord bytes ∷ pieces) = token_at Word bytes at line ∷ tokens_at (at + length bytes) line pieces
@@ -23,7 +23,7 @@ tokens_at at line (QuotedText bytes ∷ pieces) = token_at Quoted (quoted bytes)
 tokens_at at line (Sign kind ∷ pieces) = token_at kind (sign_bytes kind) at line ∷ tokens_at (at + length (sign_bytes kind)) (line_after kind line) pieces
 tokens_at at line (Space ∷ pieces) = tokens_at (at + 1) line pieces
 
--- a sign is no word byte
+-- a sign doesn't begin with a word byte
 sign_ends : (kind : TokenKind) (rest : List ℕ) → is_sign kind ≡ true → EndsWord (sign_bytes kind ++ rest)
 sign_ends Word rest is = absurd (cc)
 sign_ends Quoted rest is = absurd (cc)
@@ -39,7 +39,7 @@ sign_ends Less rest is = refl
 sign_ends Greater rest is = refl
 sign_ends Line rest is = refl
 
--- no word goes on into what such pieces print
+-- no word continues into the text of such pieces
 ends_word : (pieces : List Piece) → StandApart pieces → StandWell pieces → EndsWord (print pieces)
 ends_word [] apart well = tt
 ends_word (PlainWord bytes ∷ pieces) apart well = absurd apart
@@ -47,7 +47,7 @@ ends_word (QuotedText bytes ∷ pieces) apart well = refl
 ends_word (Sign kind ∷ pieces) apart well = sign_ends kind (print pieces) well.0
 ends_word (Space ∷ pieces) apart well = refl
 
--- the tokens of a text of pieces, with their places and lines
+-- the tokens of a text of pieces, with their offsets and lines
 pub tokens_from-print : (pieces : List Piece) (at line : ℕ) → StandWell pieces → tokens_from 0 at line (print pieces) ≡ record { tokens = tokens_at at line pieces; fault = None }
 tokens_from-print [] at line well = refl
 tokens_from-print (PlainWord bytes ∷ pieces) at line well =
@@ -58,7 +58,7 @@ tokens_from-print (Sign kind ∷ pieces) at line well =
     sign_first kind (print pieces) at line well.0 ∙ ap (with_token (token_at kind (sign_bytes kind) at line)) (tokens_from-print pieces (at + length (sign_bytes kind)) (line_after kind line) well.1)
 tokens_from-print (Space ∷ pieces) at line well = space_first (print pieces) at line ∙ tokens_from-print pieces (at + 1) line well
 
--- the pieces behind a part are read as they are behind the front and the part
+-- pieces after a prefix and a part are read in the same way, however prefix and part are joined
 spelled_after : (front part : List ℕ) (pieces : List Piece) (line : ℕ) → spelled_tokens ((front ++ part) ++ print pieces) (tokens_at (length (front ++ part)) line pieces) ≡ piece_tokens pieces → spelled_tokens (front ++ (part ++ print pieces)) (tokens_at (length front + length part) line pieces) ≡ piece_tokens pieces
 spelled_after front part pieces line e =
     ap (λ (text : List ℕ). spelled_tokens text (tokens_at (length front + length part) line pieces)) (sym (append_assoc front part (print pieces)))
@@ -79,7 +79,7 @@ spelled-tokens_at front (QuotedText bytes ∷ pieces) line = spelled_part front 
 spelled-tokens_at front (Sign kind ∷ pieces) line = spelled_part front (sign_bytes kind) kind pieces line (line_after kind line) (spelled-tokens_at (front ++ sign_bytes kind) pieces (line_after kind line))
 spelled-tokens_at front (Space ∷ pieces) line = spelled_after front (32 ∷ []) pieces line (spelled-tokens_at (front ++ 32 ∷ []) pieces line)
 
--- what stands well is read as its pieces
+-- the text of pieces for which `StandWell` holds is read as these pieces
 pub print_is_read : (pieces : List Piece) → StandWell pieces → IsReadAs (print pieces) (piece_tokens pieces)
 print_is_read pieces well =
     let e : lexed_text (print pieces) ≡ record { tokens = tokens_at 0 1 pieces; fault = None } = tokens_from-print pieces 0 1 well in
@@ -88,7 +88,7 @@ print_is_read pieces well =
       in_order = ap (λ (lexed : Lexed). spelled_tokens (print pieces) lexed.tokens) e ∙ spelled-tokens_at [] pieces 1;
     }
 
--- texts of pieces one behind the other
+-- the text of two lists of pieces, one after the other, is the text of both
 pub print-append : (ps qs : List Piece) → print (ps ++ qs) ≡ print ps ++ print qs
 print-append ps qs = flat_map-append piece_bytes ps qs
 
@@ -106,7 +106,7 @@ StandApart-append (QuotedText bytes ∷ ps) qs p q = tt
 StandApart-append (Sign kind ∷ ps) qs p q = tt
 StandApart-append (Space ∷ ps) qs p q = tt
 
--- pieces that begin with no Word stand well behind any
+-- `StandWell` holds of two lists of pieces together if it holds of each and the second doesn't begin with a Word
 pub StandWell-append : (ps qs : List Piece) → StandWell ps → StandWell qs → StandApart qs → StandWell (ps ++ qs)
 StandWell-append [] qs p q apart = q
 StandWell-append (PlainWord bytes ∷ ps) qs p q apart = (p.0, StandApart-append ps qs p.1 apart, StandWell-append ps qs p.2 q apart)
@@ -124,7 +124,7 @@ between (QuotedText bytes ∷ ps) qs last p = tt
 between (Sign kind ∷ ps) qs last p = tt
 between (Space ∷ ps) qs last p = tt
 
--- behind a quoted text, a sign or a space, as at a line's end, any pieces stand well that do so themselves
+-- after a quoted text, a sign or a space, as at a line's end, any second list for which `StandWell` holds can follow
 pub StandWell-after : (ps qs : List Piece) (last : Piece) → StandWell (ps ++ last ∷ []) → StandApart (last ∷ []) → StandWell qs → StandWell ((ps ++ last ∷ []) ++ qs)
 StandWell-after [] qs (PlainWord bytes) p apart q = absurd apart
 StandWell-after [] qs (QuotedText bytes) p apart q = (p.0, q)

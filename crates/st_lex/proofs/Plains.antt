@@ -1,4 +1,4 @@
--- Bytes at the front of a quoted text that need no closer look.
+-- Bytes at the front of a quoted text that spell themselves.
 use Rattle.std.proofs.Common.{suc, ◌≡◌, ℕ, ◌+◌, ◌<◌, ◌≢◌, ◌==◌, Bool, true, false, List, [], ◌∷◌, ◌++◌, take, drop, length, Option, None, Some, refl, ap, sym, subst, ◌∙◌, arith, get_or}
 use Rattle.std.proofs.lemmas.Bool.Decides.{nat_tests}
 use Rattle.std.specs.List.{prefix_len}
@@ -12,7 +12,7 @@ pub names_apart : (dollars : Option Dollars) → AreApart (names_in dollars)
 names_apart None = none_apart
 names_apart (Some dollars) = dollars_apart dollars
 
--- plain bytes stand for themselves
+-- plain bytes spell themselves
 pub plain_first : (names : List Named) → AreApart names → (bytes : List ℕ) →
     unquoted_from names 0 bytes ≡ take (prefix_len is_plain_byte bytes) bytes ++ unquoted_from names 0 (drop (prefix_len is_plain_byte bytes) bytes)
 plain_first names apart [] = refl
@@ -28,7 +28,7 @@ plain_first names apart (b ∷ bs) = by (is_plain_byte b) refl (plain_first name
       let one : 1 + prefix_len is_plain_byte bs ≡ suc (prefix_len is_plain_byte bs) = omega arith in
       rw e (first ∙ ap (λ (xs : List ℕ). b ∷ xs) rest ∙ ap (λ (n : ℕ). take n (b ∷ bs) ++ unquoted_from names 0 (drop n (b ∷ bs))) (sym one))
 
--- a quote right behind inner bytes closes the text, and no fault is before it
+-- a quote directly after inner bytes closes the text, and no fault is before it
 pub closed_behind : (bytes : List ℕ) (d : ℕ) → prefix_len is_inner_byte bytes < length bytes → get_or bytes (prefix_len is_inner_byte bytes) d ≡ 34 →
     (closing_len bytes ≡ Some (prefix_len is_inner_byte bytes + 1)) × (inner_fault bytes ≡ None)
 closed_behind [] d inside e = absurd (omega (arith, inside))

@@ -54,7 +54,7 @@ digit_by n false e h = letter n (from_ten n e) h
 digit : (n : ℕ) → n < 16 → IsDigit n (hex_digit n)
 digit n h = digit_by n (nat_lt n 10) refl h
 
--- closing and faults go on behind these bytes, as many bytes further on
+-- the search for the closing quote and for faults skips these bytes, and adds their number to the offset
 pub record Passes (xs : List ℕ) : Type 0 where
   pub closes : (rest : List ℕ) → closing_len (xs ++ rest) ≡ count_after (length xs) (closing_len rest)
   pub faults : (rest : List ℕ) → inner_fault (xs ++ rest) ≡ optional_fault_after (length xs) (inner_fault rest)
@@ -121,7 +121,7 @@ one_from q c f =
     ∙ ap (λ (xs : List ℕ). with_token (T k) (tokens_from 0 (0 + k) 1 xs)) (drop_all k text (omega arith))
     ∙ ap (λ (len : ℕ). with_token (T len) (record { tokens = []; fault = None })) e
 
--- the text that is printed is one token
+-- the quoted form of bytes is one token
 pub lexed_text-quoted : (bytes : List ℕ) → AreBytes bytes → lexed_text (quoted bytes) ≡ one_token (quoted bytes)
 lexed_text-quoted bytes a =
     let p : Passes (quoted_bytes bytes) = passes_bytes bytes a in

@@ -1,4 +1,4 @@
--- What the front of a text says of its bytes: their newlines, and where words and quoted texts end.
+-- Properties of the bytes at the front of a text: their newlines, and where words and quoted texts end.
 use Rattle.std.proofs.Common.{suc, ◌≡◌, ℕ, ◌+◌, ◌-◌, ◌<◌, ◌≤◌, ◌≢◌, Bool, true, false, ◌&&◌, ◌||◌, List, [], ◌∷◌, length, take, get_or, Option, None, Some, refl, ap, sym, subst, ◌∙◌, arith, nat_eq, nat_lt, cond}
 use Rattle.std.proofs.lemmas.Bool.{and_left, and_right, not-false}
 use Rattle.std.specs.List.{prefix_len}
@@ -16,9 +16,9 @@ use Rattle.st_lex.specs.Slices.{newlines}
 use Rattle.st_lex.proofs.Distances.{further-further}
 use Rattle.st_lex.specs.Tokens.{front_of, is_blank, is_word_byte, is_no_newline, sign_of, sign_front, quoted_front, not_equal_front, line_after}
 
--- ---- what a front says
+-- ---- properties of a front
 
--- no word goes on over this place
+-- no word continues across this offset
 abbrev pub Ends : List ℕ → ℕ → Type 0
 Ends bytes k = (is_word_byte (get_or bytes (k - 1) 0) && is_word_byte (get_or bytes k 0)) ≡ false
 
@@ -32,7 +32,7 @@ pub record IsPiece (bytes : List ℕ) (kind : TokenKind) (k : ℕ) : Type 0 wher
   pub word : kind ≡ Word → prefix_len is_word_byte bytes ≡ k
   pub quoted : kind ≡ Quoted → (2 ≤ k) × (get_or bytes 0 0 ≡ 34) × (get_or bytes (k - 1) 0 ≡ 34)
 
--- what the front of a text says of its bytes
+-- the property of the bytes at the front of a text, by its kind
 abbrev pub Tells : List ℕ → Front → Type 0
 Tells bytes (Gap k) = IsGap bytes k
 Tells bytes (Piece kind k) = IsPiece bytes kind k
@@ -40,7 +40,7 @@ Tells bytes (Broken fault) = Unit {0}
 
 -- ---- bytes, and runs of bytes
 
--- what holds in each case of a test
+-- a property of a choice, from both cases of its test
 pub tested : {A : Type 0} (P : A → Type 0) (b : Bool) (x y : A) → (b ≡ true → P x) → (b ≡ false → P y) → P (cond b x y)
 tested P true x y f g = f refl
 tested P false x y f g = g refl
@@ -89,7 +89,7 @@ below a b e = grind (arith, nat_tests)
 not_below : (a b : ℕ) → nat_lt a b ≡ false → b ≤ a
 not_below a b e = grind (arith, nat_tests)
 
--- a byte that is this one is no word byte, where this one isn't
+-- a byte that equals a byte outside words is no word byte
 no_word : (b n : ℕ) → b ≡ n → is_word_byte n ≡ false → is_word_byte b ≡ false
 no_word b n e w = ap is_word_byte e ∙ w
 
@@ -106,7 +106,7 @@ blank_no_word b e =
     (λ x. let i : b ≡ 9 = is_at b 9 x in (no_word b 9 i refl, λ n. omega arith))
     (λ x. let i : b ≡ 13 = is_at b 13 x in (no_word b 13 i refl, λ n. omega arith)))
 
--- behind a run stands a byte that stops it, or nothing
+-- after a run there is a byte that stops it, or nothing
 stops : (p : ℕ → Bool) → ((b : ℕ) → p b ≡ false → is_word_byte b ≡ false) → (bs : List ℕ) → is_word_byte (get_or bs (prefix_len p bs) 0) ≡ false
 stops p h bs =
     either (nat_lt (prefix_len p bs) (length bs)) (is_word_byte (get_or bs (prefix_len p bs) 0) ≡ false)
@@ -182,7 +182,7 @@ signs_tell b bs =
 
 -- ---- quoted texts
 
--- the closing quote is the last byte, and no newline stands before it
+-- the closing quote is the last byte, and no newline is before it
 Closed : List ℕ → Option ℕ → Type 0
 Closed bs None = Unit {0}
 Closed bs (Some n) = (1 ≤ n) × (get_or bs (n - 1) 0 ≡ 34) × (newlines (take n bs) ≡ 0)
@@ -247,7 +247,8 @@ not_equal_tells b (c ∷ cs) i =
     })
     (λ _. tt)
 
--- what stands at the front ends with no word that goes on, has the newlines that its kind has, and is a whole word or between quotes
+-- no word continues across the end of a front; a front has the newlines of its kind, and is a whole word or between quotes if it
+-- is a Word or a quoted text
 pub front_tells : (b : ℕ) (bs : List ℕ) → Tells (b ∷ bs) (front_of (b ∷ bs))
 front_tells b bs =
     let P : Front → Type 0 = Tells (b ∷ bs) in

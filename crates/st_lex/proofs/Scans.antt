@@ -6,7 +6,7 @@ use Rattle.st_lex.specs.declared.token.LexFault.TheVariants.{BadByte, BadEscape}
 use Rattle.st_lex.specs.Quoted.{closing_len, count_after, inner_fault, optional_fault_after, is_byte_escape}
 use Rattle.st_lex.proofs.Distances.{further-further, further-zero, later-later, later-zero}
 
--- a scan that stands at a place, or behind a backslash there, has found nothing yet
+-- a scan at this offset, escaped by a backslash before it or not, has found no closing quote so far
 abbrev pub Closes : Bool → List ℕ → ℕ → Type 0
 Closes false bytes i = closing_len bytes ≡ count_after i (closing_len (drop i bytes))
 Closes true bytes i = (k : ℕ) × (k + 1 ≡ i) × (closing_len bytes ≡ count_after k (closing_len (92 ∷ drop i bytes)))
@@ -32,7 +32,7 @@ at_place bytes i b inside is = drop_more bytes i 0 inside ∙ ap (λ (v : ℕ). 
 pub Closes-start : (bytes : List ℕ) → Closes false bytes 0
 Closes-start bytes = sym (further-zero (closing_len bytes))
 
--- behind a backslash anything but a newline ends the pair
+-- after a backslash any byte but a newline ends the pair
 behind : (bytes : List ℕ) (i : ℕ) → i < length bytes → get_or bytes i 0 ≢ 10 → Closes true bytes i → Closes false bytes (i + 1)
 behind bytes i inside n c =
     let e : closing_len (92 ∷ drop i bytes) ≡ count_after 2 (closing_len (drop (i + 1) bytes)) = ap (λ (x : List ℕ). closing_len (92 ∷ x)) (at_place bytes i (get_or bytes i 0) inside refl) ∙ closing_len-pair (get_or bytes i 0) (drop (i + 1) bytes) n in
@@ -68,7 +68,7 @@ pub Closes-end : (escaped : Bool) (bytes : List ℕ) (i : ℕ) → length bytes 
 Closes-end false bytes i past c = let e : drop i bytes ≡ [] = drop_all i bytes past in c ∙ ap (λ (x : List ℕ). count_after i (closing_len x)) e
 Closes-end true bytes i past c = let e : drop i bytes ≡ [] = drop_all i bytes past in c.2 ∙ ap (λ (x : List ℕ). count_after c.0 (closing_len (92 ∷ x))) e
 
--- the same of the first fault
+-- a scan at this offset, escaped by a backslash before it or not, has found no fault so far
 abbrev pub Faults : Bool → List ℕ → ℕ → Type 0
 Faults false bytes i = inner_fault bytes ≡ optional_fault_after i (inner_fault (drop i bytes))
 Faults true bytes i = (k : ℕ) × (k + 1 ≡ i) × (inner_fault bytes ≡ optional_fault_after k (inner_fault (92 ∷ drop i bytes)))

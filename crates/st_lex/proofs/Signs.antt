@@ -6,7 +6,7 @@ use Rattle.st_lex.specs.declared.token.TokenKind.{TokenKind}
 use Rattle.st_lex.specs.declared.token.TokenKind.TheVariants.{Line, Colon, Comma, Open, Close, OpenBracket, CloseBracket, Equal, Less, Greater}
 use Rattle.st_lex.specs.Tokens.{front_of, sign_of}
 
--- the byte is this sign, or one of the rest
+-- a case distinction: the byte is this sign, or one of the rest
 either : (b c : ℕ) (this k : TokenKind) (rest : Option TokenKind) (P : Type 0) → (b ≡ c → this ≡ k → P) → (rest ≡ Some k → P) → (if b == c then Some this else rest) ≡ Some k → P
 either b c this k rest P here behind e = by (nat_eq b c) refl e where
   by : (t : Bool) → nat_eq b c ≡ t → (if t then Some this else rest) ≡ Some k → P

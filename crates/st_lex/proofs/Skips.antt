@@ -1,4 +1,4 @@
--- The tokens of a text, one front after the other.
+-- The tokens of a text, front by front.
 use Rattle.std.proofs.Common.{zero, suc, ◌≡◌, ℕ, ◌+◌, ◌-◌, ◌<◌, ◌≤◌, List, [], ◌∷◌, ◌++◌, length, take, drop, get_or, Some, refl, ap, sym, ◌∙◌, arith}
 use Rattle.std.proofs.lemmas.List.{drop_more, drop-drop, take_rest, length-drop}
 use Rattle.st_lex.specs.declared.token.Token.{Token}
@@ -10,7 +10,7 @@ use Rattle.st_lex.specs.declared.token.Front.TheVariants.{Gap, Piece, Broken}
 use Rattle.st_lex.specs.Quoted.{fault_after}
 use Rattle.st_lex.specs.Tokens.{front_of, line_after, with_token, tokens_from}
 
--- skipped bytes only move the place
+-- skipped bytes only increase the offset
 pub tokens_from-skip : (k at line : ℕ) (bytes : List ℕ) → k ≤ length bytes → tokens_from k at line bytes ≡ tokens_from 0 (at + k) line (drop k bytes)
 tokens_from-skip zero at line bytes h = let e : at ≡ at + 0 = omega arith in ap (λ (a : ℕ). tokens_from 0 a line bytes) e
 tokens_from-skip (suc k) at line [] h = absurd (omega arith)
@@ -18,7 +18,7 @@ tokens_from-skip (suc k) at line (b ∷ bs) h =
     let e : at + 1 + k ≡ at + suc k = omega arith in
     tokens_from-skip k (at + 1) line bs (omega arith) ∙ ap (λ (a : ℕ). tokens_from 0 a line (drop k bs)) e
 
--- what a text gives by what stands at its front
+-- the tokens of a text by what is at its front
 unfoldable pub by_front : ℕ → ℕ → List ℕ → Front → Lexed
 by_front at line bs (Gap k) = tokens_from (k - 1) (at + 1) line bs
 by_front at line bs (Piece kind k) = with_token (record { kind = kind; at = at; len = k; line = line }) (tokens_from (k - 1) (at + 1) (line_after kind line) bs)
@@ -48,11 +48,11 @@ pub tokens_from-broken : (fault : LexFault) (at line b : ℕ) (bs : List ℕ) �
 unfolding by_front
 tokens_from-broken fault at line b bs e = tokens_from-front at line b bs ∙ ap (by_front at line bs) (sym e)
 
--- tokens that come first
+-- the tokens with further tokens before them
 abbrev pub before : List Token → Lexed → Lexed
 before ts lexed = record { tokens = ts ++ lexed.tokens; fault = lexed.fault }
 
--- the text behind a place, as its parts are passed on
+-- the text after the byte at an offset, in the form in which slices give it
 abbrev pub text_after : List ℕ → ℕ → List ℕ
 text_after text at = take (length text - (at + 1)) (drop (at + 1) text)
 

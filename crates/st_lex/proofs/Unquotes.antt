@@ -1,4 +1,4 @@
--- What the bytes between quotes stand for, one front after the other, and that quoted forms are read back.
+-- The text that the bytes between quotes spell, front by front, and a proof that quoted forms are read back.
 use Rattle.std.proofs.Common.{zero, suc, ◌≡◌, ℕ, ◌+◌, ◌-◌, ◌*◌, ◌/◌, ◌%◌, ◌<◌, ◌≢◌, Bool, true, false, ◌==◌, ◌||◌, ◌&&◌, List, [], ◌∷◌, ◌++◌, length, take, drop, Option, None, Some, refl, ap, sym, ◌∙◌, arith, nat_eq, nat_lt, cond, append_assoc}
 use Rattle.std.specs.Char.{digit_value}
 use Rattle.std.proofs.lemmas.List.{drop-drop, length-append}
@@ -9,13 +9,13 @@ use Rattle.st_lex.specs.Text.{inside}
 use Rattle.st_lex.specs.Unquote.{Named, Spelling, hex_byte, escape_or_backslash, plain_front, named_front, dollar_names, unquoted_from, unquoted, unquoted_plain}
 use Rattle.st_lex.proofs.Fronts.{take_front, drop_front}
 
--- bytes that belong to the front before them are passed over
+-- bytes that belong to the previous front are skipped
 pub unquoted_from-skip : (names : List Named) (k : ℕ) (bytes : List ℕ) → unquoted_from names k bytes ≡ unquoted_from names 0 (drop k bytes)
 unquoted_from-skip names zero bytes = refl
 unquoted_from-skip names (suc k) [] = refl
 unquoted_from-skip names (suc k) (b ∷ bs) = unquoted_from-skip names k bs
 
--- what the front stands for comes first
+-- the text that the front spells comes first
 pub unquoted_from-front : (names : List Named) (k : ℕ) (bytes : List ℕ) → 0 < length bytes → (named_front names bytes).len ≡ k → 0 < k → unquoted_from names 0 bytes ≡ (named_front names bytes).text ++ unquoted_from names 0 (drop k bytes)
 unquoted_from-front names k [] h e p = absurd (omega arith)
 unquoted_from-front names zero (b ∷ bs) h e p = absurd (omega arith)
@@ -24,7 +24,7 @@ unquoted_from-front names (suc k) (b ∷ bs) h e p =
     let n : (named_front names (b ∷ bs)).len - 1 ≡ k = omega (arith, e) in
     ap F n ∙ ap (λ (xs : List ℕ). (named_front names (b ∷ bs)).text ++ xs) (unquoted_from-skip names k bs)
 
--- the front at a place, behind a text so far
+-- the text so far, extended by what the front at an offset spells
 pub front_at : (names : List Named) (whole text next bytes part : List ℕ) (at k : ℕ) → part ≡ drop at bytes → 0 < length part → whole ≡ text ++ unquoted_from names 0 (drop at bytes) → (named_front names part).len ≡ k → 0 < k → next ≡ text ++ (named_front names part).text → whole ≡ next ++ unquoted_from names 0 (drop (at + k) bytes)
 front_at names whole text next bytes part at k cut inside same len some is =
     let f : List ℕ = (named_front names part).text in
@@ -33,12 +33,12 @@ front_at names whole text next bytes part at k cut inside same len some is =
     same ∙ ap (λ (xs : List ℕ). text ++ unquoted_from names 0 xs) (sym cut) ∙ ap (λ (xs : List ℕ). text ++ xs) split
     ∙ sym (append_assoc text f rest) ∙ ap (λ (xs : List ℕ). xs ++ rest) (sym is)
 
--- these bytes stand for one byte
+-- these bytes spell one byte
 record Spells (names : List Named) (spelled : List ℕ) (b : ℕ) : Type 0 where
   first : (rest : List ℕ) → named_front names (spelled ++ rest) ≡ record { text = b ∷ []; len = length spelled }
   some : 0 < length spelled
 
--- each name begins with a dollar sign
+-- names make no difference at a byte that isn't a dollar sign
 abbrev pub AreApart : List Named → Type 0
 AreApart names = (b : ℕ) (bs : List ℕ) → b ≢ 36 → named_front names (b ∷ bs) ≡ plain_front (b ∷ bs)
 
@@ -114,7 +114,7 @@ inside-marks q =
     let n : length (34 ∷ (q ++ 34 ∷ [])) - 2 ≡ length q = omega (arith, length-append q (34 ∷ [])) in
     ap (λ (k : ℕ). take k (q ++ 34 ∷ [])) n ∙ take_front q (34 ∷ [])
 
--- what is printed in quotes is read back, with the names replaced or without
+-- the quoted form of bytes is read back as these bytes, whether names are replaced or not
 pub unquoted-quoted : (dollars : Dollars) (bytes : List ℕ) → AreBytes bytes → unquoted dollars (quoted bytes) ≡ bytes
 unquoted-quoted dollars bytes a =
     ap (unquoted_from (dollar_names dollars) 0) (inside-marks (quoted_bytes bytes)) ∙ unquoted_from-quoted (dollar_names dollars) bytes (dollars_apart dollars) a

@@ -1,4 +1,4 @@
--- What the tokens of a text are: Words that can be printed so, and quoted texts without a fault.
+-- The tokens of a text: its Words can be printed as Words, and its quoted texts have no fault.
 use Rattle.std.proofs.Common.{zero, suc, ◌≡◌, ℕ, ◌+◌, ◌-◌, ◌<◌, ◌≤◌, Bool, true, false, nat_eq, List, [], ◌∷◌, length, take, drop, Option, None, Some, refl, ap, sym, subst, ◌∙◌, arith, length-take, length-drop, take-take}
 use Rattle.std.specs.List.{AllByRecursion, prefix_len, list_all}
 use Rattle.std.proofs.lemmas.List.Elements.{recursion_from_All}
@@ -57,7 +57,7 @@ words_whole text = each_whole text (lexed_text text).tokens (recursion_from_All 
 
 -- ---- quoted texts
 
--- what stands between the quotes of a quoted text has no fault
+-- the bytes between the quotes of a quoted text have no fault
 abbrev pub HasInside : List ℕ → Token → Type 0
 HasInside text token = token.kind ≡ Quoted → IsInside (inside (text_of_token text token))
 

@@ -1,4 +1,4 @@
--- What stands at the front of a text lies within the text.
+-- The front of a text is within the text.
 use Rattle.std.proofs.Common.{◌≡◌, ℕ, ◌+◌, ◌<◌, ◌≤◌, Bool, true, false, List, [], ◌∷◌, length, Option, None, Some, refl, arith, nat_eq, cond}
 use Rattle.std.specs.List.{prefix_len}
 use Rattle.std.proofs.lemmas.List.Sums.{prefix_len-le-length}
@@ -11,7 +11,7 @@ use Rattle.st_lex.specs.declared.token.TokenKind.TheVariants.{Word, NotEqual}
 use Rattle.st_lex.specs.Quoted.{closing_len, count_after, inner_fault, optional_fault_after, fault_after, place_of}
 use Rattle.st_lex.specs.Tokens.{LiesWithin, front_of, is_blank, is_word_byte, is_no_newline, sign_of, sign_front, quoted_front, not_equal_front}
 
--- what holds of both values holds of the one that is chosen
+-- a property of both values is a property of the chosen value
 chosen : {A : Type 0} (P : A → Type 0) (b : Bool) (x y : A) → P x → P y → P (cond b x y)
 chosen P true x y px py = px
 chosen P false x y px py = py
@@ -24,7 +24,7 @@ further-within : (k n m : ℕ) (o : Option ℕ) → m ≡ k + n → CountWithin 
 further-within k n m None e h = tt
 further-within k n m (Some x) e h = omega arith
 
--- the closing quote stands within the text
+-- the closing quote is within the text
 pub closing_len-within : (bs : List ℕ) → CountWithin (length bs) (closing_len bs)
 closing_len-within [] = tt
 closing_len-within (b ∷ []) = chosen (CountWithin 1) (nat_eq b 34) (Some 1) None (omega arith) tt

@@ -15,7 +15,7 @@ all_word-append (x ∷ xs) ys p q =
     let e : is_word_byte x ≡ true = h.0 in
     rw e (all_word-append xs ys h.1 q)
 
--- a Word that word bytes follow is a Word
+-- a Word followed by word bytes is a Word
 pub is_word_text-append : (xs ys : List ℕ) → is_word_text xs ≡ true → list_all is_word_byte ys ≡ true → is_word_text (xs ++ ys) ≡ true
 is_word_text-append [] ys p q = absurd (cc)
 is_word_text-append (x ∷ xs) ys p q = all_word-append (x ∷ xs) ys p q
@@ -32,7 +32,7 @@ is_word_text-decimal n h =
     (λ m digits l p. let last : m % 10 < 10 = omega arith in is_word_text-append digits ((48 + m % 10) ∷ []) p (let e : is_word_byte (48 + m % 10) ≡ true = digit_byte (m % 10) last in rw e refl))
     n h
 
--- word bytes are a Word where there is one
+-- word bytes are a Word if there is at least one
 pub word_bytes_are_word : (bytes : List ℕ) → 1 ≤ length bytes → list_all is_word_byte bytes ≡ is_word_text bytes
 word_bytes_are_word [] some = absurd (omega (arith, some))
 word_bytes_are_word (b ∷ bs) some = refl

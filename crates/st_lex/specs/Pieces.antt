@@ -1,4 +1,4 @@
--- Texts that are printed piece by piece, and the tokens that they are read as.
+-- Texts that are printed piece by piece, and the tokens as which they are read.
 use Rattle.std.specs.Prelude.{ℕ, ◌≡◌, Bool, true, false, List, [], ◌∷◌, map, None, codes}
 use Rattle.std.specs.List.{flat_map, list_all}
 use Rattle.st_lex.specs.declared.token.Token.{Token}
@@ -12,9 +12,9 @@ use Rattle.st_lex.specs.Tokens.{is_word_byte, lexed_text}
 -- a part of a text as it is printed
 pub data Piece : Type 0 where
   PlainWord : List ℕ → Piece
-  -- printed in quotes
+  -- bytes that are printed in their quoted form
   QuotedText : List ℕ → Piece
-  -- a newline is one too
+  -- a sign; a newline is a sign too
   Sign : TokenKind → Piece
   Space : Piece
 
@@ -24,7 +24,7 @@ is_sign Word = false
 is_sign Quoted = false
 is_sign _ = true
 
--- the bytes of a sign; none for a kind that isn't one
+-- the bytes of a sign; empty for a kind that isn't a sign
 abbrev pub sign_bytes : TokenKind → List ℕ
 sign_bytes Word = []
 sign_bytes Quoted = []
@@ -40,14 +40,14 @@ sign_bytes Less = codes "<"
 sign_bytes Greater = codes ">"
 sign_bytes Line = newline ∷ []
 
--- the bytes that a piece is printed as
+-- the bytes as which a piece is printed
 abbrev pub piece_bytes : Piece → List ℕ
 piece_bytes (PlainWord bytes) = bytes
 piece_bytes (QuotedText bytes) = quoted bytes
 piece_bytes (Sign kind) = sign_bytes kind
 piece_bytes Space = codes " "
 
--- the text that pieces are printed as
+-- the text as which pieces are printed
 abbrev pub print : List Piece → List ℕ
 print pieces = flat_map piece_bytes pieces
 
@@ -56,7 +56,7 @@ abbrev pub is_word_text : List ℕ → Bool
 is_word_text [] = false
 is_word_text (b ∷ bs) = list_all is_word_byte (b ∷ bs)
 
--- no Word stands first
+-- the first piece isn't a Word
 abbrev pub StandApart : List Piece → Type 0
 StandApart [] = Unit {0}
 StandApart (PlainWord bytes ∷ pieces) = ⊥
@@ -70,20 +70,20 @@ StandWell (QuotedText bytes ∷ pieces) = AreBytes bytes × StandWell pieces
 StandWell (Sign kind ∷ pieces) = (is_sign kind ≡ true) × StandWell pieces
 StandWell (Space ∷ pieces) = StandWell pieces
 
--- what a token is, and its bytes
+-- a token's kind and its bytes
 pub record SpelledToken : Type 0 where
   pub kind : TokenKind
   pub text : List ℕ
 
--- what a token of a text is, with its bytes
+-- the kind and the bytes of a token of a text
 abbrev pub spelled_token : List ℕ → Token → SpelledToken
 spelled_token text token = record { kind = token.kind; text = text_of_token text token }
 
--- what the tokens of a text are, each with its bytes, in order
+-- the kinds and the bytes of the tokens of a text, in order
 abbrev pub spelled_tokens : List ℕ → List Token → List SpelledToken
 spelled_tokens text tokens = map (spelled_token text) tokens
 
--- the pieces as tokens: all but the spaces
+-- the tokens that the pieces represent: one for each piece that isn't a space
 abbrev pub piece_tokens : List Piece → List SpelledToken
 piece_tokens [] = []
 piece_tokens (PlainWord bytes ∷ pieces) = record { kind = Word; text = bytes } ∷ piece_tokens pieces

@@ -1,4 +1,4 @@
--- Texts without comments and faults.
+-- Texts without comments and lexical faults.
 use Rattle.std.specs.Prelude.{ℕ, ◌==◌, if◌then◌else◌, List, Option, Some, None}
 use Rattle.std.specs.List.{list_any}
 use Rattle.st_lex.specs.declared.token.LexFault.{LexFault}
@@ -9,7 +9,7 @@ use Rattle.st_lex.specs.Tokens.{lexed_text}
 abbrev pub hash : ℕ
 hash = 35
 
--- these tokens, where there is no lexical fault
+-- these tokens, if there is no lexical fault
 abbrev pub unless_faulty : List Token → Option LexFault → Option (List Token)
 unless_faulty tokens None = Some tokens
 unless_faulty tokens (Some fault) = None

@@ -5,20 +5,20 @@ use Rattle.st_lex.specs.declared.token.Token.{Token}
 use Rattle.st_lex.specs.declared.token.TokenKind.{TokenKind}
 use Rattle.st_lex.specs.declared.token.TokenKind.TheVariants.{Line}
 
--- whether a token of this kind is a line's end
+-- whether a token of this kind ends a line
 abbrev pub is_line : TokenKind → Bool
 is_line Line = true
 is_line _ = false
 
--- whether a token is a line's end
+-- whether a token ends a line
 abbrev pub ends_line : Token → Bool
 ends_line token = is_line token.kind
 
--- whether a token is no line's end
+-- whether a token doesn't end a line
 abbrev pub is_in_line : Token → Bool
 is_in_line token = not (ends_line token)
 
--- what stands between the tokens that end a line
+-- the lists of tokens between the tokens that end a line
 abbrev pub lines : List Token → List (List Token)
 lines tokens = slice_split ends_line tokens
 
@@ -31,7 +31,7 @@ has_token (token ∷ tokens) = true
 abbrev pub rows : List Token → List (List Token)
 rows tokens = filter has_token (lines tokens)
 
--- the first row, and the tokens behind its line
+-- `row` is the first row of the tokens, and `behind` are the tokens after its line
 pub record IsNextRow (tokens row behind : List Token) : Type 0 where
   pub first : rows tokens ≡ row ∷ rows behind
   pub has_token : has_token row ≡ true

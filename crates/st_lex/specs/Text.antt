@@ -1,3 +1,4 @@
+-- The bytes of tokens, and tests of their kinds.
 use Rattle.std.specs.Prelude.{ℕ, ◌-◌, Bool, true, false, not, ◌&&◌, ◌==◌, if◌then◌else◌, List, take, drop, length, nat_le, Option, Some, None}
 use Rattle.std.specs.List.{list_any}
 use Rattle.std.specs.Str.{bytes_eq}
@@ -6,7 +7,7 @@ use Rattle.st_lex.specs.declared.token.TokenKind.{TokenKind}
 use Rattle.st_lex.specs.declared.token.TokenKind.TheVariants.{Word, Quoted, Colon, Comma}
 use Rattle.st_lex.specs.Quoted.{backslash}
 
--- the bytes of a text that a token is
+-- the bytes of a token in its text
 abbrev pub text_of_token : List ℕ → Token → List ℕ
 text_of_token text token = take token.len (drop token.at text)
 
@@ -34,7 +35,7 @@ is_comma _ = false
 abbrev pub is_keyword : List ℕ → List ℕ → Token → Bool
 is_keyword text word token = is_word token.kind && bytes_eq (text_of_token text token) word
 
--- what stands between the quotes
+-- the bytes between the quotes
 abbrev pub inside : List ℕ → List ℕ
 inside bytes = take (length bytes - 2) (drop 1 bytes)
 
@@ -42,7 +43,7 @@ inside bytes = take (length bytes - 2) (drop 1 bytes)
 abbrev pub is_plain : List ℕ → Bool
 is_plain bytes = not (list_any (λ b. b == backslash) bytes) && nat_le 2 (length bytes)
 
--- what a quoted text without a backslash holds
+-- the bytes between the quotes, if the token is a quoted text without a backslash
 abbrev pub plain_quoted : List ℕ → Token → Option (List ℕ)
 plain_quoted text token =
     if is_quoted token.kind && is_plain (text_of_token text token) then Some (inside (text_of_token text token)) else None

@@ -12,19 +12,19 @@ use Rattle.st_lex.specs.declared.token.Front.{Front}
 use Rattle.st_lex.specs.declared.token.Front.TheVariants.{Gap, Piece, Broken}
 use Rattle.st_lex.specs.Quoted.{newline, quote_mark, closing_len, inner_fault, fault_after, place_of}
 
--- space, tab and carriage return
+-- whether a byte is a space, a tab or a carriage return
 abbrev pub is_blank : ℕ → Bool
 is_blank b = (b == 32) || ((b == 9) || (b == 13))
 
--- whether a byte can stand in a Word: a letter, a digit, or one of `_-./+~%`
+-- whether a byte can be in a Word: a letter, a digit, or one of `_-./+~%`
 abbrev pub is_word_byte : ℕ → Bool
 is_word_byte b = is_ascii_alphanumeric b || list_any (λ c. b == c) (codes "_-./+~%")
 
--- whether a byte is no newline
+-- whether a byte isn't a newline
 abbrev pub is_no_newline : ℕ → Bool
 is_no_newline b = not (b == newline)
 
--- the tokens of one byte
+-- the kind of the one-byte token that this byte is, if it is one
 abbrev pub sign_of : ℕ → Option TokenKind
 sign_of b =
     if b == newline then Some Line
@@ -39,23 +39,23 @@ sign_of b =
     else (if b == 62 then Some Greater
     else None)))))))))
 
--- a sign of one byte, or a byte that begins no token
+-- the front of a byte that is a sign, or that begins no token
 abbrev pub sign_front : Option TokenKind → Front
 sign_front None = Broken (BadByte 0)
 sign_front (Some kind) = Piece kind 1
 
--- a `!` is the sign `!=` or no token
+-- the front that `!` and the bytes after it form: the sign `!=`, or no token
 abbrev pub not_equal_front : List ℕ → Front
 not_equal_front [] = Broken (BadByte 0)
 not_equal_front (b ∷ bs) = if b == 61 then Piece NotEqual 2 else Broken (BadByte 0)
 
--- from how many bytes close a quoted text and what fault is inside
+-- the front that begins with a quote, by the number of bytes up to the closing quote and the first fault inside
 abbrev pub quoted_front : Option ℕ → Option LexFault → Front
 quoted_front None inside = Broken (OpenQuote 0)
 quoted_front (Some n) None = Piece Quoted (1 + n)
 quoted_front (Some n) (Some fault) = Broken (fault_after 1 fault)
 
--- what stands at the front of a text that isn't empty: a gap, a token or a fault
+-- what is at the front of a text that isn't empty: a gap, a token or a fault
 abbrev pub front_of : List ℕ → Front
 front_of [] = Gap 0
 front_of (b ∷ bs) =
@@ -66,22 +66,22 @@ front_of (b ∷ bs) =
     else (if b == 33 then not_equal_front bs
     else sign_front (sign_of b)))))
 
--- a gap or a token has a byte, and all of it lies within the text; a fault lies there
+-- a gap or a token has at least one byte and at most the `n` bytes of the text; a fault's offset is within the text
 abbrev pub LiesWithin : ℕ → Front → Type 0
 LiesWithin n (Gap k) = (0 < k) × (k ≤ n)
 LiesWithin n (Piece kind k) = (0 < k) × (k ≤ n)
 LiesWithin n (Broken fault) = place_of fault < n
 
--- the line of what stands behind a token of this line
+-- the line of the bytes after a token of this kind on this line
 abbrev pub line_after : TokenKind → ℕ → ℕ
 line_after Line line = line + 1
 line_after _ line = line
 
--- the tokens with one more in front
+-- the tokens with one more token before them
 abbrev pub with_token : Token → Lexed → Lexed
 with_token token lexed = record { tokens = token ∷ lexed.tokens; fault = lexed.fault }
 
--- the tokens of a text from a place and a line on, behind the bytes that a token or a gap still has
+-- the tokens of the rest of a text, from this offset and line, after the first `skip` bytes that still belong to a token or a gap
 abbrev pub tokens_from : ℕ → ℕ → ℕ → List ℕ → Lexed
 tokens_from skip at line [] = record { tokens = []; fault = None }
 tokens_from (suc skip) at line (b ∷ bs) = tokens_from skip (at + 1) line bs
@@ -96,7 +96,7 @@ tokens_from zero at line (b ∷ bs) =
 abbrev pub lexed_text : List ℕ → Lexed
 lexed_text text = tokens_from 0 0 1 text
 
--- what comes next, by what was left before it and what is left behind it
+-- the result of reading the next token, by the tokens that remain before and after it
 abbrev pub IsNext : Result (Option Token) LexFault → Lexed → Lexed → Type 0
 IsNext (Ok (Some token)) old new = old ≡ with_token token new
 IsNext (Ok None) old new = (old ≡ record { tokens = []; fault = None }) × (new ≡ old)

@@ -28,7 +28,7 @@ fn are_word_bytes(bytes: &[u8]) -> bool
     bytes.iter().all(|byte| is_word_byte(*byte))
 }
 
-/// Whether bytes are one Word: one byte or more, each of those that Words are made of.
+/// Whether bytes are one Word: at least one byte, and only bytes that may be in a Word.
 pub fn is_word_text(bytes: &[u8]) -> bool
     ensures { result ≡ is_word_text bytes.now }
 {
@@ -50,7 +50,7 @@ fn comment_len(bytes: &[u8]) -> usize
     bytes.iter().take_while(|byte| **byte != b'\n').count()
 }
 
-// The kind of a token that is one byte.
+// The kind of the one-byte token that this byte is, if it is one.
 fn sign_of(byte: u8) -> Option<TokenKind>
     ensures { result ≡ sign_of byte }
 {
@@ -70,7 +70,7 @@ fn sign_of(byte: u8) -> Option<TokenKind>
     Some(kind)
 }
 
-// How many bytes stand behind an opening quote, up to and with the closing one.
+// The number of bytes after an opening quote, up to and including the closing quote.
 fn closing_len(bytes: &[u8]) -> Option<usize>
     ensures is { result ≡ closing_len bytes.now }
     ensures within { IfSome result (λ count. count ≤ length bytes.now) }
@@ -91,7 +91,7 @@ fn closing_len(bytes: &[u8]) -> Option<usize>
     None
 }
 
-// Two hexadecimal digits behind `\x` are a byte, but not the byte zero.
+// Whether the bytes after `\x` begin with two hexadecimal digits that spell a byte other than zero.
 fn is_byte_escape(bytes: &[u8]) -> bool
     ensures { result ≡ is_byte_escape bytes.now }
 {
@@ -103,7 +103,7 @@ fn is_byte_escape(bytes: &[u8]) -> bool
     }
 }
 
-// The first fault inside a closed quoted text, counted from behind its opening quote.
+// The first fault inside a closed quoted text. Its offset is counted from the byte after the opening quote.
 fn inner_fault(bytes: &[u8]) -> Option<LexFault>
     requires { length bytes.now < 2 ^ 32 }
     ensures is { result ≡ inner_fault bytes.now }
@@ -129,7 +129,7 @@ fn inner_fault(bytes: &[u8]) -> Option<LexFault>
     None
 }
 
-// The fault, further on by this many bytes.
+// The fault with its offset increased by this many bytes.
 fn fault_after(by: u32, fault: LexFault) -> LexFault
     requires { by + place_of fault < 2 ^ 32 }
     ensures { result ≡ fault_after by fault }
@@ -141,7 +141,7 @@ fn fault_after(by: u32, fault: LexFault) -> LexFault
     }
 }
 
-// How many bytes stand before the first that needs a closer look: a quote, a backslash, a newline or a zero.
+// The number of bytes before the first byte that needs a closer look: a quote, a backslash, a newline or a zero.
 fn inner_len(bytes: &[u8]) -> usize
     ensures is { result ≡ prefix_len is_inner_byte bytes.now }
     ensures within { result ≤ length bytes.now }
@@ -152,7 +152,7 @@ fn inner_len(bytes: &[u8]) -> usize
         .count()
 }
 
-// What an opening quote and the bytes behind it are, where an escape or a fault may be among them.
+// The front that an opening quote and the bytes after it form, if they may contain an escape or a fault.
 fn escaped_front(after: &[u8]) -> Front
     requires { length after.now + 1 < 2 ^ 32 }
     ensures { result ≡ quoted_front (closing_len after.now) (inner_fault after.now) }
@@ -166,7 +166,7 @@ fn escaped_front(after: &[u8]) -> Front
     }
 }
 
-// What an opening quote and the bytes behind it are. Mostly the first byte that isn't plain closes the text.
+// The front that an opening quote and the bytes after it form. Usually the first byte that isn't plain closes the text.
 fn quoted_front(after: &[u8]) -> Front
     requires { length after.now + 1 < 2 ^ 32 }
     ensures { result ≡ quoted_front (closing_len after.now) (inner_fault after.now) }
@@ -178,7 +178,8 @@ fn quoted_front(after: &[u8]) -> Front
     }
 }
 
-// What stands at the front of bytes. Signs are asked for first, since that is one look at the byte; they are neither blanks nor bytes of Words.
+// What is at the front of these bytes. The test for a sign is first, since it takes one look at the byte. A sign is neither a blank
+// nor a byte of a Word.
 #[tactic(auto, using(crate::proofs::Signs::sign_in_front))]
 fn front(first: u8, after: &[u8]) -> Front
     requires { length after.now + 1 < 2 ^ 32 }
@@ -217,7 +218,7 @@ fn line_after(kind: TokenKind, line: u64) -> u64
     }
 }
 
-/// Reads the tokens of a text one by one, so that they needn't all be kept.
+/// Reads the tokens of a text one by one, so that they needn't all be stored.
 #[derive(Drop)]
 pub struct Lexer<'a> {
     text: &'a [u8],
@@ -238,7 +239,7 @@ impl<'a> Model for Lexer<'a> {
 }
 
 impl<'a> Lexer<'a> {
-    /// The front of a text.
+    /// A lexer at the start of a text.
     pub fn new(text: &'a [u8]) -> Self
         requires { length text.now < 2 ^ 32 }
         ensures { result ≡ lexed_text text.now }
@@ -250,7 +251,8 @@ impl<'a> Lexer<'a> {
         }
     }
 
-    /// The next token, by its place and line, or none at the text's end; at a fault that fault, as often as it is asked.
+    /// The next token with its offset and line, or `None` at the end of the text. At a fault it returns that fault, and so does every
+    /// later call.
     #[inline]
     pub fn next_token(&mut self) -> Result<Option<Token>, LexFault>
         ensures { IsNext result self.old self.new }
@@ -277,7 +279,7 @@ impl<'a> Lexer<'a> {
     }
 }
 
-/// All tokens of a text, up to its first fault.
+/// All tokens of a text up to its first fault, and that fault.
 pub fn tokens(alloc: Global, text: &[u8]) -> Result<Lexed, AllocError>
     requires { length text.now < 2 ^ 32 }
     ensures { IfOk result (λ lexed. lexed ≡ lexed_text text.now) }
@@ -294,12 +296,13 @@ pub fn tokens(alloc: Global, text: &[u8]) -> Result<Lexed, AllocError>
     Ok(Lexed { tokens, fault })
 }
 
-/// The tokens of a text are parts of it: in order, words whole, quoted texts between their quotes, on their lines.
+/// The tokens of a text are slices of it, in order and with the right lines. A Word is a whole word, and a quoted text includes its
+/// quotes.
 pub fn tokens_are_slices()
     ensures { (text : List ℕ) → AreSlices text (lexed_text text).tokens }
 {}
 
-/// Pieces that stand well, printed one behind the other, are read without a fault as the tokens that the pieces are.
+/// Pieces for which `StandWell` holds, printed one after the other, are lexed without a fault as the tokens that they represent.
 pub fn pieces_are_tokens()
     ensures { (pieces : List Piece) → StandWell pieces → IsReadAs (print pieces) (piece_tokens pieces) }
 {}

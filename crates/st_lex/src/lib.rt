@@ -1,4 +1,4 @@
-//! The tokens that policies, scripts, schedules and traces have in common, quoted texts, and rows of tokens.
+//! The lexer of policies, scripts, schedules and traces, with quoted texts and rows of tokens.
 #![tactic(auto)]
 
 pub mod lexer;

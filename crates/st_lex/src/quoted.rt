@@ -17,7 +17,7 @@ pub fn hex_digit(value: u8) -> u8
     }
 }
 
-// Appends a byte as it stands between quotes.
+// Appends a byte as it is spelled between quotes.
 fn quote_byte(byte: u8, out: &mut Text) -> Result<(), AllocError>
     ensures ok { OnOk result (out.new ≡ out.old ++ quoted_byte byte) }
     ensures err { OnErr result (out.new ≡ out.old) }
@@ -34,14 +34,14 @@ fn quote_byte(byte: u8, out: &mut Text) -> Result<(), AllocError>
     }
 }
 
-// Whether a byte stands between quotes otherwise than it is.
+// Whether a byte has to be escaped between quotes.
 fn is_escaped(byte: u8) -> bool
     ensures { result ≡ false → quoted_byte byte ≡ byte ∷ [] }
 {
     (byte < 0x20) | (byte > 0x7e) | (byte == b'"') | (byte == b'\\') | (byte == b'$')
 }
 
-// Whether a byte of these is escaped. It has no way out before the last, so that it is compiled to test many bytes at a time.
+// Whether any of these bytes has to be escaped. The loop has no early exit, so that it can be compiled to test many bytes at a time.
 fn has_escaped(bytes: &[u8]) -> bool
     ensures { result ≡ false → quoted_bytes bytes.now ≡ bytes.now }
 {
@@ -52,7 +52,7 @@ fn has_escaped(bytes: &[u8]) -> bool
     found
 }
 
-// Appends bytes as they stand between quotes; without memory it may leave a front of them behind the text.
+// Appends bytes as they are spelled between quotes. If out of memory, it may have appended a part of them.
 fn quote_bytes(bytes: &[u8], out: &mut Text) -> Result<(), AllocError>
     ensures ok { OnOk result (out.new ≡ out.old ++ quoted_bytes bytes.now) }
     ensures front { take (length out.old) out.new ≡ out.old }
@@ -63,7 +63,7 @@ fn quote_bytes(bytes: &[u8], out: &mut Text) -> Result<(), AllocError>
     Ok(())
 }
 
-// Appends the quoted form; without memory it may leave a front of it behind the text.
+// Appends the quoted form. If out of memory, it may have appended a part of it.
 fn append_quoted(bytes: &[u8], out: &mut Text) -> Result<(), AllocError>
     ensures ok { OnOk result (out.new ≡ out.old ++ quoted bytes.now) }
     ensures front { take (length out.old) out.new ≡ out.old }
@@ -77,7 +77,7 @@ fn append_quoted(bytes: &[u8], out: &mut Text) -> Result<(), AllocError>
     out.push(b'"')
 }
 
-/// Appends the canonical quoted form of these bytes. Without memory the text stays as it was.
+/// Appends the canonical quoted form of these bytes. If out of memory, the text doesn't change.
 pub fn quote(bytes: &[u8], out: &mut Text) -> Result<(), AllocError>
     ensures ok { OnOk result (out.new ≡ out.old ++ quoted bytes.now) }
     ensures err { OnErr result (out.new ≡ out.old) }
@@ -90,7 +90,7 @@ pub fn quote(bytes: &[u8], out: &mut Text) -> Result<(), AllocError>
     written
 }
 
-/// What `quote` prints of bytes that aren't zero is one quoted token without a fault.
+/// The text that `quote` prints for bytes that aren't zero is lexed as one quoted token without a fault.
 pub fn quoted_is_one_token()
     ensures { (bytes : List ℕ) → AreBytes bytes → lexed_text (quoted bytes) ≡ one_token (quoted bytes) }
 {}

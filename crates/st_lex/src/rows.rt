@@ -4,7 +4,7 @@ ghost use Rattle.st_lex.specs.Rows.{rows, ends_line, is_in_line, IsNextRow};
 
 use crate::token::{Token, TokenKind};
 
-// How many tokens at the front end a line.
+// The number of tokens at the front that end a line.
 fn blank_len(tokens: &[Token]) -> usize
     ensures is { result ≡ prefix_len ends_line tokens.now }
     ensures within { result ≤ length tokens.now }
@@ -15,7 +15,7 @@ fn blank_len(tokens: &[Token]) -> usize
         .count()
 }
 
-// How many tokens at the front stand in a line.
+// The number of tokens at the front that don't end a line.
 fn row_len(tokens: &[Token]) -> usize
     ensures is { result ≡ prefix_len is_in_line tokens.now }
     ensures within { result ≤ length tokens.now }
@@ -26,7 +26,7 @@ fn row_len(tokens: &[Token]) -> usize
         .count()
 }
 
-/// The first line that has a token, without the token that ends it, and the tokens behind it.
+/// The first row, without the token that ends its line, and the tokens after it.
 pub fn next_row<'a>(tokens: &'a [Token]) -> Option<(&'a [Token], &'a [Token])>
     ensures { MatchOption result (rows tokens.now ≡ []) (λ r. IsNextRow tokens.now r.0.now r.1.now) }
 {

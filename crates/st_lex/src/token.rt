@@ -4,7 +4,7 @@ ghost use Rattle.st_lex.specs.Text.{text_of_token, is_word, is_quoted, is_colon,
 use st_base::Sequence;
 use thiserror::Error;
 
-/// What a token is.
+/// The kind of a token.
 #[derive(Clone, Copy, Debug, PartialEq, Eq)]
 pub enum TokenKind {
     Word,
@@ -52,7 +52,7 @@ impl TokenKind {
     }
 }
 
-/// A token: `len` bytes from the byte at `at`, on a line that is counted from 1.
+/// A token: `len` bytes of the text from offset `at`, on line `line`, counted from 1.
 #[derive(Clone, Copy, Debug, PartialEq, Eq)]
 pub struct Token {
     pub kind: TokenKind,
@@ -62,7 +62,7 @@ pub struct Token {
 }
 
 impl Token {
-    /// The bytes of the token, in the text that it was read from; of another text, the bytes at that place.
+    /// The bytes of the token in the text that it was read from. In another text, these are the bytes at the same offset.
     pub fn text<'a>(&self, text: &'a [u8]) -> &'a [u8]
         ensures { result.now ≡ text_of_token text.now self.now }
     {
@@ -70,14 +70,14 @@ impl Token {
         &rest[..rest.len().min(self.len as usize)]
     }
 
-    /// Whether it is this Word.
+    /// Whether the token is this Word.
     pub fn is_keyword(&self, text: &[u8], word: &[u8]) -> bool
         ensures { result ≡ is_keyword text.now word.now self.now }
     {
         self.kind.is_word() && self.text(text) == word
     }
 
-    /// What a quoted text without a backslash holds.
+    /// The bytes between the quotes, if the token is a quoted text without a backslash.
     pub fn plain_quoted<'a>(&self, text: &'a [u8]) -> Option<&'a [u8]>
         ensures { option_copied result ≡ plain_quoted text.now self.now }
     {
@@ -92,7 +92,7 @@ impl Token {
     }
 }
 
-/// Why a text has no further tokens, with the place of the fault.
+/// Why a text has no further tokens, with the offset of the fault.
 #[derive(Clone, Copy, Debug, PartialEq, Eq, Drop, Error)]
 pub enum LexFault {
     /// No token begins with this byte.
@@ -106,14 +106,14 @@ pub enum LexFault {
     BadEscape(u32),
 }
 
-/// The tokens of a text up to its first fault, or all of them where it has none.
+/// The tokens of a text up to its first fault, or all of its tokens if it has no fault.
 #[derive(Debug, Drop)]
 pub struct Lexed {
     pub tokens: Sequence<Token>,
     pub fault: Option<LexFault>,
 }
 
-/// What stands at the front of a text: a gap of some bytes, a token of some bytes, or a fault at a distance.
+/// What is at the front of a text: a gap or a token with its length, or a fault with its offset.
 #[derive(Clone, Copy, Debug, PartialEq, Eq)]
 pub enum Front {
     Gap(usize),

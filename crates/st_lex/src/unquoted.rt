@@ -8,7 +8,7 @@ ghost use Rattle.st_lex.specs.declared.unquoted.Dollars.{Dollars};
 use st_base::Text;
 use std::alloc::{AllocError, Global};
 
-/// The texts that stand for `$HOME`, `$USER` and `$CWD` in a quoted text.
+/// The texts that replace `$HOME`, `$USER` and `$CWD` in a quoted text.
 #[derive(Debug, Drop)]
 pub struct Dollars {
     pub home: Text,
@@ -16,7 +16,7 @@ pub struct Dollars {
     pub cwd: Text,
 }
 
-// The byte of two hexadecimal digits.
+// The byte that two hexadecimal digits spell.
 fn hex_byte(high: u8, low: u8) -> Option<u8>
     ensures { result ≡ hex_byte high low }
 {
@@ -25,7 +25,7 @@ fn hex_byte(high: u8, low: u8) -> Option<u8>
     Some((high * 16 + low) as u8)
 }
 
-// The byte that stands first, and how many bytes spell it.
+// The byte that the front of these bytes spells if names aren't replaced, and the number of bytes that spell it.
 fn plain_front(bytes: &[u8]) -> (u8, usize)
     requires { 0 < length bytes.now }
     ensures is { plain_front bytes.now ≡ record { text = result.0 ∷ []; len = result.1 } }
@@ -43,13 +43,13 @@ fn plain_front(bytes: &[u8]) -> (u8, usize)
     }
 }
 
-// The text that the name which stands first stands for, and the length of this name.
+// The text that replaces the name at the front of these bytes, and the length of this name.
 fn name_front<'a>(bytes: &[u8], dollars: &'a Dollars) -> Option<(&'a [u8], usize)>
     ensures is { MatchOption result (named_front (dollar_names dollars.now) bytes.now ≡ plain_front bytes.now) (λ r. named_front (dollar_names dollars.now) bytes.now ≡ record { text = r.0.now; len = r.1 }) }
     ensures some { IfSome result (λ r. 0 < r.1) }
     ensures within { IfSome result (λ r. r.1 ≤ length bytes.now) }
 {
-    // Most bytes are no dollar.
+    // Most bytes aren't a dollar sign.
     let [b'$', word @ ..] = bytes else {
         return None;
     };
@@ -64,7 +64,7 @@ fn name_front<'a>(bytes: &[u8], dollars: &'a Dollars) -> Option<(&'a [u8], usize
     }
 }
 
-// Appends what stands first, and says how many bytes spell it.
+// Appends what the front of these bytes spells, and returns the number of bytes that spell it.
 fn append_front(
     bytes: &[u8],
     dollars: Option<&Dollars>,
@@ -87,7 +87,7 @@ fn append_front(
     Ok(len)
 }
 
-// How many bytes at the front stand for themselves, whatever the names are.
+// The number of bytes at the front that spell themselves, whatever the names are.
 fn plain_len(bytes: &[u8]) -> usize
     ensures { result ≡ prefix_len is_plain_byte bytes.now }
 {
@@ -97,7 +97,7 @@ fn plain_len(bytes: &[u8]) -> usize
         .count()
 }
 
-// What the bytes between the quotes stand for. Mostly they are plain, and then they are copied as they stand.
+// The text that the bytes between the quotes spell. The bytes are usually plain, and then they are copied unchanged.
 fn unquote_inside(
     alloc: Global,
     bytes: &[u8],
@@ -123,22 +123,22 @@ fn inside(source: &[u8]) -> &[u8]
     }
 }
 
-/// What a quoted text, from its opening to its closing quote, holds: escapes are read, and the three names are replaced wherever they
-/// stand, by texts that are taken as they are.
+/// The content of a quoted text that is given with both quotes. Escapes are replaced by their bytes, and the three names by their
+/// texts, wherever they occur. The inserted texts aren't searched for escapes or names.
 pub fn unquote(alloc: Global, source: &[u8], dollars: &Dollars) -> Result<Text, AllocError>
     ensures { IfOk result (λ text. text ≡ unquoted dollars.now source.now) }
 {
     unquote_inside(alloc, inside(source), Some(dollars))
 }
 
-/// What a quoted text without names holds: escapes read, each `$` left as it is.
+/// The content of a quoted text in which names aren't replaced: escapes are replaced by their bytes, and each `$` is a `$`.
 pub fn unquote_plain(alloc: Global, source: &[u8]) -> Result<Text, AllocError>
     ensures { IfOk result (λ text. text ≡ unquoted_plain source.now) }
 {
     unquote_inside(alloc, inside(source), None)
 }
 
-/// What `quote` prints is read back as the same bytes, whatever the names stand for.
+/// The text that `quote` prints is read back as the same bytes, whatever texts the names have.
 pub fn quoted_is_unquoted()
     ensures named { (dollars : Dollars) (bytes : List ℕ) → AreBytes bytes → unquoted dollars (quoted bytes) ≡ bytes }
     ensures plain { (bytes : List ℕ) → AreBytes bytes → unquoted_plain (quoted bytes) ≡ bytes }

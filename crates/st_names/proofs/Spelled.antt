@@ -1,4 +1,4 @@
--- Names as their texts: a slash before each component.
+-- Names as their texts: each component after a slash.
 use Rattle.std.proofs.Common.{◌≡◌, ◌⊎◌, inl, inr, ◌<◌, ◌≤◌, ℕ, suc, ◌+◌, ◌-◌, ◌==◌, Bool, true, false, cond, not, ◌||◌, List, [], ◌∷◌, ◌++◌, length, take, drop, get_or, refl, ap, sym, ◌∙◌, subst, arith, length-append, length-drop, drop-cons, add-one}
 use Rattle.std.specs.Cmp.Lexicographic.{other_text, pointwise, same_text}
 use Rattle.std.specs.List.{count_by, flat_map, onto_first, position, position_or_len}
@@ -16,14 +16,14 @@ use Rattle.memchr.specs.Find.{IsFirstByte, is_byte}
 use Rattle.st_names.specs.declared.limits.TheConstants.{LONGEST_PART}
 use Rattle.st_names.specs.Name.{AreParts, Components, IsLastSlash, IsSpelled, components_of, has_long_part, has_slash, is_component, is_slash, parent, split_at_slashes, parts_behind, slash, with_slash}
 
--- ---- cutting at slashes
+-- ---- splitting at slashes
 
 slashed_front : (b : Bool) (x : ℕ) (xs : List ℕ) (texts : Components) → (b ≡ true → x ≡ slash) → flat_map with_slash texts ≡ slash ∷ xs → flat_map with_slash (cond b ([] ∷ texts) (onto_first x texts)) ≡ slash ∷ x ∷ xs
 slashed_front true x xs texts is h = let e = is refl in cc
 slashed_front false x xs [] is h = cc
 slashed_front false x xs (part ∷ texts) is h = cc
 
--- what stands between slashes is spelled behind one more
+-- the parts between slashes spell the text after one more slash
 pub slashed-parts : (text : List ℕ) → flat_map with_slash (split_at_slashes text) ≡ slash ∷ text
 slashed-parts [] = refl
 slashed-parts (x ∷ xs) = slashed_front (x == slash) x xs (split_at_slashes xs) (eqb-true x slash) (slashed-parts xs)
@@ -36,7 +36,7 @@ append_front true x whole left right some e = ap (λ (texts : Components). [] �
 append_front false x whole [] right some e = absurd (omega arith)
 append_front false x whole (part ∷ left) right some e = ap (onto_first x) e
 
--- a slash cuts a text in two
+-- a slash splits a text in two
 pub parts-append : (front back : List ℕ) → split_at_slashes (front ++ slash ∷ back) ≡ split_at_slashes front ++ split_at_slashes back
 parts-append [] back = refl
 parts-append (x ∷ xs) back = append_front (x == slash) x _ (split_at_slashes xs) (split_at_slashes back) (parts_some xs) (parts-append xs back)
@@ -58,7 +58,7 @@ behind_front (part ∷ left) right some = refl
 pub parts_behind-append : (front back : List ℕ) → parts_behind (front ++ slash ∷ back) ≡ parts_behind front ++ split_at_slashes back
 parts_behind-append front back = ap (drop 1) (parts-append front back) ∙ behind_front (split_at_slashes front) (split_at_slashes back) (parts_some front)
 
--- a component more
+-- one more component
 pub parts_behind_push : (text part : List ℕ) → has_slash part ≡ false → parts_behind (text ++ slash ∷ part) ≡ parts_behind text ++ part ∷ []
 parts_behind_push text part plain = parts_behind-append text part ∙ ap (λ (texts : Components). parts_behind text ++ texts) (parts_plain part plain)
 
@@ -77,13 +77,13 @@ spelled_begins x xs spelled = begins_slashed _ x xs spelled
 spelled_from : (x : ℕ) (xs : List ℕ) → x ≡ slash → IsSpelled (x ∷ xs)
 spelled_from x xs is = subst (λ (y : ℕ). IsSpelled (y ∷ xs)) (sym is) (spelled_after xs)
 
--- a text that spells a name still does with something more behind a slash
+-- a text that spells a name still spells a name with a slash and more text appended
 pub spelled-append : (front back : List ℕ) → IsSpelled front → IsSpelled (front ++ slash ∷ back)
 spelled-append front back spelled =
     ap (flat_map with_slash) (parts_behind-append front back) ∙ flat_map-append with_slash (parts_behind front) (split_at_slashes back)
     ∙ ap (λ (text : List ℕ). text ++ flat_map with_slash (split_at_slashes back)) spelled ∙ ap (λ (text : List ℕ). front ++ text) (slashed-parts back)
 
--- and without what stands behind a slash
+-- a text that spells a name still spells a name if it is cut before one of its slashes
 pub spelled_front : (front back : List ℕ) → IsSpelled (front ++ slash ∷ back) → IsSpelled front
 spelled_front [] back spelled = refl
 spelled_front (x ∷ xs) back spelled = spelled_from x xs (spelled_begins x (xs ++ slash ∷ back) spelled)
@@ -110,7 +110,7 @@ rest_by : (b : Bool) (x : ℕ) (xs : List ℕ) (n : ℕ) → (b ≡ true → x �
 rest_by true x xs n is spelled = spelled_from x xs (is refl)
 rest_by false x xs n is spelled = let one : 1 + n ≡ suc n = omega arith in rw one spelled
 
--- what comes from there on spells a name
+-- the text from its first slash on spells a name
 pub spelled_rest : (text : List ℕ) → IsSpelled (drop (position_or_len is_slash text) text)
 spelled_rest [] = refl
 spelled_rest (x ∷ xs) = rest_by (x == slash) x xs (position_or_len is_slash xs) (eqb-true x slash) (spelled_rest xs)
@@ -143,7 +143,7 @@ is_last_slash text at spelled within is plain =
     let cut = last_of_cut text (take at text) (drop (at + 1) text) spelled (cut_at text at within is) plain in
     record { front = cut.1; spelled = cut.0; last = λ _. cut.2 }
 
--- without a slash it spells the root
+-- a text that spells a name and has no slash spells the root
 pub no_last_slash : (text : List ℕ) → IsSpelled text → has_slash text ≡ false → IsLastSlash text 0
 no_last_slash [] spelled plain = record { front = refl; spelled = refl; last = λ some. absurd (omega arith) }
 no_last_slash (x ∷ xs) spelled plain = absurd (has x xs (spelled_begins x xs spelled) plain) where
@@ -159,7 +159,7 @@ plain_parts false x (part ∷ texts) is plain =
     All-cons (λ text. has_slash text ≡ false) (x ∷ part) texts (ap (λ (b : Bool). b || has_slash part) is ∙ All-head (λ text. has_slash text ≡ false) part texts plain)
     (All-tail (λ text. has_slash text ≡ false) part texts plain)
 
--- what stands between slashes has none
+-- the parts between slashes have no slash
 pub plain-parts : (text : List ℕ) → AreParts (split_at_slashes text)
 plain-parts [] = All-cons (λ text. has_slash text ≡ false) [] [] refl (λ k d below. absurd (omega arith))
 plain-parts (x ∷ xs) = plain_parts (x == slash) x (split_at_slashes xs) refl (plain-parts xs)
@@ -171,18 +171,18 @@ place_by : (b : Bool) (place len : ℕ) → nat_lt place len ≡ b → place ≤
 place_by true place len is within = refl
 place_by false place len is within = let end : len ≤ place = ltb-false place len is in omega arith
 
--- the first slash stands where the text's first part ends
+-- the first slash is where the text's first part ends
 pub first_slash_place : (text : List ℕ) → unwrap_or (position is_slash text) (length text) ≡ position_or_len is_slash text
 first_slash_place text = place_by _ _ _ refl (prefix_len-le-length (λ byte. not (is_slash byte)) text)
 
--- so it is where a search for a slash ends
+-- the first slash is where a search for a slash ends
 pub slash_found : (text : List ℕ) (found : Option ℕ) → IsFirstByte (is_byte slash) text found → unwrap_or found (length text) ≡ position_or_len is_slash text
 slash_found text None nowhere = sym (position_or_len_is is_slash text (length text) 0 (omega arith) (λ k below. false_from_ne_true (is_slash (get_or text k 0)) (nowhere k (omega arith) below)) (λ below. absurd (omega arith)))
 slash_found text (Some at) first =
     let within : at < length text = first.0.high in
     sym (position_or_len_is is_slash text at 0 (omega arith) (λ k below. false_from_ne_true (is_slash (get_or text k 0)) (first.0.before k (omega arith) below)) (λ _. first.1))
 
--- a byte before a text without slashes
+-- a byte other than a slash before a text without slashes adds none
 pub has_slash_drop : (text : List ℕ) (at : ℕ) → at < length text → (get_or text at 0 ≡ slash → ⊥) → has_slash (drop (at + 1) text) ≡ false → has_slash (drop at text) ≡ false
 has_slash_drop text at within differs none =
     rw (drop-cons text at 0) (plain (get_or text at 0 == slash) (λ is. differs (eqb-true _ _ is)) (rw add-one at none)) where
@@ -190,7 +190,7 @@ has_slash_drop text at within differs none =
       plain true not_so none = absurd (not_so refl)
       plain false not_so none = none
 
--- ---- names that begin as others do
+-- ---- names that begin with other names
 
 begun_text : (text other : List ℕ) → IsSpelled text → IsSpelled other → parts_behind text ≡ take (length (parts_behind text)) (parts_behind other) → other ≡ text ++ flat_map with_slash (drop (length (parts_behind text)) (parts_behind other))
 begun_text text other spelled spelled_other begins =
@@ -202,7 +202,7 @@ begun_text text other spelled spelled_other begins =
 begun_slashed : (text rest : List ℕ) → parts_behind text ≡ take (length (parts_behind text)) (parts_behind (text ++ slash ∷ rest))
 begun_slashed text rest = sym (ap (take (length (parts_behind text))) (parts_behind-append text rest) ∙ take-append_seam (parts_behind text) (split_at_slashes rest))
 
--- the text of a name that begins as another goes on behind that one's with nothing or with a slash
+-- if one name is a prefix of another, the text of the other continues after the first name's text with nothing or with a slash
 pub begun_rest : (text other rest : List ℕ) → IsSpelled text → IsSpelled other → other ≡ text ++ rest → parts_behind text ≡ take (length (parts_behind text)) (parts_behind other) → (rest ≡ []) ⊎ (get_or rest 0 0 ≡ slash)
 begun_rest text other rest spelled spelled_other is begins =
     by rest (drop (length (parts_behind text)) (parts_behind other)) (append_cancel_left text _ _ (sym is ∙ begun_text text other spelled spelled_other begins)) where
@@ -225,15 +225,15 @@ begins_none text other spelled spelled_other differs begins =
     other_text (take (length text) other) text (sym differs)
     (ap (take (length text)) (begun_text text other spelled spelled_other begins) ∙ take-append_seam text (flat_map with_slash (drop (length (parts_behind text)) (parts_behind other))))
 
--- a text whose prefix was taken off is the prefix and the rest
+-- a text is its prefix followed by the rest
 pub prefix_rest : (text other rest : List ℕ) → pointwise nat_eq (take (length text) other) text ≡ true → rest ≡ drop (length text) other → other ≡ text ++ rest
 prefix_rest text other rest same is = sym (take-append-drop (length text) other) ∙ ap (λ (front : List ℕ). front ++ drop (length text) other) (same_text (take (length text) other) text (sym same)) ∙ ap (λ (back : List ℕ). text ++ back) (sym is)
 
--- how many components a text spells
+-- the number of components that a text spells is the number of its slashes
 pub length-parts_behind : (text : List ℕ) → length (parts_behind text) ≡ count_by is_slash text
 length-parts_behind text = omega (arith, length-drop 1 (split_at_slashes text), length-slice_split is_slash text)
 
--- ---- what stands between slashes is no longer than all
+-- ---- parts between slashes are no longer than the text
 
 shorter_by : (b : Bool) (x n : ℕ) (texts : Components) → All (λ part. length part ≤ n) texts → All (λ part. length part ≤ suc n) (cond b ([] ∷ texts) (onto_first x texts))
 shorter_by true x n texts short = All-cons (λ part. length part ≤ suc n) [] texts (omega arith) (λ k d below. omega (arith, short k d below))
@@ -249,16 +249,16 @@ shorter-parts (x ∷ xs) = shorter_by (x == slash) x (length xs) (split_at_slash
 pub no_longer : (limit n : ℕ) → n ≤ limit → nat_lt limit n ≡ false
 no_longer limit n short = grind (arith, nat_tests)
 
--- a text that is no longer than a part may be has no part that is longer
+-- a text that is no longer than a part may be has no part that is too long
 pub no_long_part : (text : List ℕ) → length text ≤ LONGEST_PART → has_long_part text ≡ false
 no_long_part text short = list_any_none (λ part. nat_lt LONGEST_PART (length part)) (split_at_slashes text) (λ k d below. no_longer LONGEST_PART _ (omega (arith, short, shorter-parts text k d below)))
 
--- ---- one component after another
+-- ---- iteration over components
 
 parts_slashed : (text rest : List ℕ) (first : ℕ) → text ≡ first ∷ rest → first ≡ slash → parts_behind text ≡ split_at_slashes rest
 parts_slashed text rest first is slashes = ap parts_behind (is ∙ ap (λ (x : ℕ). x ∷ rest) slashes)
 
--- the first component is what stands up to the second slash
+-- the first component is the text up to the second slash
 pub part_taken : (text behind part rest : List ℕ) (first n : ℕ) → text ≡ first ∷ behind → IsSpelled text → n ≡ position_or_len is_slash behind → part ≡ take n behind → rest ≡ drop n behind → IsSpelled rest × (parts_behind text ≡ part ∷ parts_behind rest)
 part_taken text behind part rest first n is spelled place taken left = (
   subst IsSpelled (sym (left ∙ ap (λ (m : ℕ). drop m behind) place)) (spelled_rest behind),
@@ -267,11 +267,11 @@ part_taken text behind part rest first n is spelled place taken left = (
       ∙ ap (λ (p : List ℕ). p ∷ parts_behind (drop n behind)) (sym taken) ∙ ap (λ (r : List ℕ). part ∷ parts_behind r) (sym left),
 )
 
--- what stands behind the slash that a text begins with
+-- the text after the slash with which a text begins
 pub behind_slash : (text rest : List ℕ) (first : ℕ) → text ≡ first ∷ rest → IsSpelled text → split_at_slashes rest ≡ parts_behind text
 behind_slash text rest first is spelled = sym (parts_slashed text rest first is (spelled_begins first rest (subst IsSpelled is spelled)))
 
--- the first part is what stands before the first slash
+-- the first part is the text before the first slash
 pub first_part_taken : (text part slashed : List ℕ) (n : ℕ) (left : Components) → n ≡ position_or_len is_slash text → part ≡ take n text → slashed ≡ drop n text → (IsSpelled slashed → left ≡ parts_behind slashed) → split_at_slashes text ≡ part ∷ left
 first_part_taken text part slashed n left place taken is behind =
     let cut : slashed ≡ drop (position_or_len is_slash text) text = is ∙ ap (λ (m : ℕ). drop m text) place in

@@ -1,4 +1,4 @@
-//! Names in the modelled file tree: absolute names, the components of a text, what is seen of a name, and how names are resolved.
+//! Absolute names in the modelled file tree, the components of a text, and the results of looks at names.
 #![tactic(auto)]
 
 pub mod limits;

@@ -1,7 +1,7 @@
-//! How long names may be.
+//! Limits on the length of names.
 
-/// The most bytes of a name.
+/// The greatest length of a name, in bytes.
 pub const LONGEST_NAME: usize = 1_024;
 
-/// The most bytes of a component.
+/// The greatest length of a component, in bytes.
 pub const LONGEST_PART: usize = 255;

@@ -8,14 +8,14 @@ use st_base::Text;
 use std::alloc::{AllocError, Global};
 use std::marker::Model;
 
-// From this length on a text is searched for a slash many bytes at a time. Few names are as long, and in a shorter one a test of one
-// byte after another finds the slash sooner.
+// Texts of at least this length are searched for a slash many bytes at a time. Few names are as long, and in a shorter text a test
+// byte by byte finds the slash sooner.
 const LONG_TEXT: usize = 128;
 
-/// An absolute name: its components from the root, which has none.
+/// An absolute name: its components from the root. The root's name has no components.
 #[derive(Debug, Drop)]
 pub struct AbsName {
-    // A slash before each component.
+    // The components, each after a slash.
     text: Vec<u8>,
 }
 
@@ -30,10 +30,10 @@ impl Model for AbsName {
     ghost invariant = { λ n. IsSpelled n.text.items };
 }
 
-/// The components of a name that are left to go through, the first one next.
+/// An iterator over the components of a name, with the components that remain.
 #[derive(Drop)]
 pub struct NameParts<'a> {
-    // A slash before each of them.
+    // The remaining components, each after a slash.
     text: &'a [u8],
 }
 
@@ -65,7 +65,7 @@ impl<'a> Iterator for NameParts<'a> {
     }
 }
 
-// Where the first slash is, or the text's length where there is none, by a test of one byte after another.
+// The offset of the first slash, or the text's length if it has no slash, by a test byte by byte.
 #[inline]
 fn near_slash(text: &[u8]) -> usize
     ensures place { result ≡ position_or_len is_slash text.now }
@@ -76,7 +76,7 @@ fn near_slash(text: &[u8]) -> usize
         .unwrap_or(text.len())
 }
 
-// The same by tests of many bytes at a time.
+// The offset of the first slash, or the text's length if it has no slash, by tests of many bytes at a time.
 #[inline(never)]
 fn far_slash(text: &[u8]) -> usize
     ensures place { result ≡ position_or_len is_slash text.now }
@@ -85,7 +85,7 @@ fn far_slash(text: &[u8]) -> usize
     memchr(b'/', text).unwrap_or(text.len())
 }
 
-/// Where the first slash is, or the text's length where there is none.
+/// The offset of the first slash, or the text's length if it has no slash.
 #[inline]
 pub fn first_slash(text: &[u8]) -> usize
     ensures place { result ≡ position_or_len is_slash text.now }
@@ -98,7 +98,7 @@ pub fn first_slash(text: &[u8]) -> usize
     }
 }
 
-// Where the last slash of a name's text is, or 0 in that of the root.
+// The offset of the last slash of a name's text, or 0 for the root.
 fn last_slash(text: &[u8]) -> usize
     requires { IsSpelled text.now }
     ensures last { IsLastSlash text.now result }
@@ -121,7 +121,7 @@ fn slash_count(text: &[u8]) -> usize
 }
 
 impl AbsName {
-    /// The name of the root, which takes no memory.
+    /// The name of the root. It allocates no memory.
     pub fn root(alloc: Global) -> Self
         ensures { result ≡ [] }
     {
@@ -130,7 +130,7 @@ impl AbsName {
         }
     }
 
-    /// The name of the root, with room for components of so many bytes with their slashes.
+    /// The name of the root, with room for components that take `room` bytes together with their slashes.
     pub fn root_with_room(alloc: Global, room: usize) -> Result<Self, AllocError>
         ensures { IfOk result (λ name. name ≡ []) }
     {
@@ -152,7 +152,7 @@ impl AbsName {
         Ok(name)
     }
 
-    /// The name whose components are all that stands between a text's slashes.
+    /// The name whose components are all parts between a text's slashes, empty parts and `.` included.
     pub fn of_parts(alloc: Global, text: &[u8]) -> Result<Self, AllocError>
         ensures { IfOk result (λ name. name ≡ split_at_slashes text.now) }
     {
@@ -162,7 +162,7 @@ impl AbsName {
         Ok(AbsName { text: spelled })
     }
 
-    /// How many components there are; this goes through the text.
+    /// How many components there are. This reads the whole text.
     pub fn len(&self) -> usize
         ensures { result ≡ length self.now }
     {
@@ -176,14 +176,14 @@ impl AbsName {
         self.text.is_empty()
     }
 
-    /// The components from the root, one after another.
+    /// An iterator over the components, from the root on.
     pub fn parts(&self) -> NameParts<'_>
         ensures { result ≡ self.now }
     {
         NameParts { text: &self.text }
     }
 
-    /// The components but for the last; the root has none.
+    /// An iterator over all components but the last. For the root it is empty.
     pub fn parent(&self) -> NameParts<'_>
         ensures { result ≡ parent self.now }
     {
@@ -193,7 +193,7 @@ impl AbsName {
         }
     }
 
-    /// The last component of a name that is not the root's.
+    /// The last component of a name other than the root's.
     pub fn last(&self) -> &[u8]
         requires { 0 < length self.now }
         ensures { result.now ≡ last_part self.now }
@@ -202,7 +202,7 @@ impl AbsName {
         &text[last_slash(text) + 1..]
     }
 
-    /// Adds a component at the end; without memory the name stays as it is.
+    /// Appends a component. If out of memory, the name doesn't change.
     pub fn push(&mut self, part: &[u8]) -> Result<(), AllocError>
         requires { has_slash part.now ≡ false }
         ensures ok { OnOk result (self.new ≡ self.old ++ part.now ∷ []) }
@@ -222,7 +222,7 @@ impl AbsName {
         self.text.truncate(end);
     }
 
-    /// An equal name of its own, which takes one piece of memory.
+    /// A copy of the name, in a single allocation.
     pub fn copy(&self, alloc: Global) -> Result<Self, AllocError>
         ensures { IfOk result (λ name. name ≡ self.now) }
     {
@@ -230,7 +230,7 @@ impl AbsName {
         Ok(AbsName { text })
     }
 
-    /// The name that a component has below this one, which takes one piece of memory.
+    /// This name with a component appended, in a single allocation.
     pub fn child(&self, alloc: Global, part: &[u8]) -> Result<Self, AllocError>
         requires { has_slash part.now ≡ false }
         ensures { IfOk result (λ name. name ≡ self.now ++ part.now ∷ []) }
@@ -242,7 +242,7 @@ impl AbsName {
         Ok(name)
     }
 
-    /// The name's text: `/` for the root, else a slash before each component.
+    /// The name's text: `/` for the root, otherwise each component after a slash.
     pub fn print(&self, alloc: Global) -> Result<Text, AllocError>
         ensures { IfOk result (λ text. text ≡ printed_name self.now) }
     {
@@ -253,7 +253,7 @@ impl AbsName {
         }
     }
 
-    /// The length of the printed name, or 2^64 - 1 where it is longer.
+    /// The length of the printed name, saturating at 2^64 - 1.
     pub fn print_len(&self) -> u64
         ensures { result ≡ min (length (printed_name self.now)) (2 ^ 64 - 1) }
     {
@@ -264,7 +264,7 @@ impl AbsName {
         }
     }
 
-    /// Whether the other name is this one or leads on from it.
+    /// Whether this name is a prefix of the other name, or equal to it.
     pub fn begins(&self, other: &AbsName) -> bool
         ensures { IsTrue result ↔ (self.now ≡ take (length self.now) other.now) }
     {

@@ -33,7 +33,7 @@ impl From<AllocError> for NameFault {
     }
 }
 
-// What stands behind the slash that a text begins with, if it has one.
+// The text after the slash with which it begins, or none if the text is empty.
 fn behind_slash(text: &[u8]) -> Option<&[u8]>
     ensures { IsSpelled text.now → parts_left (option_map (λ rest. rest.now) result) ≡ parts_behind text.now }
 {
@@ -41,10 +41,10 @@ fn behind_slash(text: &[u8]) -> Option<&[u8]>
     Some(rest)
 }
 
-/// What stands between a text's slashes, from its front on.
+/// An iterator over the parts between a text's slashes, from the front.
 #[derive(Drop)]
 pub struct SlashParts<'a> {
-    // The text that is left, unless no part is.
+    // The rest of the text, or `None` if no part remains.
     rest: Option<&'a [u8]>,
 }
 
@@ -75,14 +75,14 @@ impl<'a> Iterator for SlashParts<'a> {
     }
 }
 
-/// What stands between a text's slashes.
+/// The parts between a text's slashes.
 pub fn split_at_slashes(text: &[u8]) -> SlashParts<'_>
     ensures { result ≡ split_at_slashes text.now }
 {
     SlashParts { rest: Some(text) }
 }
 
-/// Whether a part between slashes leads on: it is neither empty nor `.`.
+/// Whether a part between slashes is a component: it is neither empty nor `.`.
 pub fn is_component(part: &[u8]) -> bool
     ensures { result ≡ is_component part.now }
 {
@@ -93,11 +93,11 @@ pub fn is_component(part: &[u8]) -> bool
 pub fn has_long_part(text: &[u8]) -> bool
     ensures { result ≡ has_long_part text.now }
 {
-    // Few texts are longer than a part may be, and what is no longer has no longer part.
+    // Few texts are longer than a component may be, and a shorter text has no part that is too long.
     text.len() > LONGEST_PART && split_at_slashes(text).any(|part| part.len() > LONGEST_PART)
 }
 
-// The parts between slashes, but for those that are empty or `.`.
+// The parts between slashes, without empty parts and `.`.
 fn kept_parts(alloc: Global, text: &[u8]) -> Result<Sequence<Text>, AllocError>
     ensures { IfOk result (λ parts. parts ≡ components_of text.now) }
 {
@@ -110,7 +110,7 @@ fn kept_parts(alloc: Global, text: &[u8]) -> Result<Sequence<Text>, AllocError>
     Ok(parts)
 }
 
-/// The components of a name's text: what stands between slashes, without empty parts and `.`.
+/// The components of a name's text: the parts between slashes, without empty parts and `.`.
 pub fn components(alloc: Global, text: &[u8]) -> Result<Sequence<Text>, NameFault>
     ensures ok { IfOk result (λ parts. parts ≡ components_of text.now) }
     ensures plain { IfOk result AreParts }

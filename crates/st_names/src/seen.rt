@@ -4,7 +4,7 @@ ghost use Rattle.st_names.specs.Seen.{seen_text};
 use st_base::Text;
 use std::alloc::{AllocError, Global};
 
-/// What a look at a name sees.
+/// The result of a look at a name.
 #[derive(Clone, Copy, Debug)]
 pub enum Seen<'a> {
     /// Nothing has this name, or a directory on the way to it is missing.
@@ -17,7 +17,7 @@ pub enum Seen<'a> {
     Link(&'a [u8]),
 }
 
-/// What a look at a name saw, with a text of its own.
+/// The result of a look at a name, with a copy of a link's target.
 #[derive(Debug, Drop)]
 pub enum SeenText {
     Missing,
@@ -28,7 +28,7 @@ pub enum SeenText {
 }
 
 impl<'a> Seen<'a> {
-    /// The same, with a copy of the target.
+    /// The same result, with a copy of the target.
     pub fn copy(self, alloc: Global) -> Result<SeenText, AllocError>
         ensures { IfOk result (λ copied. copied ≡ seen_text self.entry) }
     {
@@ -43,7 +43,7 @@ impl<'a> Seen<'a> {
 }
 
 impl SeenText {
-    /// An equal one with a text of its own.
+    /// A copy of the result, with a text of its own.
     pub fn copy(&self, alloc: Global) -> Result<Self, AllocError>
         ensures { IfOk result (λ copied. copied ≡ self.now) }
     {

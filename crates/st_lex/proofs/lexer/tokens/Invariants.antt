@@ -3,7 +3,7 @@ use Rattle.st_lex.specs.Tokens.{lexed_text}
 use Rattle.st_lex.proofs.Skips.{before}
 use Rattle.st_lex.proofs.lexer.tokens.Given as goal
 
--- the tokens so far, and those of the rest
+-- the tokens so far, followed by the tokens of the rest, are all tokens
 abbrev pub invariant-loop-token : goal.invariant-loop-token
 invariant-loop-token l = record {
   same : lexed_text l.text ≡ before l.tokens l.lexer;

@@ -3,7 +3,7 @@ use Rattle.std.specs.Prelude.{option_copied}
 use Rattle.st_lex.specs.Unquote.{names_in, unquoted_from}
 use Rattle.st_lex.proofs.unquoted.unquote_inside.Given as goal
 
--- the text so far, and what the rest stands for
+-- the text so far, followed by the text that the rest spells, is the whole text
 abbrev pub invariant-loop-at : goal.invariant-loop-at
 invariant-loop-at l = record {
   same : unquoted_from (names_in (option_copied l.dollars)) 0 l.bytes ≡ l.text ++ unquoted_from (names_in (option_copied l.dollars)) 0 (drop l.at l.bytes);

@@ -2,7 +2,7 @@ use Rattle.std.proofs.Common.{◌≡◌, ◌+◌, ◌-◌, ◌<◌, ◌≤◌, �
 use Rattle.st_lex.specs.Tokens.{tokens_from}
 use Rattle.st_lex.proofs.lexer.Lexer.next_token.Given as goal
 
--- what is left, from here on, behind the gaps that were passed
+-- the tokens from here on are the tokens that remain, since only gaps were passed
 abbrev pub invariant-loop-at : goal.invariant-loop-at
 invariant-loop-at l = record {
   same : l.fn.self ≡ tokens_from 0 l.at l.self-inside.line (drop l.at l.self-inside.text.now);
