@@ -1,3 +1,4 @@
+-- The arguments that policies judge, and their labels.
 use Rattle.std.specs.Prelude.{ℕ, Bool, ◌&&◌, ◌==◌, if◌then◌else◌, List, [], ◌∷◌, ◌++◌, codes, decimal, find, Option}
 use Rattle.std.specs.List.{list_any}
 use Rattle.std.specs.Str.{bytes_eq}
@@ -11,15 +12,15 @@ use Rattle.st_calls.specs.declared.argument.PartKind.TheVariants as kind
 use Rattle.st_calls.specs.declared.rule.Rule.{Rule}
 use Rattle.st_calls.specs.declared.rule.Rule.TheVariants.{Call, FsRead, FsWrite}
 
--- the argument with this label that the register has
+-- the first argument with this label, of this kind, in this register
 abbrev pub argument : Label → ℕ → PartKind → ArgSpec
 argument label register kind = record { label = label; index = 0; register = register; kind = kind }
 
--- the name that register 0 has
+-- the name in register 0
 abbrev pub filename : ArgSpec
 filename = argument Filename 0 kind.Name
 
--- the second of two names
+-- the second of two names, in register 1
 abbrev pub second_filename : ArgSpec
 second_filename = record { label = Filename; index = 1; register = 1; kind = kind.Name }
 
@@ -57,7 +58,7 @@ args_of (Call call) = args_of_call call
 args_of FsRead = filename ∷ []
 args_of FsWrite = filename ∷ []
 
--- how a policy writes a label
+-- the name of a label, as a policy writes it
 abbrev pub name_of_label : Label → List ℕ
 name_of_label Filename = codes "filename"
 name_of_label String = codes "string"
@@ -75,18 +76,18 @@ name_of_label SockAddr = codes "sockaddr"
 abbrev pub every_label : List Label
 every_label = Filename ∷ String ∷ Mode ∷ Uid ∷ Gid ∷ Argv ∷ Pid ∷ Signum ∷ SockDom ∷ SockType ∷ SockAddr ∷ []
 
--- the label that a policy writes so
+-- the label whose name is this word
 abbrev pub label_named : List ℕ → Option Label
 label_named word = find (λ label. bytes_eq (name_of_label label) word) every_label
 
--- a rule has an argument with a label of this name
+-- whether a rule has an argument whose label has this name
 abbrev pub has_label : Rule → List ℕ → Bool
 has_label rule word = list_any (λ spec. bytes_eq (name_of_label spec.label) word) (args_of rule)
 
--- a rule has an argument with a label of this name and this index
+-- whether a rule has an argument whose label has this name, with this index
 abbrev pub has_argument : Rule → List ℕ → ℕ → Bool
 has_argument rule word index = list_any (λ spec. bytes_eq (name_of_label spec.label) word && spec.index == index) (args_of rule)
 
--- which of the arguments with one label is meant: nothing for the first, and [N] for another
+-- an argument's index as it is written: nothing for index 0, and [N] for any other index
 abbrev pub index_text : ℕ → List ℕ
 index_text n = if n == 0 then [] else codes "[" ++ decimal n ++ codes "]"

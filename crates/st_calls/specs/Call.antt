@@ -1,3 +1,4 @@
+-- Calls and rules: their names, their indices, and which rule judges a call.
 use Rattle.std.specs.Prelude.{ℕ, Bool, true, false, not, ◌&&◌, ◌==◌, bit_and, if◌then◌else◌, List, [], ◌∷◌, get_or, codes, find, Option}
 use Rattle.std.specs.Str.{bytes_eq}
 use Rattle.st_calls.specs.declared.call.SysCall.{SysCall}
@@ -6,7 +7,7 @@ use Rattle.st_calls.specs.declared.rule.Rule.{Rule}
 use Rattle.st_calls.specs.declared.rule.Rule.TheVariants.{Call, FsRead, FsWrite}
 use Rattle.st_calls.specs.declared.flags.TheConstants.{O_ACCMODE, O_CREAT, O_TRUNC, O_EXCL}
 
--- how a script and a policy name a call
+-- the name of a call in scripts and policies
 abbrev pub name_of_call : SysCall → List ℕ
 name_of_call Open = codes "open"
 name_of_call Close = codes "close"
@@ -50,19 +51,19 @@ every_call =
     Rmdir ∷ Chdir ∷ Chmod ∷ Chown ∷ Truncate ∷ Fork ∷ Execve ∷ Exit ∷ Kill ∷ GetPid ∷ GetUid ∷ GetEuid ∷ SetUid ∷ SetEuid ∷
     SetGid ∷ SetEgid ∷ Socket ∷ Bind ∷ Connect ∷ []
 
--- the call of this name
+-- the call whose name is this word
 abbrev pub call_named : List ℕ → Option SysCall
 call_named word = find (λ call. bytes_eq (name_of_call call) word) every_call
 
--- whether flags have this one among them
+-- whether flags have a bit in common with this flag
 abbrev pub has_flag : ℕ → ℕ → Bool
 has_flag flags flag = not (bit_and flags flag == 0)
 
--- an open with these flags reads alone: it asks for no other access, and neither makes a file nor cuts one
+-- whether an open with these flags only reads: it requests no other access, and neither makes nor truncates a file
 abbrev pub reads_alone : ℕ → Bool
 reads_alone flags = not (has_flag flags O_ACCMODE) && (not (has_flag flags O_CREAT) && not (has_flag flags O_TRUNC))
 
--- the rule of a call by the aliases of systrace(1), under which some calls on files are judged as one
+-- the rule of a call with the aliases of systrace(1), under which several calls on files are judged alike
 abbrev pub alias_of : SysCall → List ℕ → Rule
 alias_of Open regs = if reads_alone (get_or regs 1 0) then FsRead else FsWrite
 alias_of Stat regs = FsRead
@@ -74,17 +75,17 @@ alias_of Mkdir regs = FsWrite
 alias_of Rmdir regs = FsWrite
 alias_of call regs = Call call
 
--- the rule that judges a call: without aliasing its own name
+-- the rule that judges a call; without aliasing it is the call's own name
 abbrev pub rule_of : SysCall → List ℕ → Bool → Rule
 rule_of call regs aliasing = if aliasing then alias_of call regs else Call call
 
--- the name of a rule, as a policy writes it behind the emulation's
+-- the name of a rule, as a policy writes it after the name of the emulation
 abbrev pub name_of_rule : Rule → List ℕ
 name_of_rule (Call call) = name_of_call call
 name_of_rule FsRead = codes "fsread"
 name_of_rule FsWrite = codes "fswrite"
 
--- every rule, by its place
+-- every rule, each at its index
 abbrev pub every_rule : List Rule
 every_rule =
     Call Open ∷ Call Close ∷ Call Read ∷ Call Write ∷ Call Lseek ∷ Call Dup ∷ Call Stat ∷ Call Lstat ∷ Call Access ∷
@@ -92,11 +93,11 @@ every_rule =
     Call Chown ∷ Call Truncate ∷ Call Fork ∷ Call Execve ∷ Call Exit ∷ Call Kill ∷ Call GetPid ∷ Call GetUid ∷ Call GetEuid ∷
     Call SetUid ∷ Call SetEuid ∷ Call SetGid ∷ Call SetEgid ∷ Call Socket ∷ Call Bind ∷ Call Connect ∷ FsRead ∷ FsWrite ∷ []
 
--- the rule of this name
+-- the rule whose name is this word
 abbrev pub rule_named : List ℕ → Option Rule
 rule_named word = find (λ rule. bytes_eq (name_of_rule rule) word) every_rule
 
--- a call's place among all
+-- a call's index among all calls
 abbrev pub index_of_call : SysCall → ℕ
 index_of_call Open = 0
 index_of_call Close = 1
@@ -133,13 +134,13 @@ index_of_call Socket = 31
 index_of_call Bind = 32
 index_of_call Connect = 33
 
--- a rule's place among all
+-- a rule's index among all rules
 abbrev pub index_of_rule : Rule → ℕ
 index_of_rule (Call call) = index_of_call call
 index_of_rule FsRead = 34
 index_of_rule FsWrite = 35
 
--- whether a call follows a link that its name ends in, the register having the place of the name
+-- whether a call follows a link that is the last component of the name in this register
 abbrev pub follows : SysCall → List ℕ → ℕ → Bool
 follows Open regs register = not (has_flag (get_or regs 1 0) O_CREAT && has_flag (get_or regs 1 0) O_EXCL)
 follows Stat regs register = true

@@ -6,7 +6,7 @@ use crate::call::SysCall;
 use crate::rule::Rule;
 use st_base::Text;
 
-/// What a policy calls an argument of a call.
+/// The name by which a policy refers to an argument of a call.
 #[derive(Clone, Copy, Debug, PartialEq, Eq)]
 pub enum Label {
     Filename,
@@ -65,14 +65,14 @@ impl Label {
     }
 }
 
-// The first of some labels with this name.
+// The first of these labels that has this name.
 fn first_named(labels: &[Label], word: &[u8]) -> Option<Label>
     ensures { result ≡ find (λ label. bytes_eq (name_of_label label) word.now) labels.now }
 {
     labels.iter().copied().find(|label| label.word() == word)
 }
 
-/// An argument of a call in the text that policies judge.
+/// An argument of a call, with the text that policies judge.
 #[derive(Debug, Drop)]
 pub struct ArgText {
     pub label: Label,
@@ -81,24 +81,24 @@ pub struct ArgText {
     pub text: Text,
 }
 
-/// How an argument lies in registers and memory, and which text it has.
+/// How an argument is passed in registers and memory, and which text it has.
 #[derive(Clone, Copy, Debug, PartialEq, Eq)]
 pub enum PartKind {
-    /// The place of a name in memory, which ends with a zero byte. Its text is the absolute name, without dots or links.
+    /// A pointer to a name in memory that ends with a zero byte. Its text is the absolute name, without dots or links.
     Name,
-    /// The place of a text in memory, which ends with a zero byte. Its text is these bytes as they are.
+    /// A pointer to a text in memory that ends with a zero byte. Its text is these bytes, unchanged.
     Plain,
-    /// The place of an address in memory, of one word: length, family, port and four bytes. Its text is `inet-[a.b.c.d]:port`.
+    /// A pointer to a socket address of one word in memory: length, family, port and four bytes. Its text is `inet-[a.b.c.d]:port`.
     Addr,
-    /// The place of words in memory, each the place of a text, up to a zero word. Its text is these texts with blanks between.
+    /// A pointer to words in memory, up to a zero word, each of which is a pointer to a text. Its text is these texts, separated by blanks.
     Argv,
-    /// A number in the register. Its text is decimal.
+    /// A number in the register. Its text is the number in decimal digits.
     Decimal,
-    /// A mode in the register. Its text is octal, of the low nine bits.
+    /// A mode in the register. Its text is the low nine bits in octal digits.
     Octal,
-    /// A family of addresses in the register. Its text is `AF_UNIX` for 1, `AF_INET` for 2, and decimal for others.
+    /// An address family in the register. Its text is `AF_UNIX` for 1, `AF_INET` for 2, and decimal digits for other numbers.
     Domain,
-    /// A type of sockets in the register. Its text is `SOCK_STREAM` for 1, `SOCK_DGRAM` for 2, and decimal for others.
+    /// A socket type in the register. Its text is `SOCK_STREAM` for 1, `SOCK_DGRAM` for 2, and decimal digits for other numbers.
     SockType,
 }
 
@@ -108,12 +108,12 @@ pub struct ArgSpec {
     pub label: Label,
     /// Which of the arguments with this label, from 0.
     pub index: u32,
-    /// The register that has it, from 0.
+    /// The register in which the argument is passed, from 0.
     pub register: u32,
     pub kind: PartKind,
 }
 
-// The argument with this label and index that the register has.
+// The argument with this label, index and kind that is passed in this register.
 macro_rules! argument {
     ($label:ident, $index:literal, $register:literal, $kind:ident) => {
         ArgSpec {

@@ -82,7 +82,7 @@ impl SysCall {
         SysCall::Connect,
     ];
 
-    /// The name, as a script writes it, and a policy behind `native-`.
+    /// The call's name, as a script writes it. A policy writes it after `native-`.
     pub fn word(self) -> &'static [u8]
         ensures { result.now ≡ name_of_call self }
     {
@@ -131,7 +131,7 @@ impl SysCall {
         first_named(&SysCall::ALL, word)
     }
 
-    /// The call's place among all, from 0.
+    /// The call's index among all calls, from 0.
     pub fn index(self) -> usize
         ensures { result ≡ index_of_call self }
     {
@@ -174,7 +174,7 @@ impl SysCall {
     }
 }
 
-/// Whether the call follows a link that its name ends in, where the register with this number has the place of the name.
+/// Whether the call follows a link that is the last component of the name in the register with this number.
 pub fn follows(call: SysCall, regs: &[u64; 6], register: u32) -> bool
     ensures { result ≡ follows call regs.now register }
 {
@@ -187,7 +187,7 @@ pub fn follows(call: SysCall, regs: &[u64; 6], register: u32) -> bool
     }
 }
 
-// The first of some calls with this name.
+// The first of these calls that has this name.
 fn first_named(calls: &[SysCall], word: &[u8]) -> Option<SysCall>
     ensures { result ≡ find (λ call. bytes_eq (name_of_call call) word.now) calls.now }
 {

@@ -3,24 +3,24 @@
 ghost use Rattle.std.specs.Prelude.{◌≡◌};
 ghost use Rattle.st_calls.specs.Call.{has_flag};
 
-/// For reading alone.
+/// Opens for reading only.
 pub const O_RDONLY: u64 = 0;
-/// For writing alone.
+/// Opens for writing only.
 pub const O_WRONLY: u64 = 1;
-/// For reading and writing.
+/// Opens for reading and writing.
 pub const O_RDWR: u64 = 2;
-/// The bits that say which access is asked.
+/// The mask of the bits for the requested access.
 pub const O_ACCMODE: u64 = 3;
-/// Each write goes to the end.
+/// Each write goes to the end of the file.
 pub const O_APPEND: u64 = 8;
-/// A file that is missing is made.
+/// A missing file is made.
 pub const O_CREAT: u64 = 0x200;
-/// The file is cut to no bytes.
+/// The file is truncated to length 0.
 pub const O_TRUNC: u64 = 0x400;
-/// With `O_CREAT`: a file that is there is an error.
+/// With `O_CREAT`: it is an error if the file exists.
 pub const O_EXCL: u64 = 0x800;
 
-/// Whether the flags have this one, or one of several.
+/// Whether the flags have a bit in common with `flag`.
 pub fn has_flag(flags: u64, flag: u64) -> bool
     ensures { result ≡ has_flag flags flag }
 {

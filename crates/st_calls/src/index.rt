@@ -4,8 +4,8 @@ ghost use Rattle.st_calls.specs.Argument.{index_text};
 use st_base::Text;
 use std::alloc::AllocError;
 
-/// Appends which of the arguments with one label is meant, as policies and audits write it: nothing for index 0, and `[N]` for
-/// another. Without memory it may leave a front of it behind the text.
+/// Appends the index of an argument among those with the same label, as policies and audits write it: nothing for index 0, and `[N]`
+/// for any other index. If out of memory, it may have appended a part of it.
 pub fn append_index(index: u32, out: &mut Text) -> Result<(), AllocError>
     ensures { OnOk result (out.new ≡ out.old ++ index_text index) }
 {

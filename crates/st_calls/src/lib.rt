@@ -1,4 +1,4 @@
-//! The system calls of the model, the rules that policies name them by, and what a policy sees of their arguments.
+//! The system calls of the model, the rules by which policies name them, and the arguments that policies judge.
 #![tactic(auto)]
 
 pub mod argument;

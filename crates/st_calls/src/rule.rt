@@ -8,7 +8,7 @@ use crate::call::SysCall;
 use crate::flags::{O_ACCMODE, O_CREAT, O_TRUNC, has_flag};
 use st_base::Errno;
 
-/// How many rules there are.
+/// The number of rules.
 pub const RULES: usize = 36;
 
 /// The name under which a policy judges a call.
@@ -16,14 +16,14 @@ pub const RULES: usize = 36;
 pub enum Rule {
     /// The call's own name.
     Call(SysCall),
-    /// By the alias of systrace(1): an open for reading alone, stat, lstat, access and readlink.
+    /// The alias `fsread` of systrace(1): an open for reading only, stat, lstat, access and readlink.
     FsRead,
-    /// By the alias of systrace(1): every other open, unlink, mkdir and rmdir.
+    /// The alias `fswrite` of systrace(1): every other open, unlink, mkdir and rmdir.
     FsWrite,
 }
 
 impl Rule {
-    /// Every rule, each at its place.
+    /// Every rule, each at its index.
     pub const ALL: [Rule; RULES] = [
         Rule::Call(SysCall::Open),
         Rule::Call(SysCall::Close),
@@ -63,7 +63,7 @@ impl Rule {
         Rule::FsWrite,
     ];
 
-    /// The rule of a call with these registers; without aliasing it is the call's own name.
+    /// The rule of a call with these registers. Without aliasing it is the call's own name.
     pub fn of(call: SysCall, regs: &[u64; 6], aliasing: bool) -> Self
         ensures { result ≡ rule_of call regs.now aliasing }
     {
@@ -74,7 +74,7 @@ impl Rule {
         }
     }
 
-    /// The name, as a policy writes it behind `native-`.
+    /// The rule's name, as a policy writes it after `native-`.
     pub fn word(self) -> &'static [u8]
         ensures { result.now ≡ name_of_rule self }
     {
@@ -92,7 +92,7 @@ impl Rule {
         first_named(rules_of_len(word.len()), word)
     }
 
-    /// The rule's place among all, from 0 and below `RULES`, for tables by rule.
+    /// The rule's index among all rules, from 0 and below `RULES`, for tables with an item for each rule.
     pub fn index(self) -> usize
         ensures value { result ≡ index_of_rule self }
         ensures within { result < RULES }
@@ -121,14 +121,14 @@ impl Rule {
     }
 }
 
-// An open with these flags asks for reading alone, and neither makes a file nor cuts one.
+// Whether an open with these flags only reads: it requests no other access, and neither makes nor truncates a file.
 fn reads_alone(flags: u64) -> bool
     ensures { result ≡ reads_alone flags }
 {
     !has_flag(flags, O_ACCMODE) && !has_flag(flags, O_CREAT) && !has_flag(flags, O_TRUNC)
 }
 
-// The rule of a call by the aliases.
+// The rule of a call with aliasing.
 fn alias_of(call: SysCall, regs: &[u64; 6]) -> Rule
     ensures { result ≡ alias_of call regs.now }
 {
@@ -149,7 +149,7 @@ fn alias_of(call: SysCall, regs: &[u64; 6]) -> Rule
 // The rules whose names have three bytes.
 const THREE: [Rule; 1] = [Rule::Call(SysCall::Dup)];
 
-// Those of four bytes.
+// The rules whose names have four bytes.
 const FOUR: [Rule; 8] = [
     Rule::Call(SysCall::Open),
     Rule::Call(SysCall::Read),
@@ -161,7 +161,7 @@ const FOUR: [Rule; 8] = [
     Rule::Call(SysCall::Bind),
 ];
 
-// Those of five bytes.
+// The rules whose names have five bytes.
 const FIVE: [Rule; 9] = [
     Rule::Call(SysCall::Close),
     Rule::Call(SysCall::Write),
@@ -174,7 +174,7 @@ const FIVE: [Rule; 9] = [
     Rule::Call(SysCall::Chown),
 ];
 
-// Those of six bytes.
+// The rules whose names have six bytes.
 const SIX: [Rule; 10] = [
     Rule::Call(SysCall::Access),
     Rule::Call(SysCall::Unlink),
@@ -188,7 +188,7 @@ const SIX: [Rule; 10] = [
     Rule::FsRead,
 ];
 
-// Those of seven bytes.
+// The rules whose names have seven bytes.
 const SEVEN: [Rule; 6] = [
     Rule::Call(SysCall::Symlink),
     Rule::Call(SysCall::GetEuid),
@@ -198,10 +198,10 @@ const SEVEN: [Rule; 6] = [
     Rule::FsWrite,
 ];
 
-// Those of eight bytes.
+// The rules whose names have eight bytes.
 const EIGHT: [Rule; 2] = [Rule::Call(SysCall::Readlink), Rule::Call(SysCall::Truncate)];
 
-// Rules among which is the one that a word of so many bytes names, if one is: few names have to be compared.
+// Rules that include any rule that a word of this length names, so that few names have to be compared.
 fn rules_of_len(len: usize) -> &'static [Rule]
     ensures { (word : List ℕ) → length word ≡ len → find (λ rule. bytes_eq (name_of_rule rule) word) result.now ≡ rule_named word }
 {
@@ -216,20 +216,20 @@ fn rules_of_len(len: usize) -> &'static [Rule]
     }
 }
 
-// The first of some rules with this name.
+// The first of these rules that has this name.
 fn first_named(rules: &[Rule], word: &[u8]) -> Option<Rule>
     ensures { result ≡ find (λ rule. bytes_eq (name_of_rule rule) word.now) rules.now }
 {
     rules.iter().copied().find(|rule| rule.word() == word)
 }
 
-/// What the kernel answers by itself for a rule: permit, refuse or ask, as in systrace(4).
+/// The kernel's own answer for a rule: permit, refuse or ask, as in systrace(4).
 #[derive(Clone, Copy, Debug, PartialEq, Eq)]
 pub enum FastAnswer {
     /// The call is made at once.
     Permit,
     /// The call is refused at once, with this error.
     Refuse(Errno),
-    /// The filters have to be asked.
+    /// The filters have to be tried.
     Ask,
 }

@@ -1,4 +1,4 @@
--- A resolution ends: there are no more looks than components, and no more of those than bytes.
+-- A resolution ends: there are no more looks than components, and no more components than bytes.
 use Rattle.std.proofs.Common.{◌≡◌, ◌<◌, ◌≤◌, ℕ, zero, suc, ◌+◌, ◌*◌, ◌==◌, Bool, true, false, cond, if◌then◌else◌, List, [], ◌∷◌, ◌++◌, length, Option, Some, None, slice_get, refl, nat_eq, nat_lt, ◌&&◌, not, arith, length-append}
 use Rattle.std.proofs.lemmas.Bool.{eqb-false}
 use Rattle.std.specs.List.{filter, onto_first}
@@ -36,7 +36,7 @@ pub length-components : (text : List ℕ) → length (components_of text) ≤ le
 length-components [] = omega arith
 length-components (x ∷ xs) = let h = kept_after (x == slash) x (split_at_slashes xs) (length xs) (length-components xs) in omega (arith, h)
 
--- each component behind the first part takes two bytes at least, a slash and one more
+-- each component after the first part takes at least two bytes, a slash and one more
 abbrev IsSpread : Components → ℕ → Type 0
 IsSpread [] size = Unit {0}
 IsSpread (part ∷ rest) size = 2 * length (filter is_component rest) + length part ≤ size
@@ -57,7 +57,7 @@ few_of_spread [] size h = omega arith
 few_of_spread ([] ∷ rest) size h = omega (arith, h)
 few_of_spread ((y ∷ part) ∷ rest) size h = let l = longer (is_component (y ∷ part)) (y ∷ part) (filter is_component rest) in omega (arith, h, l)
 
--- a text has half as many components as bytes
+-- twice the number of a text's components is at most its length plus one
 pub few_components : (text : List ℕ) → 2 * length (components_of text) ≤ length text + 1
 few_components text = few_of_spread (split_at_slashes text) (length text) (spread text)
 
@@ -70,7 +70,7 @@ length-onward (part ∷ rest) = onward_if (is_up part) part rest (length-onward 
 
 -- ---- links that are seen
 
--- how many components the target of a link has that is seen
+-- the number of components of the target, if a look sees a link
 abbrev pub link_parts : SeenText → ℕ
 link_parts (Link text) = length (components_of text)
 link_parts Missing = 0
@@ -138,7 +138,7 @@ stops : (b : Bool) (done : Components) (errno : Errno) → needs_lookup (if b th
 stops true done errno h = let quiet = asks-finished done in cc
 stops false done errno h = cc
 
--- a walk that still asks has seen less than it may
+-- a walk that still needs a look has taken fewer looks than the bound
 asks_early : (done rest : Components) (n : ℕ) (lookups : List SeenText) (follow : Bool) (most left : ℕ) → n + left ≡ 32 → AreWithin most lookups → needs_lookup (walk_on done rest n lookups follow) ≡ true → length lookups < length rest + left * most
 asks_early done [] n lookups follow most left e all h = let quiet = asks-finished done in cc
 asks_early done (part ∷ rest) n [] follow most left e all h = omega arith
@@ -164,7 +164,7 @@ asks_early done (part ∷ rest) n (Link text ∷ lookups) follow most (suc left)
 
 -- ---- resolutions
 
--- a walk that still asks has seen fewer names than the text and the links that were followed have components
+-- a walk that still needs a look has taken fewer looks than the text and the followed links have components
 pub start_early : (most : ℕ) (cwd : Components) (text : List ℕ) (follow : Bool) (lookups : List SeenText) → AreWithin most lookups → needs_lookup (start_walk text cwd follow lookups) ≡ true → length lookups < length (components_of text) + 32 * most
 start_early most cwd text follow lookups all h =
     let a = asks_if (nat_eq (length text) 0) _ _ refl h in

@@ -1,4 +1,4 @@
--- Walks and looks that the definitions read as they should.
+-- Examples of walks and looks, and the results that the definitions give for them.
 use Rattle.std.proofs.Common.{◌≡◌, ℕ, true, false, List, [], ◌∷◌, ◌++◌, Some, refl, replicate, codes}
 use Rattle.st_base.specs.declared.errno.Errno.TheVariants.{ENOENT, ENOTDIR, ELOOP, ENAMETOOLONG}
 use Rattle.st_names.specs.Name.{components_of, printed_name}
@@ -16,7 +16,7 @@ printed_root = refl
 printed : printed_name (codes "etc" ∷ codes "passwd" ∷ []) ≡ codes "/etc/passwd"
 printed = refl
 
--- ---- walks over what is seen
+-- ---- walks by the results of looks
 
 abbrev etc : List (List ℕ)
 etc = codes "etc" ∷ []

@@ -64,6 +64,6 @@ look_along-no_link tree done (part ∷ rest) all = behind-no_link (node_of tree 
 pub look-no_link : (tree : Tree) (name : Components) → AreNoLinks tree.objects → link_parts (look tree name) ≤ 0
 look-no_link tree name all = look_along-no_link tree [] name all
 
--- where no link was seen, a walk that asks has taken fewer looks than its text has bytes
+-- if no link was seen, a walk that needs a look has taken fewer looks than its text has bytes
 pub few_looks : (cwd : Components) (text : List ℕ) (follow : Bool) (lookups : List SeenText) → AreWithin 0 lookups → needs_lookup (start_walk text cwd follow lookups) ≡ true → length lookups < length text
 few_looks cwd text follow lookups all h = let early = start_early 0 cwd text follow lookups all h in let few = length-components text in omega (arith, early, few)

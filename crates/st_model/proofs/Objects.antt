@@ -1,4 +1,4 @@
--- What a new object changes in a tree, and what it leaves.
+-- What a new object changes in a tree, and what it doesn't change.
 use Rattle.std.proofs.Common.{◌≡◌, ◌≢◌, ◌∙◌, ap, refl, sym, subst, ℕ, zero, suc, Bool, true, false, cond, if◌then◌else◌, List, [], ◌∷◌, ◌++◌, length, slice_get, Option, Some}
 use Rattle.std.proofs.lemmas.Bool.{true≢false, false_from_ne_true}
 use Rattle.std.specs.Bool.{Decides}
@@ -18,7 +18,7 @@ use Rattle.st_model.specs.Tree.{Tree, Node, compare_names, is_same_name, number_
 pub is_same_name-Decides : (name other : Components) → Decides (is_same_name name other) (name ≡ other)
 is_same_name-Decides name other = slice_eq-Decides bytes_eq-Decides name other (is_same_name name other) refl
 
--- names that the order doesn't tell apart are one
+-- names are equal exactly when the order finds them equal
 pub same-compared : (name other : Components) → is_same_name name other ≡ is_eq (compare_names name other)
 same-compared name other = lists_ties (slice_cmp nat_cmp) texts_ties name other
 
@@ -28,11 +28,11 @@ same-swapped name other =
     (λ is. (is_same_name-Decides name other).1 (sym ((is_same_name-Decides other name).0 is)))
     (λ is. (is_same_name-Decides other name).1 (sym ((is_same_name-Decides name other).0 is)))
 
--- a name is looked for as the order of names finds it
+-- the test for a name is the test by the order of names
 tests-same : (name : Components) → (λ (other : Components). is_same_name other name) ≡ is_at (compare_names name)
 tests-same name = λ i other. (same-swapped name other ∙ same-compared name other) i
 
--- a name that is put among names has its number, and each other name has what it had
+-- a name that is added has its number, and each other name keeps the number that it had
 pub number-put : (name : Components) (number : ℕ) (other : Components) (pairs : List (Components × ℕ)) → number_of_name (with_name pairs name number) other ≡ (if is_same_name name other then Some number else number_of_name pairs other)
 number-put name number other pairs =
     ap (λ (test : Components → Bool). lookup test (with_name pairs name number)) (tests-same other) ∙

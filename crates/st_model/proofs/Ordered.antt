@@ -1,4 +1,4 @@
--- Names in their order: what keeps it, what a name has after a change, and when two lists of names are one.
+-- Names in order: which changes keep the order, the number of a name after a change, and when two lists of names are equal.
 use Rattle.std.proofs.Common.{◌≡◌, ◌≢◌, ◌∙◌, ap, refl, sym, subst, ℕ, Bool, true, false, ◌&&◌, cond, if◌then◌else◌, T, List, [], ◌∷◌, ◌++◌, map, Some, None, filter, fold, drop, IsSome, drop_at, length, All}
 use Rattle.std.proofs.lemmas.Bool.{false_from_ne_true, false≢true}
 use Rattle.std.proofs.lemmas.Cmp.{lists_equiv, lists_total, nat_list_cmp_total, nat_list_eq_equiv}
@@ -29,18 +29,18 @@ use Rattle.st_model.proofs.Objects.{is_same_name-Decides, same-compared, number-
 pub compare_names-total : IsTotalOrder compare_names
 compare_names-total = lists_total nat_list_cmp_total
 
--- names that tie are one
+-- names that compare as equal are equal
 pub compare_names-exact : CmpEqualImpliesEq compare_names
 compare_names-exact = slice_cmp-IsAntisymmetric exact_bytes
 
--- ---- entries in the order of their keys
+-- ---- entries sorted by their keys
 
 both : (a b : Bool) → T a → T b → T (a && b)
 both true b p q = q
 both false b p q = p
 
 module _ {K X : Type 0} (R : K → K → Ordering) where
-  -- an entry that is put among others in order leaves them in order
+  -- inserting an entry keeps sorted entries sorted
   pub sorted-insert_entry : IsTotalOrder R → (es : List (K × X)) (k : K) (v : X) → IsStrictlySortedBy R (keys_of es) → IsStrictlySortedBy R (keys_of (insert_entry R es k v))
   unfolding IsStrictlySortedBy
   sorted-insert_entry o [] k v h = (tt, tt)
@@ -51,7 +51,7 @@ module _ {K X : Type 0} (R : K → K → Ordering) where
         | Greater ↦ λ greater. (recursion_from_All _ _ (All-keys-insert_entry R k v (λ y. R e.0 y ≡ Less) es (All-from_recursion _ _ h.0) (o.antisymm e.0 k ∙ ap ordering_reverse greater)), sorted-insert_entry o es k v h.1)
       ] refl
 
-  -- an entry that is taken out leaves the others in order
+  -- removing an entry keeps sorted entries sorted
   pub sorted-remove_entry : (test : K → Bool) (es : List (K × X)) → IsStrictlySortedBy R (keys_of es) → IsStrictlySortedBy R (keys_of (remove_entry test es))
   unfolding IsStrictlySortedBy
   sorted-remove_entry test [] h = h
@@ -70,11 +70,11 @@ module _ {K X : Type 0} (R : K → K → Ordering) where
   is_sorted_from [] h = tt
   is_sorted_from (e ∷ es) h = both (below_all R e.0 es) (is_sorted R es) (below_all_from e.0 es h.0) (is_sorted_from es h.1)
 
-  -- two lists in order in which each look-up finds the same are one
+  -- two sorted lists in which each lookup finds the same are equal
   pub same_sorted : IsTotalOrder R → CmpEqualImpliesEq R → (es fs : List (K × X)) → IsStrictlySortedBy R (keys_of es) → IsStrictlySortedBy R (keys_of fs) → ((q : K) → lookup (is_at (R q)) es ≡ lookup (is_at (R q)) fs) → es ≡ fs
   same_sorted o exact es fs g h same = same_entries R o exact es fs (is_sorted_from es g) (is_sorted_from fs h) same
 
--- entries in order stay in order where each key is another, if the others stand as the keys do
+-- sorted entries stay sorted when each key is mapped to another key, if the map keeps the order
 module _ {J K X : Type 0} (R : K → K → Ordering) (S : J → J → Ordering) (f : K → J) (rises : (x y : K) → R x y ≡ Less → S (f x) (f y) ≡ Less) where
   below_map_keys : (k : K) (es : List (K × X)) → AllByRecursion (λ y. R k y ≡ Less) (keys_of es) → AllByRecursion (λ y. S (f k) y ≡ Less) (keys_of (map (λ e. (f e.0, e.1)) es))
   below_map_keys k [] h = tt
@@ -85,7 +85,7 @@ module _ {J K X : Type 0} (R : K → K → Ordering) (S : J → J → Ordering) 
   sorted-map_keys [] h = tt
   sorted-map_keys (e ∷ es) h = (below_map_keys e.0 es h.0, sorted-map_keys es h.1)
 
--- a filter by the keys filters the keys
+-- the keys of entries filtered by key are the filtered keys
 pub keys_of-filter : {K X : Type 0} (test : K → Bool) (es : List (K × X)) → keys_of (filter (λ e. test e.0) es) ≡ filter test (keys_of es)
 keys_of-filter test [] = refl
 keys_of-filter test (e ∷ es) = elim (test e.0) as (λ b. keys_of (cond b (e ∷ filter (λ e. test e.0) es) (filter (λ e. test e.0) es)) ≡ cond b (e.0 ∷ filter test (keys_of es)) (filter test (keys_of es))) [
@@ -93,15 +93,15 @@ keys_of-filter test (e ∷ es) = elim (test e.0) as (λ b. keys_of (cond b (e �
   | false ↦ keys_of-filter test es
 ]
 
--- ---- look-ups
+-- ---- lookups
 
 module _ {K X : Type 0} where
-  -- no entry passes a test that nothing passes
+  -- a lookup with a test that is always false finds nothing
   pub lookup_never : (es : List (K × X)) → lookup (λ key. false) es ≡ None
   lookup_never [] = refl
   lookup_never (e ∷ es) = lookup_never es
 
-  -- tests that agree at each key find the same
+  -- lookups with tests that agree at each key find the same
   pub lookup_agree : (test other : K → Bool) (es : List (K × X)) → All (λ key. test key ≡ other key) (keys_of es) → lookup test es ≡ lookup other es
   lookup_agree test other [] h = refl
   lookup_agree test other (e ∷ es) h = λ i. cond (All-head (λ key. test key ≡ other key) e.0 (keys_of es) h i) (Some e.1) (lookup_agree test other es (All-tail (λ key. test key ≡ other key) e.0 (keys_of es) h) i)
@@ -110,12 +110,12 @@ module _ {K X : Type 0} where
   lookup-append test [] fs = refl
   lookup-append test (e ∷ es) fs = elim (test e.0) as (λ b. cond b (Some e.1) (lookup test (es ++ fs)) ≡ option_or (cond b (Some e.1) (lookup test es)) (lookup test fs)) [ true ↦ refl | false ↦ lookup-append test es fs ]
 
-  -- where each key is another, a look-up asks the old keys what it asked the new ones
+  -- a lookup after each key is mapped is a lookup before with the test after the map
   pub lookup-map_keys : {J : Type 0} (f : K → J) (test : J → Bool) (es : List (K × X)) → lookup test (map (λ e. (f e.0, e.1)) es) ≡ lookup (λ key. test (f key)) es
   lookup-map_keys f test [] = refl
   lookup-map_keys f test (e ∷ es) = ap (cond (test (f e.0)) (Some e.1)) (lookup-map_keys f test es)
 
--- ---- what keeps names in their order, and off the root
+-- ---- changes that keep names in order and below the root
 
 pub ordered_with_name : (names : List (Components × ℕ)) (name : Components) (number : ℕ) → IsOrdered names → IsOrdered (with_name names name number)
 ordered_with_name = sorted-insert_entry compare_names compare_names-total
@@ -140,9 +140,9 @@ ordered_in_order pairs = put_all IsOrdered (λ name. Unit {0}) (λ names name nu
 pub below_root_in_order : (pairs : List (Components × ℕ)) → IsBelowRoot pairs → IsBelowRoot (sorted_names pairs)
 below_root_in_order pairs h = put_all IsBelowRoot (λ name. name ≢ []) below_root_with_name pairs [] (recursion_from_All (λ name. name ≢ []) (keys_of pairs) h) (All-nil (λ name. name ≢ []))
 
--- ---- what a name has
+-- ---- the number of a name
 
--- as a look-up asks it
+-- whether two names are equal, with the arguments in the order of a lookup
 abbrev is_named : Components → Components → Bool
 is_named name other = is_same_name other name
 
@@ -159,11 +159,11 @@ is_named-laws = record {
 named-compared : (name other : Components) → eq_by_cmp compare_names name other ≡ is_named name other
 named-compared name other = sym (same-compared name other) ∙ flipped name other
 
--- names in order are each there once
+-- names in order occur once each
 pub distinct_ordered : (names : List (Components × ℕ)) → IsOrdered names → IsDistinct is_named (keys_of names)
 distinct_ordered names h = subst (λ (eq : Components → Components → Bool). IsDistinct eq (keys_of names)) (λ i name other. named-compared name other i) (IsDistinct-from_sorted compare_names (keys_of names) h)
 
--- a name that is taken out has no number, and each other name has what it had
+-- a name that is removed has no number, and each other name keeps the number that it had
 pub number-without : (names : List (Components × ℕ)) (name other : Components) → IsOrdered names → number_of_name (without_name names name) other ≡ (if is_same_name name other then None else number_of_name names other)
 number-without names name other h =
     lookup-remove_entry is_named-laws (λ key. is_same_name key name) (λ key third same. ap (is_same_name third) (sym ((is_same_name-Decides key name).0 same))) other names (distinct_ordered names h) ∙
@@ -176,7 +176,7 @@ no_number_at_root (pair ∷ pairs) h =
     let here : is_same_name pair.0 [] ≡ false = false_from_ne_true (is_same_name pair.0 []) (λ same. All-head (λ name. name ≢ []) pair.0 (keys_of pairs) h ((is_same_name-Decides pair.0 []).0 same)) in
     rw here (no_number_at_root pairs (All-tail (λ name. name ≢ []) pair.0 (keys_of pairs) h))
 
--- lists of names in which each name has the same number are one
+-- lists of names in which each name has the same number are equal
 pub same_names : (xs ys : List (Components × ℕ)) → IsOrdered xs → IsOrdered ys → IsBelowRoot xs → IsBelowRoot ys → ((part : List ℕ) (rest : Components) → number_of_name xs (part ∷ rest) ≡ number_of_name ys (part ∷ rest)) → xs ≡ ys
 same_names xs ys g h below under same = same_sorted compare_names compare_names-total compare_names-exact xs ys g h (λ name. compared xs name ∙ at name ∙ sym (compared ys name)) where
   at : (name : Components) → number_of_name xs name ≡ number_of_name ys name
@@ -186,7 +186,7 @@ same_names xs ys g h below under same = same_sorted compare_names compare_names-
   compared : (names : List (Components × ℕ)) (name : Components) → lookup (is_at (compare_names name)) names ≡ number_of_name names name
   compared names name = λ i. lookup (λ other. named-compared name other i) names
 
--- ---- names that are put in their order, and moved
+-- ---- names that are sorted, and moved
 
 number_put_all : (pairs names : List (Components × ℕ)) (name : Components) → number_of_name (fold (λ names named. with_name names named.0 named.1) names pairs) name ≡ update_all is_same_name (number_of_name names) pairs name
 number_put_all [] names name = refl
@@ -194,11 +194,11 @@ number_put_all (pair ∷ pairs) names name =
     number_put_all pairs (with_name names pair.0 pair.1) name ∙
     (λ i. update_all is_same_name (λ other. number-put pair.0 pair.1 other names i) pairs name)
 
--- pairs whose names differ keep their numbers as they are put in order
+-- names of pairs with different names keep their numbers when the pairs are sorted
 pub number-in_order : (pairs : List (Components × ℕ)) (name : Components) → IsDistinct is_named (keys_of pairs) → number_of_name (sorted_names pairs) name ≡ number_of_name pairs name
 number-in_order pairs name distinct = number_put_all pairs [] name ∙ update_all_none is_named-laws is_same_name flipped pairs name distinct
 
--- keys that differ still do where each is another, if the others differ wherever the keys do
+-- different keys stay different when each key is mapped to another key, if the map keeps keys different
 module _ {K X : Type 0} (eq : K → K → Bool) (f : K → K) (P : K → Type 0) (apart : (x y : K) → P x → P y → eq x y ≡ false → eq (f x) (f y) ≡ false) where
   apart_from_others : (x : K) → P x → (es : List (K × X)) → All P (keys_of es) → AllByRecursion (λ y. eq x y ≡ false) (keys_of es) → AllByRecursion (λ y. eq (f x) y ≡ false) (keys_of (map (λ e. (f e.0, e.1)) es))
   apart_from_others x p [] h g = tt
@@ -209,7 +209,7 @@ module _ {K X : Type 0} (eq : K → K → Bool) (f : K → K) (P : K → Type 0)
   distinct-map_keys [] h g = tt
   distinct-map_keys (e ∷ es) h g = (apart_from_others e.0 (All-head P e.0 (keys_of es) h) es (All-tail P e.0 (keys_of es) h) g.0, distinct-map_keys es (All-tail P e.0 (keys_of es) h) g.1)
 
--- a name that begins as another is that one and the rest
+-- a name with a prefix is the prefix followed by the rest
 pub begins_rest : (name other : Components) → is_prefix name other ≡ true → other ≡ name ++ drop (length name) other
 begins_rest name other = (starts_is bytes_eq-Decides other name (is_prefix name other) refl).0
 
@@ -220,15 +220,15 @@ module _ (old new : Components) where
   moved_begun : (name : Components) → is_prefix old name ≡ true → with_prefix_replaced old new name ≡ new ++ drop (length old) name
   moved_begun name begun = rw begun refl
 
-  -- a name that begins with the old prefix has the new one instead
+  -- a name with the old prefix has the new prefix instead
   pub moved_longer : (rest : Components) → with_prefix_replaced old new (old ++ rest) ≡ new ++ rest
   moved_longer rest = moved_begun (old ++ rest) (begins_longer old rest) ∙ ap (λ (end : Components). new ++ end) (drop_at old rest (length old) refl)
 
-  -- each other name stays
+  -- each other name doesn't change
   pub moved_other : (name : Components) → is_prefix old name ≡ false → with_prefix_replaced old new name ≡ name
   moved_other name other = rw other refl
 
-  -- it doesn't begin with the new prefix, unless it begins with the old one
+  -- a name doesn't have the new prefix, unless it has the old prefix
   abbrev IsFree : Components → Type 0
   IsFree name = is_prefix old name ≡ false → is_prefix new name ≡ false
 
@@ -237,7 +237,7 @@ module _ (old new : Components) where
       let at : new ++ drop (length old) name ≡ other = sym (moved_begun name here) ∙ same ∙ moved_other other elsewhere in
       false≢true (sym (free elsewhere) ∙ ap (is_prefix new) (sym at) ∙ begins_longer new (drop (length old) name))
 
-  -- names become different ones
+  -- different names stay different
   moved_once : (name other : Components) → IsFree name → IsFree other → with_prefix_replaced old new name ≡ with_prefix_replaced old new other → name ≡ other
   moved_once name other free released same = by (is_prefix old name) (is_prefix old other) refl refl where
     by : (b c : Bool) → is_prefix old name ≡ b → is_prefix old other ≡ c → name ≡ other
@@ -248,14 +248,14 @@ module _ (old new : Components) where
     by false true one two = absurd (clash other name two one free (sym same))
     by false false one two = rw (one, two) at same
 
-  -- a look-up of what a free name becomes asks for the name
+  -- a lookup of a moved name after the move is a lookup of the name before
   asked_before : (name other key : Components) → IsFree other → with_prefix_replaced old new other ≡ name → IsFree key → is_same_name (with_prefix_replaced old new key) name ≡ is_same_name key other
   asked_before name other key free is released =
       same_from_decides (is_same_name (with_prefix_replaced old new key) name) (is_same_name key other) (is_same_name-Decides (with_prefix_replaced old new key) name)
       (Decides-like (is_same_name key other) (λ same. ap (with_prefix_replaced old new) same ∙ is) (λ same. moved_once key other released free (same ∙ sym is)) (is_same_name-Decides key other))
 
-  -- after a move a name below the new prefix has what it had below the old one, where nothing has what it had, and each other
-  -- name has what it had, if no name began with the new prefix
+  -- after a move, a name with the new prefix has the number that it had with the old prefix, a name with the old prefix has none, and
+  -- each other name keeps its number, if no name had the new prefix before
   pub number-moved : (tree : Tree) (name : Components) → IsOrdered tree.names → ((other : Components) → is_prefix new other ≡ true → number_of_name tree.names other ≡ None) → number_of_name (rename tree old new).names name ≡ (if is_prefix new name then number_of_name tree.names (old ++ drop (length new) name) else if is_prefix old name then None else number_of_name tree.names name)
   number-moved tree name ordered none =
       number-in_order (map (λ named. (with_prefix_replaced old new named.0, named.1)) tree.names) name (distinct-map_keys is_named (with_prefix_replaced old new) IsFree apart tree.names all_free (distinct_ordered tree.names ordered)) ∙

@@ -1,4 +1,4 @@
--- How many words spelling a text asks for, and how long it is.
+-- Bounds on the words that spell a text, and on its length.
 use native.Mathlib.Omega.{arith}
 use Rattle.std.proofs.lemmas.Bool.{ltb-false}
 use Rattle.std.proofs.Common.{◌≡◌, ◌≤◌, ℕ, suc, ◌+◌, ◌-◌, ◌*◌, ◌==◌, ◌/◌, ◌%◌, Bool, true, false, cond, nat_lt, nat_le, List, [], ◌∷◌, length, flat_map, position, Option, Some, None, refl, ◌++◌, length-append, min, ◌∙◌, take}
@@ -11,7 +11,7 @@ use Rattle.st_model.specs.Spelling.{Text, Fault, More, spell_text, spell_name, b
 use Rattle.st_names.specs.declared.limits.TheConstants.{LONGEST_NAME}
 use Rattle.st_model.specs.declared.limits.TheConstants.{SPACE_WORDS}
 
--- the bytes of words are all but those before the first
+-- the bytes of words are all bytes except those before byte `at`
 length_bytes : (at : ℕ) (words : List ℕ) → 8 * length words ≤ length (bytes_of_words at words) + 7
 length_bytes at words =
     let bytes : length (flat_map (to_le_bytes w64) words) ≡ 8 * length words = length-bytes_of_words words in
@@ -30,14 +30,14 @@ by_end : (longest : ℕ) (bytes : List ℕ) (place next : ℕ) (o : Option ℕ) 
 by_end longest bytes place next (Some end) e = cc
 by_end longest bytes place next None e = not_long longest place next (length bytes) (nat_lt longest (length bytes)) refl e
 
--- a text that asks for a word has at most as many bytes as it may
+-- a text that needs another word has no more bytes so far than it may have
 pub few_words_of_text : (longest at next : ℕ) (words : List ℕ) → spell_text longest at words ≡ More next → 8 * length words ≤ longest + 7
 few_words_of_text longest at next words e =
     let short : (length (bytes_of_words at words) ≤ longest) × (at / 8 + length words ≡ next) = by_end longest (bytes_of_words at words) (at / 8 + length words) next (position (λ b. b == 0) (take (longest + 1) (bytes_of_words at words))) e in
     let enough = length_bytes at words in
     omega (arith, short.0, enough)
 
--- a name that asks for a word has at most 128 of them
+-- a name that needs another word has at most 128 words so far
 pub few_words : (at next : ℕ) (words : List ℕ) → spell_name at words ≡ More next → length words ≤ 128
 few_words at next words e = let few = few_words_of_text LONGEST_NAME at next words e in omega (arith, few)
 
@@ -59,7 +59,7 @@ text_by longest bytes place text (Some end) found e =
     omega (arith, inside.0, most, its, long)
 text_by longest bytes place text None found e = absurd (no_text place (length bytes) text (nat_lt longest (length bytes)) (nat_le SPACE_WORDS place) e)
 
--- a text has at most as many bytes as it may
+-- a text has at most as many bytes as it may have
 pub short_text_of : (longest at : ℕ) (words text : List ℕ) → spell_text longest at words ≡ Text text → length text ≤ longest
 short_text_of longest at words text e = text_by longest (bytes_of_words at words) (at / 8 + length words) text (position (λ b. b == 0) (take (longest + 1) (bytes_of_words at words))) refl e
 

@@ -1,4 +1,4 @@
--- What is true of every walk.
+-- Properties of every walk.
 use Rattle.std.proofs.Common.{◌≡◌, ◌≤◌, ℕ, ◌+◌, Bool, true, false, if◌then◌else◌, List, [], ◌∷◌, ◌++◌, length, refl, nat_eq, nat_lt, ◌&&◌, not, subst}
 use Rattle.std.proofs.lemmas.Bool.{ltb-false}
 use Rattle.st_base.specs.declared.errno.Errno.{Errno}
@@ -28,12 +28,12 @@ walk_on_stays done (part ∷ rest) n (Link text ∷ lookups) more follow h =
 pub walk_stays : (done rest : Components) (n : ℕ) (lookups more : List SeenText) (follow : Bool) → needs_lookup (walk done rest n lookups follow) ≡ false → walk done rest n (lookups ++ more) follow ≡ walk done rest n lookups follow
 walk_stays done rest n lookups more follow h = walk_on_stays (name_after_ups done rest) (rest_after_ups rest) n lookups more follow h
 
--- what holds of either choice holds of the chosen one
+-- a property of both choices is a property of the chosen one
 pub both : (P : WalkState → Type 0) (b : Bool) (w x : WalkState) → P w → P x → P (if b then w else x)
 both P true w x p q = p
 both P false w x p q = q
 
--- what holds of every finished name, every name that is asked for and every fault holds of a walk
+-- a property of every resolved name, every name to be looked up and every fault is a property of every walk
 pub walk_on_all : (P : WalkState → Type 0) → ((done : Components) → P (walk_end done)) → ((name : Components) → P (Next name)) → ((errno : Errno) → P (Fault errno)) → (done rest : Components) (n : ℕ) (lookups : List SeenText) (follow : Bool) → P (walk_on done rest n lookups follow)
 walk_on_all P ends next fault done [] n lookups follow = ends done
 walk_on_all P ends next fault done (part ∷ rest) n [] follow = next (done ++ part ∷ [])

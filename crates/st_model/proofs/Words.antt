@@ -1,4 +1,4 @@
--- How many words the parts of a call take, of whatever kind.
+-- Bounds on the words that the parts of a call take, for every kind.
 use native.Mathlib.Omega.{arith}
 use Rattle.std.proofs.Common.{◌≡◌, ◌≤◌, ℕ, zero, suc, ◌+◌, ◌*◌, ◌/◌, ◌%◌, Bool, true, false, cond, not, ◌==◌, ◌||◌, nat_lt, nat_le, List, [], ◌∷◌, ◌++◌, length, drop, refl, sym, ap, ◌∙◌, length-append, min}
 use Rattle.std.proofs.lemmas.Bool.{ltb-false, leb-false, or_parts}
@@ -22,7 +22,7 @@ use Rattle.st_names.specs.declared.limits.TheConstants.{LONGEST_NAME}
 length-word : (word : ℕ) → length (to_le_bytes w64 word) ≡ 8
 length-word word = let e = length-bytes_of_words (word ∷ []) in let f = length-append (to_le_bytes w64 word) [] in omega (arith, e, f)
 
--- bytes of which none is zero are all taken
+-- if no byte is zero, all bytes are taken
 all_taken : (bytes : List ℕ) → list_any is_zero bytes ≡ false → prefix_len (λ byte. not (is_zero byte)) bytes ≡ length bytes
 all_taken [] e = refl
 all_taken (x ∷ bytes) e =
@@ -43,7 +43,7 @@ length-concat parts part =
     let g = length-append part [] in
     omega (arith, e, f, g)
 
--- what the words read so far leave less of: bytes, parts, and a word or two of each part that isn't full
+-- the words read so far use up bytes, parts, and a word or two of each part that isn't full; this is that word or two, in bytes
 abbrev gap : ℕ → ℕ
 gap zero = 8
 gap (suc count) = 16
@@ -55,12 +55,12 @@ abbrev spent : List (List ℕ) → ArgvPart → ℕ
 spent parts Pointer = length (concat parts) + 32 * length parts
 spent parts (Part pointer count taken) = length (concat parts) + length taken + 32 * length parts + gap count
 
--- what is read so far is within the limits
+-- the bytes and parts read so far are within the limits
 abbrev Fits : List (List ℕ) → ArgvPart → Type 0
 Fits parts Pointer = (length (concat parts) ≤ 1024) × (length parts ≤ 16)
 Fits parts (Part pointer count taken) = (length (concat parts) + length taken ≤ 1024) × (length parts ≤ 15)
 
--- where one of two tests decides for a text or a fault, more words are asked for only where neither does
+-- if two tests select a text or a fault, more words are needed only if neither test is true
 asks_on : (a b : Bool) (text : List ℕ) (errno : Errno) (rest : Spelled) (next : ℕ) → cond a (Text text) (cond b (Fault errno) rest) ≡ More next → (b ≡ false) × (rest ≡ More next)
 asks_on true b text errno rest next e = cc
 asks_on false true text errno rest next e = cc
@@ -74,7 +74,7 @@ gap_low : (count : ℕ) → gap count ≤ 16
 gap_low zero = omega arith
 gap_low (suc count) = omega arith
 
--- the bytes of a word that belong to a part: all of them behind its first word
+-- the bytes of a word that belong to a part: all bytes for each word after the first
 abbrev bytes_for : ℕ → ℕ → ℕ → List ℕ
 bytes_for pointer count word = drop (bytes_before_part pointer count) (to_le_bytes w64 word)
 
@@ -89,7 +89,7 @@ length-part pointer (suc count) taken word e =
     let c = length-word word in
     omega (arith, a, b, c)
 
--- a bound that holds of what is read further holds of what is read so far
+-- the bound on the words of an argument vector that needs another word
 abbrev Bound : ℕ → List (List ℕ) → ArgvPart → List ℕ → Type 0
 Bound place parts at words = (next : ℕ) → Fits parts at → spell_parts place parts at words ≡ More next → 8 * length words + spent parts at ≤ 1536
 
@@ -107,7 +107,7 @@ part_step place parts pointer count taken word words next few short ended going 
     let c = length-part pointer count taken word e in
     omega (arith, a, b, c)
 
--- where more words of an argument vector are asked for, few were read
+-- if more words of an argument vector are needed, few were read
 few_parts : (place : ℕ) (parts : List (List ℕ)) (at : ArgvPart) (words : List ℕ) → Bound place parts at words
 few_parts place parts Pointer [] = λ next fits e. let a = fits.0 in let b = fits.1 in omega (arith, a, b)
 few_parts place parts (Part pointer count taken) [] = λ next fits e. let a = fits.0 in let b = fits.1 in let c = gap_low count in omega (arith, a, b, c)
@@ -138,7 +138,7 @@ few_of_address at (word ∷ words) next e = absurd (decided (not (at % 8 == 0) |
   decided false true text f = cc
   decided false false text f = cc
 
--- where a part asks for a word, it has at most 192
+-- a part that needs another word has at most 192 words so far
 pub few_words_of : (k : PartKind) (at : ℕ) (words : List ℕ) (next : ℕ) → spell k at words ≡ More next → length words ≤ 192
 few_words_of kind.Name at words next e = let few = few_words_of_text LONGEST_NAME at next words e in omega (arith, few)
 few_words_of kind.Plain at words next e = let few = few_words_of_text LONGEST_TEXT at next words e in omega (arith, few)

@@ -3,29 +3,29 @@ use Rattle.std.specs.Prelude.{ℕ, ◌+◌, ◌-◌, ◌*◌, ◌/◌, ◌%◌, 
 use Rattle.std.specs.Int.{w64, to_le_bytes, from_le_bytes}
 use Rattle.std.specs.List.{range_with_len}
 
--- A map of bytes gives the byte at each number; a map of memory gives it for each space. Words are little-endian: of the
--- eight bytes of place i, 8 i to 8 i + 7, the first is the lowest.
+-- A map of bytes gives the byte at each offset; a map of memory gives a map of bytes for each space. Words are little-endian:
+-- the word with index i has the bytes 8 i to 8 i + 7, the lowest first.
 
--- so many bytes, from byte at on
+-- `count` bytes, from byte `at` on
 abbrev pub bytes_from : (ℕ → ℕ) → ℕ → ℕ → List ℕ
 bytes_from bytes at count = map bytes (range_with_len at count)
 
--- the word at a place
+-- the word at a word index
 abbrev pub word_of : (ℕ → ℕ) → ℕ → ℕ
 word_of bytes place = from_le_bytes w64 (bytes_from bytes (8 * place) 8)
 
--- what storing a word at a place makes of byte b: one of the word's eight bytes at that place, else what was there before
+-- byte `b` after a word is stored at a word index: one of the word's eight bytes at that index, otherwise as before
 abbrev pub bytes_after_store : (ℕ → ℕ) → ℕ → ℕ → ℕ → ℕ
 bytes_after_store before place word b = if b / 8 == place then slice_index (to_le_bytes w64 word) (b % 8) else before b
 
--- what putting bytes from byte at on makes of byte b: one of them where they lie, else what was there before
+-- byte `b` after bytes are put from byte `at` on: one of these bytes within their range, otherwise as before
 abbrev pub bytes_after_put : (ℕ → ℕ) → ℕ → List ℕ → ℕ → ℕ
 bytes_after_put before at bytes b = if nat_le at b && nat_lt b (at + length bytes) then slice_index bytes (b - at) else before b
 
--- what storing a word in a space makes of byte b of space s
+-- byte `b` of space `s` after a word is stored in a space
 abbrev pub memory_after_store : (ℕ → ℕ → ℕ) → ℕ → ℕ → ℕ → ℕ → ℕ → ℕ
 memory_after_store before space place word s b = if s == space then bytes_after_store (before s) place word b else before s b
 
--- what putting bytes into a space makes of byte b of space s
+-- byte `b` of space `s` after bytes are put into a space
 abbrev pub memory_after_put : (ℕ → ℕ → ℕ) → ℕ → ℕ → List ℕ → ℕ → ℕ → ℕ
 memory_after_put before space at bytes s b = if s == space then bytes_after_put (before s) at bytes b else before s b

@@ -1,4 +1,4 @@
--- The rows of processes and threads, and what calls make of them.
+-- The rows of processes and threads, and how calls change them.
 use Rattle.st_base.specs.Numbered.{item_at_number_or, with_item_at_number}
 use Rattle.std.specs.Prelude.{ℕ, zero, suc, ◌<◌, ◌==◌, ◌&&◌, ◌||◌, not, nat_lt, if◌then◌else◌, Bool, true, false, List, [], ◌∷◌, ◌++◌, length, slice_index_or, slice_set, Option, Some, None}
 use Rattle.std.specs.Option.{option_map}
@@ -16,21 +16,21 @@ pub record StartedThread : Type 0 where
   pub pid : ℕ
   pub ended : Bool
 
--- Processes are numbered from 1, in the order of their rows. Threads stand in the order of their numbers, those alone that
--- have started.
+-- Processes are numbered from 1, in the order of their rows. Threads are sorted by number; only threads that have started
+-- have an entry.
 pub record Processes : Type 0 where
   pub rows : List Process
   pub threads : List (ℕ × StartedThread)
 
--- what stands for a process that isn't there
+-- the default row for a number that no process has
 abbrev pub no_process : Process
 no_process = record { traced = false; policy = []; ids = identity 0 0; cwd = []; space = 0 }
 
--- the process of this number
+-- the process with this number
 abbrev pub process_at : Processes → ℕ → Process
 process_at processes pid = item_at_number_or no_process processes.rows pid
 
--- the number that the next process has
+-- the number of the next process to be made
 abbrev pub next_pid : Processes → ℕ
 next_pid processes = suc (length processes.rows)
 
@@ -38,11 +38,11 @@ next_pid processes = suc (length processes.rows)
 abbrev pub IsPid : Processes → ℕ → Type 0
 IsPid processes pid = (0 < pid) × (pid < next_pid processes)
 
--- the thread of this number; none where it hasn't started
+-- the thread with this number; none if it hasn't started
 abbrev pub thread_at : Processes → ℕ → Option StartedThread
 thread_at processes tid = lookup (is_at (nat_cmp tid)) processes.threads
 
--- the process of a thread; none where it hasn't started
+-- the process of a thread; none if the thread hasn't started
 abbrev pub pid_of : Processes → ℕ → Option ℕ
 pid_of processes tid = option_map (λ thread. thread.pid) (thread_at processes tid)
 
@@ -55,11 +55,11 @@ has_not_ended (Some thread) = not thread.ended
 abbrev pub is_running : Processes → ℕ → Bool
 is_running processes tid = has_not_ended (thread_at processes tid)
 
--- whether a thread is this process's
+-- whether a thread belongs to this process
 abbrev pub is_thread_of : ℕ → StartedThread → Bool
 is_thread_of pid thread = thread.pid == pid
 
--- whether it hasn't ended either
+-- whether a thread belongs to this process and hasn't ended
 abbrev pub is_running_in : ℕ → StartedThread → Bool
 is_running_in pid thread = thread.pid == pid && not thread.ended
 
@@ -67,58 +67,58 @@ is_running_in pid thread = thread.pid == pid && not thread.ended
 abbrev pub is_pid : Processes → ℕ → Bool
 is_pid processes pid = nat_lt 0 pid && nat_lt pid (next_pid processes)
 
--- whether a process is there and hasn't ended: it never had a thread, or has one that hasn't ended
+-- whether a process exists and hasn't ended: it never had a thread, or has a thread that hasn't ended
 abbrev pub is_live : Processes → ℕ → Bool
 is_live processes pid =
     is_pid processes pid && (not (list_any (is_thread_of pid) (values_of processes.threads)) || list_any (is_running_in pid) (values_of processes.threads))
 
--- one more process, without threads
+-- the rows after one more process, without threads, is added
 abbrev pub processes_after_start : Processes → Process → Processes
 processes_after_start processes process = record { rows = processes.rows ++ process ∷ []; threads = processes.threads }
 
--- with a thread, and nothing else changed
+-- the rows with this thread, and nothing else changed
 abbrev pub with_thread : Processes → ℕ → StartedThread → Processes
 with_thread processes tid thread = record { rows = processes.rows; threads = insert_entry nat_cmp processes.threads tid thread }
 
--- a thread of a process starts
+-- the rows after a thread of a process starts
 abbrev pub processes_after_begin : Processes → ℕ → ℕ → Processes
 processes_after_begin processes tid pid = with_thread processes tid (record { pid = pid; ended = false })
 
--- fork(2): one more process, which has the parent's row but for its memory, and one thread
+-- the rows after fork(2): one more process, with the parent's row except for its memory, and with one thread
 abbrev pub processes_after_fork : Processes → ℕ → ℕ → ℕ → Processes
 processes_after_fork processes pid tid space =
     processes_after_begin (processes_after_start processes (record (process_at processes pid) { space = space })) tid (next_pid processes)
 
--- with the row of a process, and nothing else changed
+-- the rows with the row of one process replaced, and nothing else changed
 abbrev pub with_process : Processes → ℕ → Process → Processes
 with_process processes pid process = record { rows = with_item_at_number processes.rows pid process; threads = processes.threads }
 
--- which policy applies once a process executes a binary
+-- the policy that applies after a process executes a binary
 abbrev pub policy_after_exec : Bool → List ℕ → List ℕ → List ℕ
 policy_after_exec inherit before binary = if inherit then before else binary
 
--- a process's row once it executes a binary
+-- a process's row after it executes a binary
 abbrev pub process_after_exec : Process → List ℕ → ℕ → Bool → Process
 process_after_exec process binary space inherit = record process { policy = policy_after_exec inherit process.policy binary; space = space }
 
--- execve(2): another memory, and the binary's policy unless the policy is kept
+-- the rows after execve(2): the process has another memory, and the binary's policy unless it inherits the policy from before
 abbrev pub processes_after_exec : Processes → ℕ → List ℕ → ℕ → Bool → Processes
 processes_after_exec processes pid binary space inherit =
     with_process processes pid (process_after_exec (process_at processes pid) binary space inherit)
 
--- a process has these ids
+-- the rows with these ids for a process
 abbrev pub with_ids : Processes → ℕ → Ids → Processes
 with_ids processes pid ids = with_process processes pid (record (process_at processes pid) { ids = ids })
 
--- a process has this directory
+-- the rows with this working directory for a process
 abbrev pub with_cwd : Processes → ℕ → Components → Processes
 with_cwd processes pid cwd = with_process processes pid (record (process_at processes pid) { cwd = cwd })
 
--- the thread of this number has ended, if there is one
+-- the rows after the thread with this number, if it has started, ends
 abbrev pub processes_after_end_at : Processes → ℕ → Option StartedThread → Processes
 processes_after_end_at processes tid None = processes
 processes_after_end_at processes tid (Some thread) = with_thread processes tid (record thread { ended = true })
 
--- a thread ends
+-- the rows after a thread ends
 abbrev pub processes_after_end : Processes → ℕ → Processes
 processes_after_end processes tid = processes_after_end_at processes tid (thread_at processes tid)

@@ -1,4 +1,4 @@
--- Spelling an argument from the words that were copied for it.
+-- How an argument is spelled by the words that were copied for it.
 use Rattle.std.specs.Prelude.{ℕ, ◌+◌, ◌/◌, ◌%◌, ◌*◌, ◌==◌, ◌||◌, not, nat_lt, nat_le, if◌then◌else◌, Bool, List, [], ◌∷◌, ◌++◌, length, take, drop, flat_map, position, slice_index, codes, decimal, false, zero, suc, Option, Some, None}
 use Rattle.std.specs.List.{concat, join_with_byte, list_any, take_while}
 use Rattle.std.specs.Fmt.{radix_digits}
@@ -10,27 +10,27 @@ use Rattle.st_model.specs.declared.limits.TheConstants.{SPACE_WORDS, LONGEST_TEX
 use Rattle.st_names.specs.declared.limits.TheConstants.{LONGEST_NAME}
 use Rattle.st_calls.specs.declared.argument.PartKind.TheVariants as kind
 
--- what copied words come to: a text, a fault, or the word index that is copied next
+-- what copied words spell: a text, a fault, or the word index to be copied next
 pub data Spelled : Type 0 where
   -- the argument is this text
   Text : List ℕ → Spelled
   Fault : Errno → Spelled
-  -- the word at this place is copied next
+  -- the word at this index is copied next
   More : ℕ → Spelled
 
--- the bytes of the words, from byte at of memory on, which lies in the first word
+-- the bytes of the words, from byte `at` of memory on, which is in the first word
 abbrev pub bytes_of_words : ℕ → List ℕ → List ℕ
 bytes_of_words at words = drop (at % 8) (flat_map (to_le_bytes w64) words)
 
--- the word at this place is next, if there is one
+-- the word at this index is next, or a fault if memory has no such word
 abbrev pub next_word : ℕ → Spelled
 next_word place = if nat_le SPACE_WORDS place then Fault EFAULT else More place
 
--- a text whose end isn't copied yet: it is too long already, or the next word is needed
+-- a text whose end isn't copied yet: it is already too long, or the next word is needed
 abbrev pub next_word_of_text : ℕ → ℕ → ℕ → Spelled
 next_word_of_text longest place count = if nat_lt longest count then Fault ENAMETOOLONG else next_word place
 
--- what the bytes of a text spell, by where the first zero byte stands, if one does
+-- what the bytes of a text spell, by the offset of the first zero byte, if there is one
 abbrev pub text_before_zero : ℕ → List ℕ → ℕ → Option ℕ → Spelled
 text_before_zero longest bytes place (Some end) = Text (take end bytes)
 text_before_zero longest bytes place None = next_word_of_text longest place (length bytes)
@@ -39,26 +39,26 @@ text_before_zero longest bytes place None = next_word_of_text longest place (len
 abbrev pub is_zero : ℕ → Bool
 is_zero byte = byte == 0
 
--- a text from byte at on, of which these words are copied: it ends before its first zero byte, and has at most so many bytes
+-- a text from byte `at` on, of which these words are copied: it ends before its first zero byte, and has at most `longest` bytes
 abbrev pub spell_text : ℕ → ℕ → List ℕ → Spelled
 spell_text longest at words =
     let bytes = bytes_of_words at words in
     text_before_zero longest bytes (at / 8 + length words) (position is_zero (take (longest + 1) bytes))
 
--- the same for a name
+-- a name whose end isn't copied yet: it is already too long, or the next word is needed
 abbrev pub next_word_of_name : ℕ → ℕ → Spelled
 next_word_of_name place count = next_word_of_text LONGEST_NAME place count
 
--- what the bytes of a name spell, by where the first zero byte stands, if one does
+-- what the bytes of a name spell, by the offset of the first zero byte, if there is one
 abbrev pub zero_ended_text : List ℕ → ℕ → Option ℕ → Spelled
 zero_ended_text bytes place end = text_before_zero LONGEST_NAME bytes place end
 
--- a name from byte at on, of which these words are copied
+-- a name from byte `at` on, of which these words are copied
 abbrev pub spell_name : ℕ → List ℕ → Spelled
 spell_name at words = spell_text LONGEST_NAME at words
 
--- an address stands in one word: a length, which isn't looked at, the family, the port, the high byte first, and four bytes
--- of the address
+-- the text of a socket address, which is one word: a length, which is ignored, the family, the port with its high byte first,
+-- and the four bytes of the internet address
 abbrev pub address_text : List ℕ → List ℕ
 address_text bytes =
     codes "inet-[" ++ decimal (slice_index bytes 4) ++ codes "." ++ decimal (slice_index bytes 5) ++ codes "." ++
@@ -69,7 +69,7 @@ address_text bytes =
 abbrev pub internet : ℕ
 internet = 2
 
--- the address of a socket that lies at byte at, of which these words are copied
+-- the socket address at byte `at`, of which these words are copied
 abbrev pub spell_address : ℕ → List ℕ → Spelled
 spell_address at [] = if not (at % 8 == 0) then Fault EFAULT else next_word (at / 8)
 spell_address at (word ∷ words) =
@@ -77,24 +77,24 @@ spell_address at (word ∷ words) =
     else if not (slice_index (to_le_bytes w64 word) 1 == internet) then Fault EINVAL
     else Text (address_text (to_le_bytes w64 word))
 
--- the byte of a blank, which stands between the texts of an argument vector
+-- the byte of a blank, which separates the texts of an argument vector
 abbrev pub blank : ℕ
 blank = 32
 
--- what the next word of an argv belongs to
+-- what the next word of an argument vector is
 pub data ArgvPart : Type 0 where
-  -- it is the next pointer
+  -- the next pointer
   Pointer : ArgvPart
-  -- it is a word of the part that this pointer leads to, of which so many words and these bytes were read
+  -- a word of the part at this pointer, of which this many words and these bytes were read
   Part : ℕ → ℕ → List ℕ → ArgvPart
 
--- how many bytes of a word stand in front of a part that begins in it
+-- the number of bytes of a part's next word that are before the part: only its first word can have some
 abbrev pub bytes_before_part : ℕ → ℕ → ℕ
 bytes_before_part pointer zero = pointer % 8
 bytes_before_part pointer (suc words) = 0
 
--- The rest of an argv whose pointers begin at this place, behind these parts: a pointer, the words of its text up to its first
--- zero byte, the next pointer, and so on up to a pointer that is zero. The seventeenth part and the 1,025th byte are too many.
+-- The rest of an argument vector whose pointers begin at this word index, after these parts: a pointer, the words of its text up to
+-- its first zero byte, the next pointer, and so on up to a zero pointer. The seventeenth part and the 1,025th byte are too many.
 abbrev pub spell_parts : ℕ → List (List ℕ) → ArgvPart → List ℕ → Spelled
 spell_parts place parts Pointer [] = next_word (place + length parts)
 spell_parts place parts (Part pointer count taken) [] = next_word (pointer / 8 + count)
@@ -109,11 +109,11 @@ spell_parts place parts (Part pointer count taken) (word ∷ words) =
     else if list_any is_zero bytes then spell_parts place (parts ++ part ∷ []) Pointer words
     else spell_parts place parts (Part pointer (count + 1) part) words
 
--- an argument vector from byte at on, of which these words are copied
+-- an argument vector from byte `at` on, of which these words are copied
 abbrev pub spell_argv : ℕ → List ℕ → Spelled
 spell_argv at words = if not (at % 8 == 0) then Fault EFAULT else spell_parts (at / 8) [] Pointer words
 
--- the domain and the type of a socket, as policies write them
+-- the domain of a socket, as policies write it
 abbrev pub domain_text : ℕ → List ℕ
 domain_text n = if n == 1 then codes "AF_UNIX" else if n == 2 then codes "AF_INET" else decimal n
 
@@ -121,12 +121,12 @@ domain_text n = if n == 1 then codes "AF_UNIX" else if n == 2 then codes "AF_INE
 abbrev pub type_text : ℕ → List ℕ
 type_text n = if n == 1 then codes "SOCK_STREAM" else if n == 2 then codes "SOCK_DGRAM" else decimal n
 
--- the low nine bits in octal digits, without leading zeros
+-- a mode as policies write it: its low nine bits in octal digits, without leading zeros
 abbrev pub mode_text : ℕ → List ℕ
 mode_text n = radix_digits 8 false (n % 512)
 
--- An argument of this kind, by its register and the words that were copied for it: texts, addresses and argv lie in memory,
--- from the byte on that the register has; a number lies in the register.
+-- An argument of this kind, by its register and the words that were copied for it. Names, texts, socket addresses and argument
+-- vectors are in memory, from the byte whose offset is in the register on. A number is in the register.
 abbrev pub spell : PartKind → ℕ → List ℕ → Spelled
 spell kind.Name at words = spell_name at words
 spell kind.Plain at words = spell_text LONGEST_TEXT at words

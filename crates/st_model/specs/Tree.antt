@@ -1,4 +1,4 @@
--- The file tree as a map of whole names: which object each absolute name has, and what each object is.
+-- The file tree as a map of whole names: the object of each absolute name, and the node of each object.
 use Rattle.std.specs.Prelude.{◌≢◌, ℕ, zero, suc, ◌+◌, ◌-◌, nat_eq, nat_lt, Bool, true, false, ◌&&◌, if◌then◌else◌, List, [], ◌∷◌, ◌++◌, length, map, take, drop, replicate, slice_get, slice_index_or, slice_set, Option, Some, None}
 use Rattle.std.specs.declared.cmp.Ordering.{Ordering}
 use Rattle.std.specs.BTreeMap.{insert_entry}
@@ -18,7 +18,7 @@ use Rattle.st_model.specs.declared.object.NewNode.{NewNode}
 use Rattle.st_names.specs.declared.seen.SeenText.{SeenText}
 use Rattle.st_names.specs.declared.seen.SeenText.TheVariants.{Missing, NotDir, Dir, File, Link}
 
--- an object: a file's content or a link's target stands in its content, which a directory leaves empty
+-- an object; the content is a file's bytes or a link's target, and is empty for a directory
 pub record Node : Type 0 where
   pub kind : Kind
   pub uid : ℕ
@@ -26,8 +26,8 @@ pub record Node : Type 0 where
   pub mode : ℕ
   pub content : List ℕ
 
--- the names that were given, each once and in their order, but for the root's, with the numbers of their objects; and the
--- objects that were ever made, from number 1
+-- the names other than the root's, each once and in order, with the numbers of their objects; and all objects that were ever
+-- made, from number 1
 pub record Tree : Type 0 where
   pub names : List (Components × ℕ)
   pub objects : List Node
@@ -38,7 +38,7 @@ kind_of_new new.Dir = kind.Dir
 kind_of_new (new.File content) = kind.File
 kind_of_new (new.Link target) = kind.Link
 
--- its content: a directory has none
+-- the content of an object that is to be made; a directory has none
 abbrev pub content_of_new : NewKind → List ℕ
 content_of_new new.Dir = []
 content_of_new (new.File content) = content
@@ -48,11 +48,11 @@ content_of_new (new.Link target) = target
 abbrev pub node_of_kind : NewKind → ℕ → ℕ → ℕ → Node
 node_of_kind made uid gid mode = record { kind = kind_of_new made; uid = uid; gid = gid; mode = mode; content = content_of_new made }
 
--- an object that is to be made, by what is given of it in one value
+-- an object that is to be made, from its description in one value
 abbrev pub node_of_new : NewNode → Node
 node_of_new made = node_of_kind made.kind made.uid made.gid made.mode
 
--- the root's mode is 755
+-- the root: a directory of user and group 0 with mode 755
 abbrev pub root_node : Node
 root_node = record { kind = kind.Dir; uid = 0; gid = 0; mode = 493; content = [] }
 
@@ -64,11 +64,11 @@ root_only = record { names = []; objects = root_node ∷ [] }
 abbrev pub is_same_name : Components → Components → Bool
 is_same_name name other = pointwise bytes_eq name other
 
--- how names are ordered: component by component, each by its bytes
+-- the order of names: component by component, and each component by its bytes
 abbrev pub compare_names : Components → Components → Ordering
 compare_names = slice_cmp (slice_cmp nat_cmp)
 
--- the names stand in their order, each once
+-- the names are in order, each once
 abbrev pub IsOrdered : List (Components × ℕ) → Type 0
 IsOrdered names = IsStrictlySortedBy compare_names (keys_of names)
 
@@ -76,87 +76,87 @@ IsOrdered names = IsStrictlySortedBy compare_names (keys_of names)
 abbrev pub IsBelowRoot : List (Components × ℕ) → Type 0
 IsBelowRoot names = All (λ name. name ≢ []) (keys_of names)
 
--- the number that a name has
+-- the number of a name's object, if the name is in the list
 abbrev pub number_of_name : List (Components × ℕ) → Components → Option ℕ
 number_of_name names name = lookup (λ other. is_same_name other name) names
 
--- the number of a name's object; the root is always there
+-- the number of a name's object; the root always exists
 abbrev pub object_of : Tree → Components → Option ℕ
 object_of tree [] = Some 1
 object_of tree (part ∷ rest) = number_of_name tree.names (part ∷ rest)
 
--- the object of a number, counted from 1
+-- the object with this number, counted from 1
 abbrev pub node_of_number : Tree → ℕ → Option Node
 node_of_number tree number = item_at_number tree.objects number
 
--- the object of a number, if there is one
+-- the object with this number, if there is a number
 abbrev pub node_at : Tree → Option ℕ → Option Node
 node_at tree None = None
 node_at tree (Some number) = node_of_number tree number
 
--- what a name has
+-- the object that has this name
 abbrev pub node_of : Tree → Components → Option Node
 node_of tree name = node_at tree (object_of tree name)
 
--- what is seen of an object
+-- the result of a look at an object
 abbrev pub seen_of_kind : Kind → List ℕ → SeenText
 seen_of_kind kind.Dir content = Dir
 seen_of_kind kind.File content = File
 seen_of_kind kind.Link content = Link content
 
--- what is seen of a name whose directories are all there
+-- the result of a look at a name whose directories all exist
 abbrev pub seen_of : Option Node → SeenText
 seen_of None = Missing
 seen_of (Some node) = seen_of_kind node.kind node.content
 
--- whether a kind is a directory's
+-- whether a kind is that of a directory
 abbrev pub is_directory : Kind → Bool
 is_directory kind.Dir = true
 is_directory kind.File = false
 is_directory kind.Link = false
 
--- what is seen of a name that leads through this node: behind a directory it is what the rest gives
+-- the result of a look through this node: if it is a directory, the result for the rest of the name
 abbrev pub seen_through : Option Node → SeenText → SeenText
 seen_through None rest = Missing
 seen_through (Some node) rest = if is_directory node.kind then rest else NotDir
 
--- what is seen of `done` with the rest behind it: the first proper prefix that is missing or no directory decides
+-- the result of a look at `done` followed by the rest: the first proper prefix that is missing or no directory decides
 abbrev pub look_along : Tree → Components → Components → SeenText
 look_along tree done [] = seen_of (node_of tree done)
 look_along tree done (part ∷ rest) = seen_through (node_of tree done) (look_along tree (done ++ part ∷ []) rest)
 
--- what is seen of a name
+-- the result of a look at a name
 abbrev pub look : Tree → Components → SeenText
 look tree name = look_along tree [] name
 
--- the object of a number that was made
+-- the object with this number, or the root if no object has it
 abbrev pub node_with_number : Tree → ℕ → Node
 node_with_number tree number = slice_index_or tree.objects (number - 1) root_node
 
--- whether there is a number and it is this one
+-- whether there is a number and it equals this number
 abbrev pub is_number : ℕ → Option ℕ → Bool
 is_number number None = false
 is_number number (Some other) = nat_eq other number
 
--- how many names an object's directory has: those whose parent has this object
+-- the number of entries of a directory: the names whose parent is this object
 abbrev pub entry_count : Tree → ℕ → ℕ
 entry_count tree number = length (filter (λ named. is_number number (object_of tree (parent named.0))) tree.names)
 
--- how large an object is: entries of a directory, bytes of a file, bytes of a link's target
+-- the size of an object: the number of entries of a directory, or of bytes of a file or of a link's target
 abbrev pub size_of_kind : Kind → ℕ → List ℕ → ℕ
 size_of_kind kind.Dir entries content = entries
 size_of_kind kind.File entries content = length content
 size_of_kind kind.Link entries content = length content
 
--- how large the object of a number is
+-- the size of the object with this number
 abbrev pub size_of : Tree → ℕ → ℕ
 size_of tree number = size_of_kind (node_with_number tree number).kind (entry_count tree number) (node_with_number tree number).content
 
--- the names with this one, which has this number
+-- the names with this name added, which has this number
 abbrev pub with_name : List (Components × ℕ) → Components → ℕ → List (Components × ℕ)
 with_name names name number = insert_entry compare_names names name number
 
--- the names without this one
+-- the names without this name
 abbrev pub without_name : List (Components × ℕ) → Components → List (Components × ℕ)
 without_name names name = remove_entry (λ other. is_same_name other name) names
 
@@ -167,23 +167,23 @@ add_object tree name node = record {
   objects = tree.objects ++ node ∷ [];
 }
 
--- an object has one more name
+-- the tree after an object gets one more name
 abbrev pub link_object : Tree → Components → ℕ → Tree
 link_object tree name number = record { names = with_name tree.names name number; objects = tree.objects }
 
--- a name is gone; its object stays
+-- the tree after a name is removed; its object stays
 abbrev pub remove_name : Tree → Components → Tree
 remove_name tree name = record { names = without_name tree.names name; objects = tree.objects }
 
--- whether a name is this one or leads on from it
+-- whether the first name is a prefix of the second, or equal to it
 abbrev pub is_prefix : Components → Components → Bool
 is_prefix name other = starts_with bytes_eq other name
 
--- whether a name is longer than another and begins with it
+-- whether the first name is a proper prefix of the second
 abbrev pub is_proper_prefix : Components → Components → Bool
 is_proper_prefix name other = is_prefix name other && nat_lt (length name) (length other)
 
--- what becomes of a name: the new prefix takes the place of the old one
+-- a name in which the new prefix replaces the old prefix, if it has the old prefix
 abbrev pub with_prefix_replaced : Components → Components → Components → Components
 with_prefix_replaced old new name = if is_prefix old name then new ++ drop (length old) name else name
 
@@ -191,41 +191,41 @@ with_prefix_replaced old new name = if is_prefix old name then new ++ drop (leng
 abbrev pub sorted_names : List (Components × ℕ) → List (Components × ℕ)
 sorted_names pairs = fold (λ names named. with_name names named.0 named.1) [] pairs
 
--- each name with the old prefix has the new one
+-- the tree after a rename: each name with the old prefix has the new prefix instead
 abbrev pub rename : Tree → Components → Components → Tree
 rename tree old new = record {
   names = sorted_names (map (λ named. (with_prefix_replaced old new named.0, named.1)) tree.names);
   objects = tree.objects;
 }
 
--- an object is this one now, under all its names
+-- the tree with an object replaced, under all its names
 abbrev pub with_node : Tree → ℕ → Node → Tree
 with_node tree number node = record { names = tree.names; objects = slice_set tree.objects (number - 1) node }
 
--- bytes with others in their place from byte at on; a gap is zeros, and no bytes change nothing
+-- bytes after other bytes are written from byte `at` on; a gap is filled with zeros, and writing no bytes changes nothing
 abbrev pub bytes_after_write : List ℕ → ℕ → List ℕ → List ℕ
 bytes_after_write before at [] = before
 bytes_after_write before at (byte ∷ bytes) =
     take at (before ++ replicate (at - length before) 0) ++ (byte ∷ bytes) ++ drop (at + length (byte ∷ bytes)) before
 
--- bytes cut to a length, or filled up to it with zeros
+-- bytes truncated to a length, or extended to it with zeros
 abbrev pub bytes_after_cut : List ℕ → ℕ → List ℕ
 bytes_after_cut before len = take len before ++ replicate (len - length before) 0
 
--- a file's bytes are written from byte at on
+-- the tree after bytes are written to a file from byte `at` on
 abbrev pub write_object : Tree → ℕ → ℕ → List ℕ → Tree
 write_object tree number at bytes =
     with_node tree number (record (node_with_number tree number) { content = bytes_after_write (node_with_number tree number).content at bytes })
 
--- a file has this length
+-- the tree after a file is truncated or extended to this length
 abbrev pub cut_object : Tree → ℕ → ℕ → Tree
 cut_object tree number len =
     with_node tree number (record (node_with_number tree number) { content = bytes_after_cut (node_with_number tree number).content len })
 
--- an object has this mode
+-- the tree after an object gets this mode
 abbrev pub set_mode : Tree → ℕ → ℕ → Tree
 set_mode tree number mode = with_node tree number (record (node_with_number tree number) { mode = mode })
 
--- an object has this owner and this group
+-- the tree after an object gets this owner and this group
 abbrev pub set_owner : Tree → ℕ → ℕ → ℕ → Tree
 set_owner tree number uid gid = with_node tree number (record (node_with_number tree number) { uid = uid; gid = gid })

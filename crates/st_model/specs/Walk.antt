@@ -1,4 +1,4 @@
--- How a name is resolved: one component after the other, each by what is seen of the name so far.
+-- Name resolution: one component after the other, each by a look at the name so far.
 use Rattle.std.specs.Prelude.{ℕ, zero, suc, ◌+◌, ◌*◌, max, nat_lt, nat_eq, Bool, true, false, ◌&&◌, not, if◌then◌else◌, List, [], ◌∷◌, ◌++◌, length, codes}
 use Rattle.std.specs.List.{starts_with}
 use Rattle.std.specs.Str.{bytes_eq}
@@ -11,11 +11,11 @@ use Rattle.st_names.specs.declared.seen.SeenText.TheVariants.{Missing, NotDir, D
 use Rattle.st_names.specs.declared.limits.TheConstants.{LONGEST_NAME}
 use Rattle.st_model.specs.declared.limits.TheConstants.{MOST_LINKS}
 
--- what a walk has come to: its name, the name that is looked up next, or a fault
+-- the state of a walk: the resolved name, the name to be looked up next, or a fault
 pub data WalkState : Type 0 where
-  -- the walk is finished: this name is meant
+  -- the walk has ended: the name resolves to this name
   Name : Components → WalkState
-  -- the name that is looked at next
+  -- the name to be looked up next
   Next : Components → WalkState
   Fault : Errno → WalkState
 
@@ -29,7 +29,7 @@ needs_lookup (Fault errno) = false
 abbrev pub is_up : List ℕ → Bool
 is_up part = bytes_eq part (codes "..")
 
--- the name that is reached once each leading `..` of the rest has dropped a component
+-- the name that is reached after each leading `..` of the rest has dropped a component
 abbrev pub name_after_ups : Components → Components → Components
 name_after_ups done [] = done
 name_after_ups done (part ∷ rest) = if is_up part then name_after_ups (parent done) rest else done
@@ -43,17 +43,17 @@ rest_after_ups (part ∷ rest) = if is_up part then rest_after_ups rest else par
 abbrev pub walk_end : Components → WalkState
 walk_end done = if nat_lt LONGEST_NAME (length (printed_name done)) then Fault ENAMETOOLONG else Name done
 
--- where a text begins: at the root if it is absolute, else at this name
+-- where the resolution of a text begins: at the root if it is absolute, otherwise at this name
 abbrev pub start_of_name : List ℕ → Components → Components
 start_of_name text from = if starts_with nat_eq text (codes "/") then [] else from
 
--- whether no component is left behind this one
+-- whether no component remains after the current component
 abbrev pub is_last : Components → Bool
 is_last rest = nat_eq (length rest) 0
 
--- A walk whose rest does not begin with `..`: `done` is the name that is reached, n counts the links that were followed,
--- and the first of the seens is what is seen of `done` with the next component. A link that is last is followed only on
--- demand; what stands before a `..` is not last.
+-- A walk whose rest doesn't begin with `..`: `done` is the name that was reached, `n` is the number of links that were followed,
+-- and the first of `lookups` is the result of a look at `done` with the next component. A link that is the last component is
+-- followed only if `follow` is true. A component before a `..` isn't the last one.
 abbrev pub walk_on : Components → Components → ℕ → List SeenText → Bool → WalkState
 walk_on done [] n lookups follow = walk_end done
 walk_on done (part ∷ rest) n [] follow = Next (done ++ part ∷ [])
@@ -69,11 +69,11 @@ walk_on done (part ∷ rest) n (Link text ∷ lookups) follow =
     else if nat_eq n MOST_LINKS then Fault ELOOP
     else walk_on (name_after_ups (start_of_name text done) (components_of text ++ rest)) (rest_after_ups (components_of text ++ rest)) (n + 1) lookups follow
 
--- the walk from `done` over the rest, with n links followed, by what was seen so far; `..` takes no look
+-- the walk from `done` over the rest, with `n` links followed, by the looks so far; `..` takes no look
 abbrev pub walk : Components → Components → ℕ → List SeenText → Bool → WalkState
 walk done rest n lookups follow = walk_on (name_after_ups done rest) (rest_after_ups rest) n lookups follow
 
--- the walk of a text; two faults come before any look
+-- the walk of a text; two faults are found before any look
 abbrev pub start_walk : List ℕ → Components → Bool → List SeenText → WalkState
 start_walk text cwd follow lookups =
     if nat_eq (length text) 0 then Fault ENOENT
@@ -85,27 +85,27 @@ abbrev pub longest_content_of : List Node → ℕ
 longest_content_of [] = 0
 longest_content_of (node ∷ nodes) = max (length node.content) (longest_content_of nodes)
 
--- the longest content of an object
+-- the length of the longest content of an object of the tree
 abbrev pub longest_content : Tree → ℕ
 longest_content tree = longest_content_of tree.objects
 
--- Each look takes a component of the text or of one of the links that are followed, and no text has more components than
--- bytes: this many looks are enough.
+-- A number of looks that is enough: each look takes a component of the text or of one of the links that are followed, and no
+-- text has more components than bytes.
 abbrev pub most_lookups : Tree → List ℕ → ℕ
 most_lookups tree text = length text + MOST_LINKS * longest_content tree
 
--- the walk's value, where a name that it asks for leads on to this one
+-- the state of a walk after it continues, if it needs a look at a name
 abbrev pub walk_through : (Components → WalkState) → WalkState → WalkState
 walk_through further (Name name) = Name name
 walk_through further (Next name) = further name
 walk_through further (Fault errno) = Fault errno
 
--- the walk over what was seen, and over that many looks at the tree for as long as it asks
+-- the walk by the looks so far, and by at most this many further looks at the tree while it needs looks
 abbrev pub resolve_within : ℕ → Tree → Components → List ℕ → Bool → List SeenText → WalkState
 resolve_within zero tree cwd text follow lookups = start_walk text cwd follow lookups
 resolve_within (suc looks) tree cwd text follow lookups =
     walk_through (λ name. resolve_within looks tree cwd text follow (lookups ++ look tree name ∷ [])) (start_walk text cwd follow lookups)
 
--- the walk in which each seen is a look at the tree
+-- the resolution of a text: the walk whose looks are looks at the tree
 abbrev pub resolve : Tree → Components → List ℕ → Bool → WalkState
 resolve tree cwd text follow = resolve_within (most_lookups tree text) tree cwd text follow []

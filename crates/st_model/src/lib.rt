@@ -1,5 +1,5 @@
-//! The modelled system as plain data: memory, descriptors and ports, the file tree, permission, processes, how names are resolved and
-//! how arguments are spelled. What stands here is what the crates that keep these things at run time are proved to do.
+//! The modelled system as plain data: memory, descriptors and ports, the file tree, permission, processes, name resolution and the
+//! spelling of arguments. The crates that keep these data at run time are proved to behave as defined here.
 #![tactic(auto)]
 
 pub mod limits;

@@ -1,25 +1,25 @@
-//! How large the things of the modelled system may be. How many descriptors a process may have stands with them.
+//! Limits of the modelled system. The limit on a process's descriptors is `DESCRIPTORS` of `open_file`.
 
-/// How many bytes the memory of a process has.
+/// The number of bytes of a process's memory.
 pub const SPACE_BYTES: u64 = 65_536;
 
-/// How many words of eight bytes it has.
+/// The number of words of eight bytes in a process's memory.
 pub const SPACE_WORDS: u32 = 8_192;
 
-/// How many objects may ever be made in the file tree, the root among them.
+/// The most objects that may ever be made in the file tree, the root included.
 pub const MOST_OBJECTS: usize = 4_096;
 
-/// The most bytes of a file.
+/// The greatest length of a file, in bytes.
 pub const LONGEST_FILE: u64 = 65_536;
 
-/// How many links the resolution of a name follows.
+/// The most links that the resolution of a name follows.
 pub const MOST_LINKS: u32 = 32;
 
-/// The most bytes of an argument that is a plain text.
+/// The greatest length of an argument that is a plain text, in bytes.
 pub const LONGEST_TEXT: usize = 255;
 
-/// How many parts the arguments of a new program may have.
+/// The most texts of an argument vector.
 pub const ARGV_PARTS: usize = 16;
 
-/// How many bytes they may have together.
+/// The most bytes of an argument vector's texts together.
 pub const ARGV_BYTES: usize = 1_024;

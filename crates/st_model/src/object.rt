@@ -1,6 +1,6 @@
 use st_base::Text;
 
-/// What an object of the file tree is.
+/// The kind of an object of the file tree.
 #[derive(Clone, Copy, Debug, PartialEq, Eq)]
 pub enum Kind {
     Dir,
@@ -8,7 +8,7 @@ pub enum Kind {
     Link,
 }
 
-/// An object that is to be made.
+/// An object to be made.
 #[derive(Debug, Drop)]
 pub struct NewNode {
     pub kind: NewKind,
@@ -17,7 +17,7 @@ pub struct NewNode {
     pub mode: u32,
 }
 
-/// What kind of object is to be made.
+/// The kind of an object to be made, with its content.
 #[derive(Debug, Drop)]
 pub enum NewKind {
     Dir,

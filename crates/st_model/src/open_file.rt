@@ -1,20 +1,20 @@
 use st_base::Obj;
 
-/// How many descriptors a process may have open.
+/// The most descriptors that a process may have open.
 pub const DESCRIPTORS: usize = 64;
 
-/// What an open file reads and writes.
+/// The target of an open file.
 #[derive(Clone, Copy, Debug, PartialEq, Eq)]
 pub enum FileKind {
     /// The console.
     Console,
     /// An object of the file tree.
     Node(Obj),
-    /// A socket: the port that it is bound to, and whether it is connected.
+    /// A socket: the port to which it is bound, if any, and whether it is connected.
     Socket { port: Option<u16>, connected: bool },
 }
 
-/// An open file, which all descriptors made of one by dup(2) or fork(2) share.
+/// An open file. All descriptors that dup(2) or fork(2) made from one descriptor share it.
 #[derive(Clone, Copy, Debug, PartialEq, Eq)]
 pub struct OpenFile {
     pub kind: FileKind,
@@ -22,9 +22,9 @@ pub struct OpenFile {
     pub read: bool,
     /// Whether it is open for writing.
     pub write: bool,
-    /// Whether each write goes to the end.
+    /// Whether each write goes to the end of the file.
     pub append: bool,
-    /// The byte that the next read or write begins at.
+    /// The offset at which the next read or write begins.
     pub offset: u64,
 }
 

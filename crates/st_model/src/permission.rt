@@ -1,7 +1,7 @@
 ghost use Rattle.std.specs.Prelude.{◌≡◌, ◌<◌};
 ghost use Rattle.st_model.specs.Permission.{bit_of, permission_bits, has_bit, is_executable, is_permitted, root_is_allowed};
 
-/// What is wanted of an object of the file tree, as in access(2).
+/// An access to an object of the file tree, as in access(2).
 #[derive(Clone, Copy, Debug, PartialEq, Eq)]
 pub enum Want {
     Read,
@@ -11,7 +11,7 @@ pub enum Want {
     Execute,
 }
 
-/// Who owns an object, and what its mode leaves to its owner, its group and all others.
+/// An object's owner and group, and its mode, which has the permission bits of its owner, its group and all others.
 #[derive(Clone, Copy, Debug, PartialEq, Eq)]
 pub struct Permission {
     pub uid: u32,
@@ -19,7 +19,7 @@ pub struct Permission {
     pub mode: u32,
 }
 
-// The bit of three that a want asks for.
+// The permission bit, of three, that an access needs.
 fn bit_of(want: Want) -> u32
     ensures bit { result ≡ bit_of want }
     ensures some { 0 < result }
@@ -31,7 +31,7 @@ fn bit_of(want: Want) -> u32
     }
 }
 
-// Whether bits have this one.
+// Whether this bit is set in the bits.
 fn has_bit(bits: u32, bit: u32) -> bool
     requires { 0 < bit }
     ensures { result ≡ has_bit bits bit }
@@ -46,7 +46,7 @@ fn is_executable(mode: u32) -> bool
     has_bit(mode, 64) || has_bit(mode, 8) || has_bit(mode, 1)
 }
 
-// What the user 0 may: all but to execute what nobody may.
+// Whether user 0 has an access: always, except that it may not execute what nobody may execute.
 fn root_is_allowed(mode: u32, want: Want) -> bool
     ensures { result ≡ root_is_allowed mode want }
 {
@@ -57,7 +57,7 @@ fn root_is_allowed(mode: u32, want: Want) -> bool
 }
 
 impl Permission {
-    // The three bits that stand for a user and a group.
+    // The three permission bits that apply to a user and a group.
     fn bits_for(self, uid: u32, gid: u32) -> u32
         ensures { result ≡ permission_bits self uid gid }
     {
@@ -70,8 +70,8 @@ impl Permission {
         }
     }
 
-    /// Whether a user and a group may do what is wanted. The owner's bits decide for the owner, the group's for its group, and
-    /// the others' for all others; the user 0 may all but execute what nobody may.
+    /// Whether a user and a group have this access. The owner's bits decide for the owner, the group's bits for its group, and the
+    /// others' bits for all others. User 0 has every access, except that it may not execute what nobody may execute.
     pub fn is_permitted(self, uid: u32, gid: u32, want: Want) -> bool
         ensures { result ≡ is_permitted self uid gid want }
     {

@@ -2,8 +2,8 @@ ghost use Rattle.std.specs.Prelude.{◌≡◌, ◌≢◌, ℕ, suc, Some, [], le
 ghost use Rattle.st_names.specs.Name.{Components};
 ghost use Rattle.st_model.specs.Tree.{Tree, Node, add_object, object_of, node_of, node_of_number};
 
-/// Laws of the tree as a map of names: a new object has the next number under its name, and no other name and no other
-/// number changes.
+/// Laws of the tree as a map of names. A new object has the next number and is found under its name. No other name and no other
+/// object changes.
 pub fn a_tree_is_a_map()
     ensures number { (tree : Tree) (name : Components) (node : Node) → name ≢ [] → object_of (add_object tree name node) name ≡ Some (suc (length tree.objects)) }
     ensures new { (tree : Tree) (name : Components) (node : Node) → name ≢ [] → node_of (add_object tree name node) name ≡ Some node }

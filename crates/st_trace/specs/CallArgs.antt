@@ -1,4 +1,4 @@
--- The arguments of a call, whoever holds them.
+-- The arguments of a call, wherever they are stored.
 use Rattle.std.specs.Prelude.{List}
 use Rattle.st_calls.specs.declared.argument.ArgText.{ArgText}
 use Rattle.st_trace.specs.declared.call_args.HeldArgs.{HeldArgs}

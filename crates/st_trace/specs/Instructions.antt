@@ -1,4 +1,4 @@
--- What the instructions of a thread's body are.
+-- The calls that the instructions of a thread's body make.
 use Rattle.std.specs.Prelude.{◌≡◌, ℕ, List, replicate}
 use Rattle.st_calls.specs.declared.call.SysCall.{SysCall}
 use Rattle.st_calls.specs.declared.call.SysCall.TheVariants as call
@@ -9,7 +9,7 @@ use Rattle.st_trace.specs.declared.start.Instr.TheVariants.{Store, Call, Fork}
 abbrev pub no_registers : List ℕ
 no_registers = replicate 6 0
 
--- an instruction makes this call with these registers
+-- the instruction enters this call with these registers
 abbrev pub IsCallOf : Instr → SysCall → List ℕ → Type 0
 IsCallOf (Store place word) made regs = ⊥
 IsCallOf (Call own own_regs) made regs = (made ≡ own) × (regs ≡ own_regs)

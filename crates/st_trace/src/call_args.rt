@@ -4,18 +4,18 @@ use st_base::{Sequence, Shared};
 use st_calls::{ArgText, Snapshot};
 use std::marker::Model;
 
-/// The arguments that a call is made with.
+/// The arguments with which a call is made.
 #[derive(Debug, Drop)]
 pub struct CallArgs {
     held: HeldArgs,
 }
 
-/// Who holds the arguments.
+/// Where the arguments are stored.
 #[derive(Debug, Drop)]
 enum HeldArgs {
-    /// The call alone.
+    /// In a list of the call's own.
     Own(Sequence<ArgText>),
-    /// The copies that were judged.
+    /// In the snapshot that was judged.
     Judged(Shared<Snapshot>),
 }
 
@@ -30,7 +30,7 @@ impl Model for CallArgs {
 }
 
 impl CallArgs {
-    /// Arguments that the call alone holds.
+    /// Arguments that are stored for this call alone.
     pub fn own(args: Sequence<ArgText>) -> Self
         ensures { result ≡ args }
     {
@@ -39,7 +39,7 @@ impl CallArgs {
         }
     }
 
-    /// The arguments of these copies, which go on holding them.
+    /// The arguments of this snapshot, in which they stay stored.
     pub fn judged(copies: Shared<Snapshot>) -> Self
         ensures { result ≡ copies.parts }
     {

@@ -9,14 +9,14 @@ use st_names::{AbsName, SeenText};
 pub enum Choice {
     Thread(Tid),
     Worker(Worker),
-    /// Whoever answers what no policy covers.
+    /// The operator, who answers questions.
     Operator,
 }
 
 /// One step of a run. A choice that is enabled adds exactly one entry.
 #[derive(Debug, Drop)]
 pub enum Entry {
-    /// A thread stores a word at a place of its process's memory.
+    /// A thread stores a word at a word index of its process's memory.
     Stored {
         tid: Tid,
         place: u32,
@@ -29,26 +29,26 @@ pub enum Entry {
         regs: [u64; 6],
         way: Way,
     },
-    /// A worker takes the message of this number.
+    /// A worker claims the message with this number.
     Claimed {
         worker: Worker,
         seq: Seq,
     },
-    /// A word of a part of the message's arguments is copied.
+    /// A word of one of the message's arguments is copied.
     Copied {
         seq: Seq,
         part: u32,
         place: u32,
         word: u64,
     },
-    /// A component of a part, which is a name, is looked up.
+    /// A name is looked up, for one of the message's arguments that is a name.
     Looked {
         seq: Seq,
         part: u32,
         name: AbsName,
         seen: SeenText,
     },
-    /// Copying or looking up met a fault.
+    /// Copying or looking up was blocked by a fault.
     Faulted {
         seq: Seq,
         errno: Errno,
@@ -58,17 +58,17 @@ pub enum Entry {
         worker: Worker,
         snapshot: Shared<Snapshot>,
         verdict: Verdict,
-        /// Whether the message still waited for it.
+        /// Whether the message was live.
         applied: bool,
     },
-    /// The question of this number is answered by the script's reply of this number, counted from 1, which is kept as a filter.
+    /// The question with this number is answered by the script's reply with this number, counted from 1. The reply is added as a filter.
     Replied {
         seq: Seq,
         reply: u32,
         /// The filter's number among those of its policy and rule.
         number: u32,
     },
-    /// The question of this number is answered by the filter that its snapshot teaches, which is kept.
+    /// The question with this number is answered by the filter learnt from its snapshot. The filter is added.
     Learned {
         seq: Seq,
         /// The filter's number among those of its policy and rule.
@@ -77,7 +77,7 @@ pub enum Entry {
     /// The entered call is made, under these ids.
     Used {
         tid: Tid,
-        /// The message's number, where the call was held.
+        /// The message's number, if the call was held.
         seq: Option<Seq>,
         call: SysCall,
         regs: [u64; 6],
@@ -86,10 +86,10 @@ pub enum Entry {
         result: CallResult,
         changes: Sequence<Change>,
     },
-    /// The entered call is refused.
+    /// The entered call is denied.
     Denied {
         tid: Tid,
-        /// The message's number, where the call was held.
+        /// The message's number, if the call was held.
         seq: Option<Seq>,
         errno: Errno,
         cause: Cause,
@@ -103,11 +103,11 @@ pub enum Entry {
 /// How an entered call goes on.
 #[derive(Clone, Copy, Debug, PartialEq, Eq)]
 pub enum Way {
-    /// The first filter permits it plainly: it is made at once.
+    /// The first filter of its rule permits it plainly, so that it is made at once.
     Fast,
-    /// The filter of this number refuses it plainly.
+    /// The filter with this number refuses it plainly.
     Barred(u32),
-    /// The filters are asked, by the message of this number.
+    /// It is held: the filters are tried on the message with this number.
     Held(Seq),
     /// No policy applies to its process.
     Untraced,
@@ -116,55 +116,55 @@ pub enum Way {
 /// Why a call was denied.
 #[derive(Debug, Drop)]
 pub enum Cause {
-    /// By the filter of this number, counted from 1 among those of its policy and rule.
+    /// The filter with this number denies it. Filters are counted from 1 among those of its policy and rule.
     Filter(u32),
     /// No filter decides.
     NoFilter,
-    /// Copying or looking up met a fault.
+    /// Copying or looking up was blocked by a fault.
     Fault,
-    /// This name of the call, or a directory on the way to it, is a link now.
+    /// This name is a link now. It is a name of the call that is followed to its end, or a proper prefix of a name of the call.
     Link(AbsName),
 }
 
-/// What a call gives its thread.
+/// The result that a call returns to its thread.
 #[derive(Clone, Copy, Debug, PartialEq, Eq)]
 pub enum CallResult {
     Value(u64),
     Failed(Errno),
 }
 
-/// What a call changes, beside its process's descriptors.
+/// A change that a call makes, other than to its process's descriptors.
 #[derive(Debug, Drop)]
 pub enum Change {
     /// A new object has this name.
     Made {
         name: AbsName,
         obj: Obj,
-        /// What is made; a file is empty.
+        /// The kind of the new object. A new file is empty.
         kind: NewKind,
         uid: u32,
         gid: u32,
         mode: u32,
     },
-    /// The object has this name too.
+    /// The object has one more name.
     Linked {
         name: AbsName,
         obj: Obj,
     },
-    /// The name is gone.
+    /// The name is removed.
     Removed(AbsName),
-    /// Each name that begins with the old one begins with the new one.
+    /// In each name that begins with the old name, the new name replaces this prefix.
     Renamed {
         old: AbsName,
         new: AbsName,
     },
-    /// The file has these bytes from this byte on.
+    /// The file has these bytes from this offset on.
     Written {
         obj: Obj,
         at: u64,
         bytes: Text,
     },
-    /// The file has this length.
+    /// The file is truncated or extended to this length.
     Cut {
         obj: Obj,
         len: u64,
@@ -178,30 +178,30 @@ pub enum Change {
         uid: u32,
         gid: u32,
     },
-    /// The memory has these bytes from this byte on.
+    /// The memory has these bytes from this offset on.
     Put {
         space: Space,
         at: u64,
         bytes: Text,
     },
-    /// The process has a child, with a copy of its memory and this thread.
+    /// The process has a child with this number, with a copy of its memory and this thread.
     Forked {
         pid: Pid,
         space: Space,
         tid: Tid,
     },
-    /// The process runs this binary in new memory, and of its threads only the caller goes on.
+    /// The process runs this binary in a new memory. Of its threads only the caller continues.
     Execed {
         binary: Text,
         space: Space,
     },
     /// The process has these ids.
     SetIds(Ids),
-    /// The process has this directory.
+    /// The process has this working directory.
     Cwd(AbsName),
-    /// The threads of this process have nothing left but to end.
+    /// The threads of this process are dying: each of them can only end.
     Dying(Pid),
-    /// The message of the old number waits again, under the new one.
+    /// The message with the old number is waiting again, under the new number.
     Renewed {
         old: Seq,
         new: Seq,

@@ -1,4 +1,4 @@
-//! What a run of the modelled kernel is: where it starts, and the entries of its trace.
+//! Runs of the modelled kernel as data: their start, and the entries of their traces.
 #![tactic(auto)]
 
 mod call_args;
