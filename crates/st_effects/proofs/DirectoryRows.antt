@@ -1,4 +1,4 @@
--- Calls on directories: mkdir, rmdir and chdir.
+-- Examples of calls on directories: mkdir, rmdir and chdir.
 use Rattle.std.proofs.Common.{◌≡◌, [], ◌∷◌, refl, codes, map, Some, None}
 use Rattle.std.specs.Prelude.{◌^◌, ◌-◌}
 use Rattle.st_base.specs.declared.errno.Errno.TheVariants.{ENOENT, EACCES, EEXIST, ENOTDIR, EINVAL, ENOSPC, ENOTEMPTY}
@@ -12,7 +12,7 @@ use Rattle.st_model.specs.declared.object.NewKind.TheVariants as kind
 use Rattle.st_effects.proofs.Tries.{Answer, refused, gives, tree_by, with_mode}
 use Rattle.st_effects.proofs.World.{world, full_world, nearly_full_world, user, other_user, root, mixed, changes}
 
--- the walk comes first, then the name that has something, then the directory that may not be written
+-- the walk is tested first, then whether the name has an object, then whether its directory may be written
 mkdir_in_order : Answer world user Mkdir (
     refused "/no/y" (493 ∷ []) ENOENT ∷
     refused "/d/f/y" (493 ∷ []) ENOTDIR ∷
@@ -30,7 +30,7 @@ mkdir_in_order : Answer world user Mkdir (
     refused "/y" (493 ∷ []) EACCES ∷ [])
 mkdir_in_order = refl
 
--- last comes the tree that is full
+-- the last test is whether the tree is full
 mkdir_in_a_full_tree : Answer full_world user Mkdir (
     refused "/no/y" (493 ∷ []) ENOENT ∷
     refused "/w/e" (493 ∷ []) EEXIST ∷
@@ -64,7 +64,7 @@ mkdir_by_root : Answer world root Mkdir (
     gives "/q/y" (493 ∷ []) 0 (Made (components_of (codes "/q/y")) 26 kind.Dir 0 0 493 ∷ []) ∷ [])
 mkdir_by_root = refl
 
--- it is empty, and its parent has one entry more
+-- the new directory is empty, and its parent has one more entry
 directory_made : node_of (tree_by mixed Mkdir ("/w/n/y" ∷ []) (24 ∷ 448 ∷ [])) (components_of (codes "/w/n/y")) ≡
     Some (record { kind = object_kind.Dir; uid = 2000; gid = 4000; mode = 448; content = [] })
 directory_made = refl
@@ -72,7 +72,7 @@ directory_made = refl
 sizes_with_the_directory : map (size_of (tree_by root Mkdir ("/w/n/y" ∷ []) (24 ∷ 448 ∷ []))) (26 ∷ 10 ∷ 6 ∷ []) ≡ 0 ∷ 2 ∷ 5 ∷ []
 sizes_with_the_directory = refl
 
--- the root comes first, then the walk, the missing name, what is no directory, the directory above it, and its entries
+-- the tests in order: the root, the walk, a missing name, an object that is no directory, the directory above it, and its entries
 rmdir_in_order : Answer world user Rmdir (
     refused "/" [] EINVAL ∷
     refused "/no/x" [] ENOENT ∷
@@ -94,7 +94,7 @@ rmdir_in_order : Answer world user Rmdir (
     gives "/w/r" [] 0 (Removed (components_of (codes "/w/r")) ∷ []) ∷ [])
 rmdir_in_order = refl
 
--- whose the directory is, and what its own mode is, doesn't matter
+-- the directory's owner and its own mode don't matter
 rmdir_by_another_user : Answer (with_mode 9 0) other_user Rmdir (
     gives "/w/r" [] 0 (Removed (components_of (codes "/w/r")) ∷ []) ∷
     refused "/q/t" [] EACCES ∷ [])
@@ -113,7 +113,7 @@ directory_removed : map (λ name. object_of (tree_by root Rmdir ("/w/r" ∷ []) 
     None ∷ Some 6 ∷ Some 10 ∷ []
 directory_removed = refl
 
--- the walk comes first, then the missing name, then what is no directory, then the search that isn't allowed
+-- the tests in order: the walk, a missing name, an object that is no directory, search permission
 chdir_in_order : Answer world user Chdir (
     refused "/no/x" [] ENOENT ∷
     refused "/d/f/x" [] ENOTDIR ∷
@@ -129,7 +129,7 @@ chdir_in_order : Answer world user Chdir (
     refused "/z" [] EACCES ∷ [])
 chdir_in_order = refl
 
--- to search a directory is enough: neither reading nor writing it is asked
+-- search permission is enough: neither read nor write permission is needed
 chdir_moves : Answer world user Chdir (
     gives "/" [] 0 (Cwd [] ∷ []) ∷
     gives "/d" [] 0 (Cwd (components_of (codes "/d")) ∷ []) ∷
@@ -145,7 +145,7 @@ chdir_of_another_user : Answer world other_user Chdir (
     gives "/w/r" [] 0 (Cwd (components_of (codes "/w/r")) ∷ []) ∷ [])
 chdir_of_another_user = refl
 
--- the group of the directory decides for its members, here by mode 010, and the owner's bits for the owner
+-- the group's bits decide for members of the directory's group, here in mode 010, and the owner's bits for the owner
 chdir_of_a_member : Answer (with_mode 18 8) (record other_user { egid = 1000 }) Chdir (
     gives "/z" [] 0 (Cwd (components_of (codes "/z")) ∷ []) ∷ [])
 chdir_of_a_member = refl
@@ -159,7 +159,7 @@ chdir_of_root : Answer world root Chdir (
     refused "/z/k" [] ENOTDIR ∷ [])
 chdir_of_root = refl
 
--- the process has the directory then, and no other process has
+-- the process has the new directory, and no other process changes
 directories_after : map (λ pid. (process_after world.processes 1 pid (changes Chdir (codes "/q/u" ∷ []) (24 ∷ []))).cwd) (1 ∷ 3 ∷ []) ≡
     components_of (codes "/q/u") ∷ components_of (codes "/w") ∷ []
 directories_after = refl

@@ -1,4 +1,4 @@
--- Calls that change an object: chmod, chown and truncate.
+-- Examples of calls that change an object: chmod, chown and truncate.
 use Rattle.std.proofs.Common.{◌≡◌, [], ◌∷◌, ◌++◌, refl, codes, map, Some}
 use Rattle.std.specs.Prelude.{◌^◌, ◌-◌}
 use Rattle.st_base.specs.declared.errno.Errno.TheVariants.{EPERM, ENOENT, EACCES, ENOTDIR, EISDIR, EINVAL}
@@ -10,8 +10,8 @@ use Rattle.st_trace.specs.declared.entry.Change.TheVariants.{Moded, Owned, Cut}
 use Rattle.st_effects.proofs.Tries.{Answer, refused, gives, tree_by, with_mode}
 use Rattle.st_effects.proofs.World.{world, user, other_user, root, mixed}
 
--- the walk comes first, then the missing name, then the user that is neither the owner nor root; to write the object, or to be of
--- its group, is not enough
+-- the tests in order: the walk, a missing name, a user who is neither the owner nor root; write permission or membership in the group
+-- isn't enough
 chmod_in_order : Answer world user Chmod (
     refused "/no/x" (0 ∷ []) ENOENT ∷
     refused "/d/f/x" (0 ∷ []) ENOTDIR ∷
@@ -28,7 +28,7 @@ chmod_in_order : Answer world user Chmod (
     refused "/s/run" (0 ∷ []) EPERM ∷ [])
 chmod_in_order = refl
 
--- the owner may, whatever the mode is; a mode keeps its low nine bits
+-- the owner may set the mode, whatever the mode is; a mode keeps its low nine bits
 chmod_of_the_owner : Answer world user Chmod (
     gives "/w/e" (493 ∷ []) 0 (Moded 7 493 ∷ []) ∷
     gives "/w/h" (0 ∷ []) 0 (Moded 7 0 ∷ []) ∷
@@ -63,14 +63,14 @@ chmod_of_root_as_another : Answer world (record root { euid = 1000 }) Chmod (
     gives "/s/keep" (0 ∷ []) 0 (Moded 17 0 ∷ []) ∷ [])
 chmod_of_root_as_another = refl
 
--- the object has the mode under both its names, and nothing else is another; so has another object
+-- the object has the mode under both its names, and nothing else changes; the same for another object
 modes_after : map (λ name. node_of (tree_by user Chmod ("/w/e" ∷ []) (24 ∷ 932 ∷ [])) (components_of name)) (codes "/w/e" ∷ codes "/w/h" ∷ codes "/w/n/c" ∷ []) ≡
     Some (record { kind = object_kind.File; uid = 1000; gid = 1000; mode = 420; content = [] }) ∷
     Some (record { kind = object_kind.File; uid = 1000; gid = 1000; mode = 420; content = [] }) ∷
     Some (record { kind = object_kind.File; uid = 1000; gid = 1000; mode = 493; content = codes "code" }) ∷ []
 modes_after = refl
 
--- an id that is too large comes first, then the walk, then the missing name, then all users but root, the owner among them
+-- the tests in order: an id that is too large, the walk, a missing name, any user but root, the owner included
 chown_in_order : Answer world user Chown (
     refused "/no/x" (2 ^ 32 ∷ 0 ∷ []) EINVAL ∷
     refused "/no/x" (0 ∷ 2 ^ 32 ∷ []) EINVAL ∷
@@ -115,7 +115,7 @@ owners_after : map (λ name. node_of (tree_by root Chown ("/w/n/c" ∷ []) (24 �
     Some (record { kind = object_kind.File; uid = 1000; gid = 1000; mode = 493; content = [] }) ∷ []
 owners_after = refl
 
--- the length comes first, then the walk, the missing name, the directory, and the file that may not be written
+-- the tests in order: the length, the walk, a missing name, a directory, a file that may not be written
 truncate_in_order : Answer world user Truncate (
     refused "/no/x" (65537 ∷ []) EINVAL ∷
     refused "/d/f/x" (65537 ∷ []) EINVAL ∷
@@ -138,7 +138,7 @@ truncate_in_order : Answer world user Truncate (
     refused "/d/f" (9 ∷ []) EACCES ∷ [])
 truncate_in_order = refl
 
--- to write the file is asked, and nothing of its directory; a length may be the one that the file has
+-- write permission on the file is needed, and none on its directory; the new length may be the present one
 truncate_cuts : Answer world user Truncate (
     refused "/s/owner" (0 ∷ []) EACCES ∷
     refused "/s/group" (0 ∷ []) EACCES ∷
@@ -157,7 +157,7 @@ truncate_by_root : Answer world root Truncate (
     gives "/s/run" (65536 ∷ []) 0 (Cut 16 65536 ∷ []) ∷ [])
 truncate_by_root = refl
 
--- the effective user counts: by mode 022 others and the group may write, and the owner may not
+-- the effective user counts: with mode 022 others and the group may write, and the owner may not
 truncate_by_the_effective_user : Answer (with_mode 17 18) mixed Truncate (gives "/s/keep" (0 ∷ []) 0 (Cut 17 0 ∷ []) ∷ [])
 truncate_by_the_effective_user = refl
 
@@ -170,7 +170,7 @@ truncate_by_another_user : Answer world other_user Truncate (
     gives "/s/others" (0 ∷ []) 0 (Cut 15 0 ∷ []) ∷ [])
 truncate_by_another_user = refl
 
--- the first bytes stay; what is missing is zeros
+-- the first bytes stay; an extension is zeros
 lengths_after : map (λ len. node_of (tree_by root Truncate ("/s/keep" ∷ []) (24 ∷ len ∷ [])) (components_of (codes "/s/keep"))) (0 ∷ 2 ∷ 5 ∷ 7 ∷ []) ≡
     Some (record { kind = object_kind.File; uid = 1000; gid = 1000; mode = 128; content = [] }) ∷
     Some (record { kind = object_kind.File; uid = 1000; gid = 1000; mode = 128; content = codes "55" }) ∷

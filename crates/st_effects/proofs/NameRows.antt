@@ -1,4 +1,4 @@
--- Calls that give, move and take names: unlink, link, symlink and rename.
+-- Examples of calls that add, rename and remove names: unlink, link, symlink and rename.
 use Rattle.std.proofs.Common.{◌≡◌, [], ◌∷◌, refl, codes, map, Some, None}
 use Rattle.st_base.specs.declared.errno.Errno.TheVariants.{EPERM, ENOENT, EACCES, EEXIST, ENOTDIR, EISDIR, EINVAL, ENOSPC, ENOTEMPTY}
 use Rattle.st_calls.specs.declared.call.SysCall.TheVariants.{Unlink, Link, Symlink, Rename}
@@ -11,7 +11,7 @@ use Rattle.st_model.specs.declared.object.NewKind.TheVariants as kind
 use Rattle.st_effects.proofs.Tries.{Answer, refused, gives, refused_both, gives_both, tree_by}
 use Rattle.st_effects.proofs.World.{world, full_world, nearly_full_world, user, other_user, root, mixed}
 
--- the walk comes first, then the missing name, then the directory that may not be written, then the object that is a directory
+-- the tests in order: the walk, a missing name, the name's directory that may not be written, an object that is a directory
 unlink_in_order : Answer world user Unlink (
     refused "/no/x" [] ENOENT ∷
     refused "/d/f/x" [] ENOTDIR ∷
@@ -29,7 +29,7 @@ unlink_in_order : Answer world user Unlink (
     refused "/" [] EPERM ∷ [])
 unlink_in_order = refl
 
--- whose the object is doesn't matter, and a link goes itself
+-- the object's owner doesn't matter, and a link itself is removed
 unlink_by_another_user : Answer world other_user Unlink (
     gives "/w/e" [] 0 (Removed (components_of (codes "/w/e")) ∷ []) ∷
     gives "/w/l" [] 0 (Removed (components_of (codes "/w/l")) ∷ []) ∷
@@ -44,12 +44,12 @@ unlink_by_root : Answer world root Unlink (
     gives "/z/k" [] 0 (Removed (components_of (codes "/z/k")) ∷ []) ∷ [])
 unlink_by_root = refl
 
--- the name is gone, and the object's other name and all others stay
+-- the name is removed, and the object's other name and all other names stay
 unlinked : map (λ name. object_of (tree_by root Unlink ("/w/e" ∷ []) (24 ∷ [])) (components_of name))
     (codes "/w/e" ∷ codes "/w/h" ∷ codes "/w" ∷ codes "/w/l" ∷ []) ≡ None ∷ Some 7 ∷ Some 6 ∷ Some 8 ∷ []
 unlinked = refl
 
--- the walk to the old name comes first, then its being missing, then its being a directory, whatever the new name is
+-- the tests in order, whatever the new name is: the walk to the old name, whether it is missing, whether it is a directory
 link_old_name : Answer world user Link (
     refused_both "/no/x" "/d/f/y" ENOENT ∷
     refused_both "/d/f/x" "/no/y" ENOTDIR ∷
@@ -67,7 +67,7 @@ link_old_name : Answer world user Link (
     refused_both "/" "/w/y" EPERM ∷ [])
 link_old_name = refl
 
--- then the walk to the new name, its having something, and its directory that may not be written
+-- then the walk to the new name, whether it has an object, and whether its directory may be written
 link_new_name : Answer world user Link (
     refused_both "/w/e" "/no/y" ENOENT ∷
     refused_both "/w/e" "/d/f/y" ENOTDIR ∷
@@ -86,7 +86,7 @@ link_new_name : Answer world user Link (
     refused_both "/w/e" "/y" EACCES ∷ [])
 link_new_name = refl
 
--- neither the object nor the directory of its old name need be writable; a link gets another name itself
+-- neither the object nor the directory of its old name has to be writable; a link itself gets another name
 link_gives : Answer world user Link (
     gives_both "/w/e" "/w/y" (Linked (components_of (codes "/w/y")) 7 ∷ []) ∷
     gives_both "/w/h" "/w/n/y" (Linked (components_of (codes "/w/n/y")) 7 ∷ []) ∷
@@ -102,7 +102,7 @@ link_by_root : Answer world root Link (
     gives_both "/p/x" "/y" (Linked (components_of (codes "/y")) 5 ∷ []) ∷ [])
 link_by_root = refl
 
--- no object is made, so that there may be as many as there can be
+-- no object is made, so that the call succeeds in a full tree
 link_in_a_full_tree : Answer full_world user Link (
     gives_both "/w/e" "/w/y" (Linked (components_of (codes "/w/y")) 7 ∷ []) ∷ [])
 link_in_a_full_tree = refl
@@ -111,7 +111,7 @@ linked : map (λ name. object_of (tree_by root Link ("/d/f" ∷ "/w/y" ∷ []) (
     (codes "/d/f" ∷ codes "/w/y" ∷ codes "/w/n" ∷ []) ≡ Some 3 ∷ Some 3 ∷ Some 10 ∷ []
 linked = refl
 
--- an empty text comes first, then the walk, the name that has something, and the directory that may not be written
+-- the tests in order: an empty text, the walk, a name that has an object, and a directory that may not be written
 symlink_in_order : Answer world user Symlink (
     refused_both "" "/d/f/y" ENOENT ∷
     refused_both "" "/p/y" ENOENT ∷
@@ -130,7 +130,7 @@ symlink_in_order : Answer world user Symlink (
     refused_both "t" "/q/y" EACCES ∷ [])
 symlink_in_order = refl
 
--- last comes the tree that is full
+-- the last test is whether the tree is full
 symlink_in_a_full_tree : Answer full_world user Symlink (
     refused_both "" "/w/y" ENOENT ∷
     refused_both "t" "/no/y" ENOENT ∷
@@ -143,7 +143,7 @@ symlink_in_a_nearly_full_tree : Answer nearly_full_world user Symlink (
     gives_both "t" "/w/y" (Made (components_of (codes "/w/y")) 4096 (kind.Link (codes "t")) 1000 1000 511 ∷ []) ∷ [])
 symlink_in_a_nearly_full_tree = refl
 
--- the next number, the target as it is, the effective ids and the mode 777
+-- a new link has the next number, the target unchanged, the effective ids and mode 777
 symlink_makes : Answer world mixed Symlink (
     gives_both "../t/" "/w/y" (Made (components_of (codes "/w/y")) 26 (kind.Link (codes "../t/")) 2000 4000 511 ∷ []) ∷
     gives_both "/" "/w/n/y" (Made (components_of (codes "/w/n/y")) 26 (kind.Link (codes "/")) 2000 4000 511 ∷ []) ∷ [])
@@ -153,7 +153,7 @@ symlinked : node_of (tree_by mixed Symlink ("t" ∷ "/w/y" ∷ []) (24 ∷ 48 �
     Some (record { kind = object_kind.Link; uid = 2000; gid = 4000; mode = 511; content = codes "t" })
 symlinked = refl
 
--- the walk to the old name comes first, then its being missing, then the walk to the new name
+-- the tests in order: the walk to the old name, whether it is missing, the walk to the new name
 rename_walks : Answer world user Rename (
     refused_both "/no/x" "/d/f/y" ENOENT ∷
     refused_both "/d/f/x" "/no/y" ENOTDIR ∷
@@ -174,7 +174,7 @@ rename_walks : Answer world user Rename (
     refused_both "/p" "/p/y" EACCES ∷ [])
 rename_walks = refl
 
--- then the root and a name below the old one, before all that is asked of the directories
+-- then the root and a name below the old name, before all tests of the directories
 rename_of_the_root_and_below_itself : Answer world user Rename (
     refused_both "/" "/" EINVAL ∷
     refused_both "/" "/w/y" EINVAL ∷
@@ -188,7 +188,7 @@ rename_of_the_root_and_below_itself : Answer world user Rename (
     refused_both "/w" "/w/n/y" EINVAL ∷ [])
 rename_of_the_root_and_below_itself = refl
 
--- two names of one object: nothing happens, and no permission is asked
+-- two names of one object: nothing changes, and no permission is tested
 rename_of_one_object : Answer world user Rename (
     gives_both "/w/e" "/w/h" [] ∷
     gives_both "/w/h" "/w/e" [] ∷
@@ -199,7 +199,7 @@ rename_of_one_object : Answer world user Rename (
     gives_both "/d" "/d" [] ∷ [])
 rename_of_one_object = refl
 
--- the directories of both names must be writable, before it is asked what the new name has
+-- the directories of both names have to be writable; this is tested before the object of the new name
 rename_directories : Answer world user Rename (
     refused_both "/q/v" "/w/y" EACCES ∷
     refused_both "/d/f" "/w/y" EACCES ∷
@@ -217,11 +217,11 @@ rename_directories : Answer world user Rename (
     refused_both "/w/r" "/q/u" EACCES ∷ [])
 rename_directories = refl
 
--- the world with an empty directory in /w/n
+-- the world with an empty directory added in /w/n
 abbrev deeper_world : System
 deeper_world = record world { tree = add_object world.tree (components_of (codes "/w/n/s")) root_node }
 
--- a directory takes the place of an empty directory alone, anything else that of no directory; whether a file is empty doesn't matter
+-- a directory replaces only an empty directory, and no other object replaces a directory; whether a file is empty doesn't matter
 rename_of_other_kinds : Answer deeper_world user Rename (
     refused_both "/w/n" "/w/e" ENOTDIR ∷
     refused_both "/w/r" "/w/l" ENOTDIR ∷
@@ -246,7 +246,7 @@ rename_by_root : Answer world root Rename (
     gives_both "/d" "/y" (Renamed (components_of (codes "/d")) (components_of (codes "/y")) ∷ []) ∷ [])
 rename_by_root = refl
 
--- what has the new name goes first; the components of a name count, not its bytes
+-- the object with the new name is removed first; the components of a name count, not its bytes
 rename_gives : Answer world user Rename (
     gives_both "/w/e" "/w/y" (Renamed (components_of (codes "/w/e")) (components_of (codes "/w/y")) ∷ []) ∷
     gives_both "/w/n" "/w/nn" (Renamed (components_of (codes "/w/n")) (components_of (codes "/w/nn")) ∷ []) ∷
@@ -262,7 +262,7 @@ rename_in_a_full_tree : Answer full_world user Rename (
     gives_both "/w/e" "/w/y" (Renamed (components_of (codes "/w/e")) (components_of (codes "/w/y")) ∷ []) ∷ [])
 rename_in_a_full_tree = refl
 
--- what stands below moves along, under the object's number, and nothing is left behind
+-- the names below move along, with their objects' numbers, and no old name is left
 renamed : map (λ name. object_of (tree_by root Rename ("/w/n" ∷ "/w/r" ∷ []) (24 ∷ 48 ∷ [])) (components_of name))
     (codes "/w/r" ∷ codes "/w/r/c" ∷ codes "/w/n" ∷ codes "/w/n/c" ∷ codes "/w/e" ∷ []) ≡ Some 10 ∷ Some 11 ∷ None ∷ None ∷ Some 7 ∷ []
 renamed = refl
@@ -272,7 +272,7 @@ renamed_to_a_longer_name : map (λ name. object_of (tree_by root Rename ("/w" �
     Some 6 ∷ Some 11 ∷ Some 7 ∷ Some 24 ∷ None ∷ None ∷ []
 renamed_to_a_longer_name = refl
 
--- another name of the object that is replaced keeps it
+-- another name of the replaced object keeps that object
 renamed_over_one_of_two_names : map (λ name. object_of (tree_by root Rename ("/w/l" ∷ "/w/h" ∷ []) (24 ∷ 48 ∷ [])) (components_of name))
     (codes "/w/h" ∷ codes "/w/e" ∷ codes "/w/l" ∷ []) ≡ Some 8 ∷ Some 7 ∷ None ∷ []
 renamed_over_one_of_two_names = refl

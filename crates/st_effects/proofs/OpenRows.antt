@@ -1,4 +1,5 @@
--- The call open, worked out from the table of calls: its refusals in order, what its flags do, and whom a new file belongs to.
+-- Examples of the call open, computed from the table of calls: its refusals in order, the effects of its flags, and the owner of a new
+-- file.
 use Rattle.std.proofs.Common.{◌≡◌, ℕ, Bool, true, false, List, [], ◌∷◌, ◌++◌, map, Some, None, refl, codes, replicate}
 use Rattle.std.specs.Prelude.{◌^◌, ◌-◌, take, drop}
 use Rattle.st_base.specs.Ids.{identity}
@@ -20,10 +21,10 @@ use Rattle.st_model.specs.declared.object.NewKind.TheVariants as kind
 use Rattle.st_effects.proofs.World.{world, full_world, nearly_full_world, descriptors, user, root, mixed, made, results, other_results, root_results, results_for, changes}
 use Rattle.st_effects.proofs.Outcomes.{file_for, led_to, with_new, table_with, done, failed, after_calls, results_in}
 
--- Of two reasons that are neighbours in the order and both hold, the first is the answer. O_WRONLY is 1, O_RDWR 2, O_APPEND 8,
--- O_CREAT 0x200, O_TRUNC 0x400 and O_EXCL 0x800.
+-- If two adjacent reasons in the order both hold, the first is the result. O_WRONLY is 1, O_RDWR 2, O_APPEND 8, O_CREAT 0x200,
+-- O_TRUNC 0x400 and O_EXCL 0x800.
 
--- the table of process 2 is full: no such access, then no descriptor, then the walk
+-- the table of process 2 is full; the tests in order: no such access, no free descriptor, the walk
 open_with_all_taken : results_in world 2 user Open (
     (codes "/no/x" ∷ [], 0 ∷ 3 ∷ 0 ∷ []) ∷
     (codes "/d/f" ∷ [], 0 ∷ 3 ∷ 0 ∷ []) ∷
@@ -35,7 +36,7 @@ open_with_all_taken : results_in world 2 user Open (
     ≡ Failed EINVAL ∷ Failed EINVAL ∷ Failed EMFILE ∷ Failed EMFILE ∷ Failed EMFILE ∷ Failed EMFILE ∷ Failed EMFILE ∷ []
 open_with_all_taken = refl
 
--- both access bits are an error before the walk, whatever the other bits are
+-- both access bits together are an error before the walk, whatever the other bits are
 open_without_access : results Open (
     (codes "/no/x" ∷ [], 0 ∷ 3 ∷ 0 ∷ []) ∷
     (codes "/d/f" ∷ [], 0 ∷ 3 ∷ 0 ∷ []) ∷
@@ -46,7 +47,7 @@ open_without_access : results Open (
     ≡ Failed EINVAL ∷ Failed EINVAL ∷ Failed EINVAL ∷ Failed EINVAL ∷ Failed EINVAL ∷ Value 8 ∷ []
 open_without_access = refl
 
--- the first directory on the way that is missing, is none, or can't be searched decides, before all that the name itself has
+-- the first proper prefix that is missing, is no directory, or may not be searched decides, before all tests of the name's own object
 open_walks : results Open (
     (codes "/no/x" ∷ [], 0 ∷ 0x200 ∷ 0 ∷ []) ∷
     (codes "/d/f/x" ∷ [], 0 ∷ 0 ∷ 0 ∷ []) ∷
@@ -63,7 +64,7 @@ open_walks : results Open (
     Failed EACCES ∷ Failed EACCES ∷ Failed EACCES ∷ Value 8 ∷ []
 open_walks = refl
 
--- others can't search /q, and root searches all
+-- others may not search /q, and root may search all directories
 open_searches_by_ids : other_results Open ((codes "/q/v" ∷ [], 0 ∷ 0 ∷ 0 ∷ []) ∷ []) ++
     root_results Open ((codes "/q/v" ∷ [], 0 ∷ 0 ∷ 0 ∷ []) ∷ (codes "/z/k" ∷ [], 0 ∷ 0 ∷ 0 ∷ []) ∷ (
       codes "/p/x" ∷ [],
@@ -73,7 +74,7 @@ open_searches_by_ids : other_results Open ((codes "/q/v" ∷ [], 0 ∷ 0 ∷ 0 �
     ≡ Failed EACCES ∷ Value 8 ∷ Value 8 ∷ Value 8 ∷ []
 open_searches_by_ids = refl
 
--- a name that has nothing: not to be made, a directory that can't be written, no room, made
+-- a name without an object: it isn't to be made, its directory may not be written, the tree is full, or it is made
 open_missing : results_in full_world 1 user Open (
     (codes "/d/new" ∷ [], 0 ∷ 0 ∷ 0 ∷ []) ∷
     (codes "/d/new" ∷ [], 0 ∷ 0xc09 ∷ 0 ∷ []) ∷
@@ -93,7 +94,7 @@ open_missing : results_in full_world 1 user Open (
     Failed ENOENT ∷ Failed EACCES ∷ Failed EACCES ∷ Value 8 ∷ Value 8 ∷ []
 open_missing = refl
 
--- root writes every directory, that of names directly under the root too
+-- root may write every directory, including the root directory
 open_missing_as_root : root_results Open (
     (codes "/new" ∷ [], 0 ∷ 0x200 ∷ 0 ∷ []) ∷
     (codes "/d/new" ∷ [], 0 ∷ 0x200 ∷ 0 ∷ []) ∷
@@ -107,7 +108,7 @@ open_makes_the_last : (made nearly_full_world 1 user Open (codes "/w/new" ∷ []
     ≡ Made (components_of (codes "/w/new")) 4096 (kind.File []) 1000 1000 420 ∷ []
 open_makes_the_last = refl
 
--- a name that has something: it was to be new, it is a directory, it may not be opened so
+-- a name with an object: it should have been new, it is a directory, it may not be opened with this access
 open_present : results Open (
     (codes "/p" ∷ [], 0 ∷ 0xa01 ∷ 0 ∷ []) ∷
     (codes "/w" ∷ [], 0 ∷ 0xa00 ∷ 0 ∷ []) ∷
@@ -127,7 +128,7 @@ open_present : results Open (
     Failed EISDIR ∷ Failed EISDIR ∷ Failed EISDIR ∷ Failed EACCES ∷ Failed EACCES ∷ []
 open_present = refl
 
--- O_CREAT or O_EXCL alone, and a directory to read, are no error
+-- O_CREAT or O_EXCL alone, and a directory opened for reading, are no error
 open_of_what_is_there : results Open (
     (codes "/d/f" ∷ [], 0 ∷ 0x200 ∷ 0 ∷ []) ∷
     (codes "/d/f" ∷ [], 0 ∷ 0x800 ∷ 0 ∷ []) ∷
@@ -138,7 +139,7 @@ open_of_what_is_there : results Open (
     ≡ replicate 6 (Value 8)
 open_of_what_is_there = refl
 
--- the ways to open a file: for reading, for writing, for both, cut for reading, for writing, for both
+-- the ways to open a file: for reading, for writing, for both, and truncated for reading, for writing, for both
 abbrev ways : List ℕ → List (List (List ℕ) × List ℕ)
 ways name = map (λ flags. (name ∷ [], 0 ∷ flags ∷ 0 ∷ [])) (0 ∷ 1 ∷ 2 ∷ 0x400 ∷ 0x401 ∷ 0x402 ∷ [])
 
@@ -148,7 +149,8 @@ all_six = replicate 6 (Value 8)
 abbrev none_of_six : List CallResult
 none_of_six = replicate 6 (Failed EACCES)
 
--- what may be read alone is opened for reading, and not cut; what may be written alone is opened for writing, and cut
+-- a file with only read permission is opened for reading, and not truncated; a file with only write permission is opened for writing,
+-- also truncated
 abbrev read_alone : List CallResult
 read_alone = Value 8 ∷ replicate 5 (Failed EACCES)
 
@@ -158,7 +160,8 @@ write_alone = Failed EACCES ∷ Value 8 ∷ Failed EACCES ∷ Failed EACCES ∷ 
 abbrev third_user : Ids
 third_user = identity 3000 3000
 
--- the owner's bits alone count for the owner, the group's for another of the group, the others' for all others; root may all
+-- only the owner's bits count for the owner, the group's for another member of the group, the others' for all others; root has every
+-- access
 open_by_owner : results Open (ways (codes "/s/owner")) ∷ other_results Open (ways (codes "/s/owner")) ∷
     results_for third_user Open (ways (codes "/s/owner")) ∷ root_results Open (ways (codes "/s/owner")) ∷ []
     ≡ none_of_six ∷ all_six ∷ all_six ∷ all_six ∷ []
@@ -179,7 +182,7 @@ open_of_owners_files : results Open (ways (codes "/s/keep")) ∷ other_results O
     ≡ write_alone ∷ none_of_six ∷ none_of_six ∷ all_six ∷ read_alone ∷ []
 open_of_owners_files = refl
 
--- the effective ids count, each of the two, and the real ones don't: the real user 1000 is the owner, who may nothing
+-- both effective ids count, and the real ids don't: real user 1000 is the owner, who has no access
 open_by_effective_ids : results_for mixed Open (ways (codes "/s/owner")) ∷
     results_for (record third_user { egid = 1000 }) Open (ways (codes "/s/group")) ∷
     results_for (record third_user { rgid = 1000 }) Open (ways (codes "/s/group")) ∷
@@ -192,15 +195,15 @@ abbrev with_team : Tree → List ℕ → Kind → ℕ → Tree
 with_team tree name kind mode =
     add_object tree (components_of name) (record { kind = kind; uid = 5; gid = 1000; mode = mode; content = [] })
 
--- the world with a file that its group alone may write, a directory that it alone may search, with a file that all may open, and a
--- directory that all but its owner may search and its group alone may write
+-- the world with a file that only its group may write, a directory that only its group may search, with a file in it that all may open,
+-- and a directory that all but its owner may search and only its group may write
 abbrev team_world : System
 team_world =
     let writable = with_team world.tree (codes "/w/team") object_kind.File 16 in
     let searchable = with_team (with_team writable (codes "/team") object_kind.Dir 8) (codes "/team/f") object_kind.File 511 in
     record world { tree = with_team searchable (codes "/club") object_kind.Dir 25 }
 
--- the user is of the group; another is by the effective group and not by the real one
+-- the user is in the group; another user is in it by the effective group and not by the real group
 abbrev of_group : List (List (List ℕ) × List ℕ) → List (List CallResult)
 of_group tries = map (λ ids. results_in team_world 1 ids Open tries)
     (user ∷ third_user ∷ record third_user { egid = 1000 } ∷ record third_user { rgid = 1000 } ∷ root ∷ [])
@@ -214,21 +217,21 @@ walk_and_make_by_effective_group :
     (Failed EACCES ∷ Failed EACCES ∷ []) ∷ (Value 8 ∷ Value 8 ∷ []) ∷ []
 walk_and_make_by_effective_group = refl
 
--- the open file that a call of the user opens with these flags
+-- the open file that a call of the user with these flags opens
 abbrev files_of : List ℕ → List ℕ → List (List OpenFile)
 files_of name tries = map (λ flags. drop 10 (made world 1 user Open (name ∷ []) (0 ∷ flags ∷ 0 ∷ [])).descriptors.files) tries
 
 abbrev of_v : Bool → Bool → Bool → List OpenFile
 of_v read write append = file_for read write append 0 (file.Node 21) ∷ []
 
--- for reading, for writing, for both, and the same for appending
+-- open for reading, for writing, for both, each without and with append
 open_accesses : files_of (codes "/q/v") (0 ∷ 1 ∷ 2 ∷ 8 ∷ 9 ∷ 10 ∷ [])
     ≡ of_v true false false ∷ of_v false true false ∷ of_v true true false ∷ of_v true false true ∷ of_v false true true ∷
     of_v true true true ∷ []
 open_accesses = refl
 
--- O_CREAT, O_TRUNC, O_EXCL, some of them together, and every other bit leave the access as it is; the last has all bits but those
--- of access and O_EXCL, so that it appends
+-- O_CREAT, O_TRUNC, O_EXCL, some of them together, and every other bit don't change the access; the last line has all bits but those
+-- of the access and O_EXCL, so that it appends
 open_other_flags : files_of (codes "/q/v") (0x200 ∷ 0x400 ∷ 0x800 ∷ 0x601 ∷ 0xc02 ∷ 0x609 ∷ 4 ∷ 0x10 ∷ 0x100 ∷ 0x1000 ∷
     (2 ^ 64 - 0x804) ∷ [])
     ≡ of_v true false false ∷ of_v true false false ∷ of_v true false false ∷ of_v false true false ∷ of_v true true false ∷
@@ -236,7 +239,7 @@ open_other_flags : files_of (codes "/q/v") (0x200 ∷ 0x400 ∷ 0x800 ∷ 0x601 
     of_v true false true ∷ []
 open_other_flags = refl
 
--- a file that is there: the least free descriptor leads to a new open file at byte 0; no other descriptor or open file changes
+-- an existing file: the least free descriptor refers to a new open file at offset 0; no other descriptor or open file changes
 open_gives : made world 1 user Open (codes "/d/f" ∷ []) (0 ∷ 0 ∷ 0 ∷ [])
     ≡ done 8 [] (table_with (led_to 8 (Some 10)) (with_new (file_for true false false 0 (file.Node 3))))
 open_gives = refl
@@ -254,12 +257,12 @@ open_v = (Open, codes "/q/v" ∷ [], 0 ∷ 0 ∷ 0 ∷ [])
 abbrev reader_of_v : OpenFile
 reader_of_v = file_for true false false 0 (file.Node 21)
 
--- the next open takes the next descriptor that is free, and an open file of its own
+-- the next open gets the next free descriptor, and an open file of its own
 open_twice : (after_calls world (open_v ∷ open_v ∷ [])).descriptors
     ≡ table_with (take 11 (led_to 8 (Some 10)) ++ Some 11 ∷ replicate 52 None) (with_new reader_of_v ++ reader_of_v ∷ [])
 open_twice = refl
 
--- what was closed is taken again
+-- a descriptor that was closed is used again
 open_after_close : (after_calls world ((Close, [], 2 ∷ []) ∷ open_v ∷ [])).descriptors
     ≡ table_with (led_to 2 (Some 10)) (with_new reader_of_v)
 open_after_close = refl
@@ -272,13 +275,13 @@ open_of_another_process : made world 3 user Open (codes "/q/v" ∷ []) (0 ∷ 1 
     })
 open_of_another_process = refl
 
--- a new file: the change, and the open file of an object that none had before
+-- a new file: the change, and the open file of a new object
 open_makes : made world 1 user Open (codes "/w/new" ∷ []) (0 ∷ 0x202 ∷ 420 ∷ [])
     ≡ done 8 (Made (components_of (codes "/w/new")) 26 (kind.File []) 1000 1000 420 ∷ [])
     (table_with (led_to 8 (Some 10)) (with_new (file_for true true false 0 (file.Node 26))))
 open_makes = refl
 
--- a new file isn't cut, needs no leave of its own mode, and may be exclusive
+-- a new file isn't truncated, its own mode needn't permit the access, and O_EXCL may be set
 open_makes_by_flags : changes Open (codes "/w/new" ∷ []) (0 ∷ 0x601 ∷ 0 ∷ []) ∷ changes Open (codes "/w/new" ∷ []) (0 ∷ 0xe0a ∷
     0 ∷ []) ∷
     changes Open (codes "/w/new" ∷ []) (0 ∷ 0x200 ∷ 0 ∷ []) ∷ []
@@ -291,12 +294,12 @@ open_keeps_nine_bits : map (λ mode. changes Open (codes "/w/new" ∷ []) (0 ∷
     ≡ map (λ mode. Made (components_of (codes "/w/new")) 26 (kind.File []) 1000 1000 mode ∷ []) (511 ∷ 0 ∷ 511 ∷ 511 ∷ 420 ∷ [])
 open_keeps_nine_bits = refl
 
--- what is made belongs to the effective ids
+-- a new file belongs to the effective ids
 open_makes_for_effective_ids : (made world 1 mixed Open (codes "/w/new" ∷ []) (0 ∷ 0x200 ∷ 420 ∷ [])).changes
     ≡ Made (components_of (codes "/w/new")) 26 (kind.File []) 2000 4000 420 ∷ []
 open_makes_for_effective_ids = refl
 
--- what is there is cut with O_TRUNC alone, also where it is empty already; O_CREAT changes nothing about it
+-- an existing file is truncated exactly with O_TRUNC, even if it is already empty; O_CREAT makes no difference
 open_cuts : map (λ flags. changes Open (codes "/q/v" ∷ []) (0 ∷ flags ∷ 0 ∷ [])) (0 ∷ 1 ∷ 2 ∷ 0x200 ∷ 0x808 ∷ 0x400 ∷ 0x401 ∷
     0x602 ∷ 0xc09 ∷ [])
     ≡ [] ∷ [] ∷ [] ∷ [] ∷ [] ∷ (Cut 21 0 ∷ []) ∷ (Cut 21 0 ∷ []) ∷ (Cut 21 0 ∷ []) ∷ (Cut 21 0 ∷ []) ∷ []
@@ -305,13 +308,13 @@ open_cuts = refl
 open_cuts_empty : changes Open (codes "/w/e" ∷ []) (0 ∷ 0x601 ∷ 511 ∷ []) ≡ Cut 7 0 ∷ []
 open_cuts_empty = refl
 
--- an open that is refused leaves all as it was
+-- a refused open changes nothing
 open_refused_changes_nothing : made world 1 user Open (codes "/d/f" ∷ []) (0 ∷ 0x401 ∷ 0 ∷ []) ∷
     made full_world 1 user Open (codes "/w/new" ∷ []) (0 ∷ 0x200 ∷ 0 ∷ []) ∷
     made world 1 user Open (codes "/w/l" ∷ []) (0 ∷ 0xa00 ∷ 0 ∷ []) ∷ [] ≡ failed EACCES ∷ failed ENOSPC ∷ failed EEXIST ∷ []
 open_refused_changes_nothing = refl
 
--- a file of the user that is opened with these flags, then read or written
+-- a file of the user is opened with these flags, then read or written
 abbrev opened_so : ℕ → System
 opened_so flags = after_calls world ((Open, codes "/q/v" ∷ [], 0 ∷ flags ∷ 0 ∷ []) ∷ [])
 
@@ -321,7 +324,7 @@ read_after flags = (made (opened_so flags) 1 user Read [] (8 ∷ 8 ∷ 2 ∷ [])
 abbrev write_after : ℕ → CallResult
 write_after flags = (made (opened_so flags) 1 user Write [] (8 ∷ 8 ∷ 2 ∷ [])).result
 
--- it isn't open for the other access, though the user may have both
+-- the file isn't open for the other access, although the user has permission for both
 open_for_one_access : map read_after (0 ∷ 1 ∷ 2 ∷ []) ++ map write_after (0 ∷ 1 ∷ 2 ∷ [])
     ≡ Value 1 ∷ Failed EBADF ∷ Value 1 ∷ Failed EBADF ∷ Value 2 ∷ Value 2 ∷ []
 open_for_one_access = refl

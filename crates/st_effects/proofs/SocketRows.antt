@@ -1,6 +1,6 @@
--- The calls socket, bind and connect, worked out from the table of calls: their refusals in order, and what becomes of ports.
--- In the world process 1 has a new socket as 3, one with port 80 that is connected as 4, and one with port 2000 as 9; process 3
--- has one with port 90 as 2.
+-- Examples of the calls socket, bind and connect, computed from the table of calls: their refusals in order, and their changes of
+-- ports. In the world, descriptor 3 of process 1 is a new socket, 4 is a connected socket with port 80, and 9 is a socket with port
+-- 2000. Descriptor 2 of process 3 is a socket with port 90.
 use Rattle.std.proofs.Common.{◌≡◌, ℕ, Bool, true, false, List, [], ◌∷◌, ◌++◌, map, Option, Some, None, refl, codes, replicate}
 use Rattle.std.specs.Prelude.{◌^◌, ◌+◌, ◌-◌, take, drop}
 use Rattle.st_model.specs.Descriptors.{Table}
@@ -16,7 +16,7 @@ use Rattle.st_trace.specs.declared.entry.CallResult.TheVariants.{Value, Failed}
 use Rattle.st_effects.proofs.World.{world, descriptors, user, root, made, results, root_results}
 use Rattle.st_effects.proofs.Outcomes.{file_for, new_socket, led_to, with_changed, with_new, table_with, table_of, done, failed, after, after_calls, results_in}
 
--- a new open file for reading and writing, whatever the domain and the type are; process 2 has no descriptor free
+-- a new open file for reading and writing, whatever the domain and the type are; process 2 has no free descriptor
 socket_gives : made world 1 user Socket [] (2 ∷ 1 ∷ []) ∷ made world 1 user Socket [] (1 ∷ 2 ∷ []) ∷
     made world 1 user Socket [] (0 ∷ (2 ^ 64 - 1) ∷ []) ∷ made world 2 root Socket [] (2 ∷ 1 ∷ []) ∷ []
     ≡ replicate 3 (done 8 [] (table_with (led_to 8 (Some 10)) (with_new (file_for true true false 0 (file.Socket None false))))) ++
@@ -30,13 +30,13 @@ socket_of_another_process : made world 3 user Socket [] (2 ∷ 1 ∷ [])
     })
 socket_of_another_process = refl
 
--- the number behind the last colon
+-- the number after the last colon
 ports : map port_in (codes "inet-[10.0.0.1]:8080" ∷ codes "inet-[0.0.0.0]:0" ∷ codes "inet-[255.255.255.255]:65535" ∷
     codes "inet-[1.2.3.4]:907" ∷ [])
     ≡ 8080 ∷ 0 ∷ 65535 ∷ 907 ∷ []
 ports = refl
 
--- not open; no socket, bound already, port 0; a low port; a port that is taken
+-- the reasons: not open; no socket, already bound, or port 0; a low port; a port in use
 bind_refusals : results Bind (
     (codes "inet-[0.0.0.0]:0" ∷ [], 8 ∷ []) ∷
     (codes "inet-[0.0.0.0]:80" ∷ [], 8 ∷ []) ∷
@@ -60,7 +60,7 @@ bind_refusals : results Bind (
     (Failed EADDRINUSE ∷ Value 0 ∷ Value 0 ∷ [])
 bind_refusals = refl
 
--- root has low ports, but none that is taken, also by another process, and none that is 0
+-- root may bind low ports, but no port in use, also by another process, and not port 0
 bind_of_root : root_results Bind (
     (codes "inet-[0.0.0.0]:0" ∷ [], 3 ∷ []) ∷
     (codes "inet-[0.0.0.0]:81" ∷ [], 4 ∷ []) ∷
@@ -73,7 +73,7 @@ bind_of_root : root_results Bind (
     ≡ Failed EINVAL ∷ Failed EINVAL ∷ Failed EADDRINUSE ∷ Failed EADDRINUSE ∷ Failed EADDRINUSE ∷ Value 0 ∷ Value 0 ∷ Value 0 ∷ []
 bind_of_root = refl
 
--- the effective user counts for low ports, and no other of the ids
+-- the effective user counts for low ports, and no other id
 bind_by_effective_user : map (λ ids. (made world 1 ids Bind (codes "inet-[0.0.0.0]:81" ∷ []) (3 ∷ [])).result)
     (record user { euid = 0 } ∷ record user { ruid = 0 } ∷ record user { rgid = 0; egid = 0 } ∷ [])
     ≡ Value 0 ∷ Failed EACCES ∷ Failed EACCES ∷ []
@@ -82,7 +82,7 @@ bind_by_effective_user = refl
 abbrev a_socket : Option ℕ → Bool → OpenFile
 a_socket port connected = file_for true true false 0 (file.Socket port connected)
 
--- the world's table where the socket of descriptor 3 is this one
+-- the world's table in which descriptor 3 is this socket
 abbrev socket_as : Option ℕ → Bool → Table
 socket_as port connected = table_of (with_changed 3 (a_socket port connected))
 
@@ -97,24 +97,25 @@ bind_gives = refl
 abbrev table_after : List (SysCall × List (List ℕ) × List ℕ) → Table
 table_after calls = (after_calls world calls).descriptors
 
--- a socket is bound once, and one that is connected stays so
+-- a socket is bound once, and a connected socket stays connected
 bind_after_calls :
     table_after ((Connect, codes "inet-[0.0.0.0]:80" ∷ [], 3 ∷ []) ∷ (Bind, codes "inet-[0.0.0.0]:1024" ∷ [], 3 ∷ []) ∷ []) ∷
     table_after ((Bind, codes "inet-[0.0.0.0]:1024" ∷ [], 3 ∷ []) ∷ (Bind, codes "inet-[0.0.0.0]:1025" ∷ [], 3 ∷ []) ∷ []) ∷ []
     ≡ socket_as (Some 1024) true ∷ socket_as (Some 1024) false ∷ []
 bind_after_calls = refl
 
--- what bind answers for the port of descriptor 9 after some calls
+-- the result of a bind to the port of descriptor 9 after some calls
 abbrev port_after : List (SysCall × List (List ℕ) × List ℕ) → CallResult
 port_after calls = (made (after_calls world calls) 1 user Bind (codes "inet-[0.0.0.0]:2000" ∷ []) (3 ∷ [])).result
 
--- the world, where process 3 has two new sockets as 3 and 4, whose open files are 10 and 11; its 9 isn't open, and its 2 has port 90
+-- the world in which descriptors 3 and 4 of process 3 are new sockets, whose open files are 10 and 11; its descriptor 9 isn't open, and
+-- its descriptor 2 has port 90
 abbrev third_world : System
 third_world = after once (made once 3 user Socket [] (2 ∷ 1 ∷ [])) where
   once : System
   once = after world (made world 3 user Socket [] (2 ∷ 1 ∷ []))
 
--- each process binds and connects its own: 4 and 9 are bound in process 1, and 2 is a directory there
+-- each process binds and connects its own descriptors: 4 and 9 are bound in process 1, and 2 is a directory there
 bind_by_process : results_in third_world 3 user Bind (map (λ fd. (codes "inet-[0.0.0.0]:1024" ∷ [], fd ∷ [])) (1 ∷ 2 ∷ 3 ∷ 4 ∷ 9 ∷ []))
     ≡ Failed EINVAL ∷ Failed EINVAL ∷ Value 0 ∷ Value 0 ∷ Failed EBADF ∷ []
 bind_by_process = refl
@@ -133,7 +134,7 @@ bind_and_connect_change_by_process : map (drop 9) (
     (a_socket (Some 90) true ∷ new_socket ∷ new_socket ∷ []) ∷ (a_socket (Some 90) false ∷ a_socket None true ∷ new_socket ∷ []) ∷ []
 bind_and_connect_change_by_process = refl
 
--- A port is taken while one descriptor of its open file is open, over dups and forks.
+-- A port is in use while one descriptor of its open file is open, across dups and forks.
 port_is_free_after :
     port_after ((Close, [], 9 ∷ []) ∷ []) ∷
     port_after ((Dup, [], 9 ∷ []) ∷ (Close, [], 9 ∷ []) ∷ []) ∷
@@ -142,7 +143,7 @@ port_is_free_after :
     ≡ Value 0 ∷ Failed EADDRINUSE ∷ Value 0 ∷ Failed EADDRINUSE ∷ []
 port_is_free_after = refl
 
--- what bind answers root for the port of process 3 after that process closed one of its descriptors
+-- the result of a bind by root to the port of process 3 after that process closed one of its descriptors
 abbrev port_after_close : ℕ → CallResult
 port_after_close fd =
     (made (after world (made world 3 user Close [] (fd ∷ []))) 1 root Bind (codes "inet-[0.0.0.0]:90" ∷ []) (3 ∷ [])).result
@@ -150,7 +151,7 @@ port_after_close fd =
 port_of_another_process : port_after_close 2 ∷ port_after_close 0 ∷ [] ≡ Value 0 ∷ Failed EADDRINUSE ∷ []
 port_of_another_process = refl
 
--- not open; no socket, or one that is connected; nothing has the port
+-- the reasons: not open; no socket, or a connected socket; a port that isn't in use
 connect_refusals : results Connect (
     (codes "inet-[0.0.0.0]:81" ∷ [], 8 ∷ []) ∷
     (codes "inet-[0.0.0.0]:80" ∷ [], (2 ^ 32 + 3) ∷ []) ∷
@@ -178,11 +179,11 @@ connect_gives : made world 1 user Connect (codes "inet-[0.0.0.0]:90" ∷ []) (3 
     done 0 [] (table_of (with_changed 8 (a_socket (Some 2000) true))) ∷ failed ECONNREFUSED ∷ []
 connect_gives = refl
 
--- what connect answers for a descriptor and an address after one call
+-- the result of a connect of a descriptor to an address after one call
 abbrev connect_after : SysCall × List (List ℕ) × List ℕ → ℕ → List ℕ → CallResult
 connect_after call fd address = (made (after_calls world (call ∷ [])) 1 user Connect (address ∷ []) (fd ∷ [])).result
 
--- a socket is connected once, over all of its descriptors; a port that was bound can be connected to, and one that was closed can't
+-- a socket is connected once, across all of its descriptors; a bound port can be connected to, and a closed port can't
 connect_after_calls :
     connect_after (Connect, codes "inet-[0.0.0.0]:80" ∷ [], 3 ∷ []) 3 (codes "inet-[0.0.0.0]:80") ∷
     connect_after (Dup, [], 4 ∷ []) 8 (codes "inet-[0.0.0.0]:80") ∷

@@ -1,4 +1,4 @@
--- How each kind of argument is spelled from its register and the words that were copied for it.
+-- Examples of how each kind of argument is spelled by its register and the words that were copied for it.
 use Rattle.std.proofs.Common.{◌≡◌, ℕ, zero, suc, List, [], ◌∷◌, ◌++◌, map, refl, replicate, codes, take, drop}
 use Rattle.std.specs.Prelude.{◌+◌, ◌-◌, ◌/◌, ◌^◌}
 use Rattle.std.specs.Fmt.{digits}
@@ -8,7 +8,7 @@ use Rattle.st_model.specs.Spelling.{Spelled, Text, Fault, More, spell}
 use Rattle.st_calls.specs.declared.argument.PartKind.{PartKind}
 use Rattle.st_calls.specs.declared.argument.PartKind.TheVariants as kind
 
--- the first of these bytes in so many words, with zeros behind them
+-- this many words of these bytes, with zeros after them
 abbrev pub words_of : ℕ → List ℕ → List ℕ
 words_of zero bytes = []
 words_of (suc count) bytes = from_le_bytes w64 (take 8 (bytes ++ replicate 8 0)) ∷ words_of count (drop 8 bytes)
@@ -17,16 +17,17 @@ words_of (suc count) bytes = from_le_bytes w64 (take 8 (bytes ++ replicate 8 0))
 abbrev eight : List ℕ
 eight = 0 ∷ 1 ∷ 2 ∷ 3 ∷ 4 ∷ 5 ∷ 6 ∷ 7 ∷ []
 
--- what is spelled of a text that begins in a word at this byte, where the words hold all of it and a zero byte
+-- the spelling of a text that begins at this byte of a word, if the words have the whole text and a zero byte
 abbrev spelled_from : PartKind → List ℕ → ℕ → Spelled
 spelled_from kind text byte = spell kind (80 + byte) (words_of 200 (replicate byte 120 ++ text))
 
--- the first word is that in which the text begins, if memory has it
+-- the first word is the word in which the text begins, if memory has it
 name_begins : map (λ at. spell kind.Name at []) (0 ∷ 8 ∷ 15 ∷ 16 ∷ 65535 ∷ 65536 ∷ (2 ^ 64 - 1) ∷ []) ≡
     More 0 ∷ More 1 ∷ More 1 ∷ More 2 ∷ More 8191 ∷ Fault EFAULT ∷ Fault EFAULT ∷ []
 name_begins = refl
 
--- a word more is asked until a zero byte is among the bytes from the first on: a text of six bytes from every byte of its first word
+-- one more word is needed until a zero byte is among the bytes from the first on: a text of six bytes, from every byte of its first
+-- word
 name_goes_on : map (λ byte. spell kind.Name (80 + byte) (words_of 1 (replicate byte 0 ++ codes "/a/b/c"))) eight ≡
     Text (codes "/a/b/c") ∷ Text (codes "/a/b/c") ∷ More 11 ∷ More 11 ∷ More 11 ∷ More 11 ∷ More 11 ∷ More 11 ∷ []
 name_goes_on = refl
@@ -36,7 +37,7 @@ name_goes_on_twice : map (λ byte. spell kind.Name (80 + byte) (words_of 2 (repl
     Text (codes "/a/b/c/d/e") ∷ More 12 ∷ More 12 ∷ []
 name_goes_on_twice = refl
 
--- a text may be empty, and may end with memory; what stands behind its zero byte isn't of it
+-- a text may be empty, and may end with memory; bytes after its zero byte don't belong to it
 name_ends : spell kind.Name 8 (0 ∷ []) ∷
     spell kind.Name 8 (words_of 1 (codes "ab" ++ (0 ∷ codes "cd"))) ∷
     spell kind.Name 65528 (words_of 1 (codes "1234567")) ∷
@@ -56,7 +57,7 @@ name_of_1024_bytes = refl
 name_of_1025_bytes : map (spelled_from kind.Name (replicate 1025 97)) eight ≡ replicate 8 (Fault ENAMETOOLONG)
 name_of_1025_bytes = refl
 
--- 1,024 bytes alone don't say whether one more follows; the last word says it, also where it ends with memory
+-- 1,024 bytes don't show whether one more follows; the last word shows it, also if it ends with memory
 name_of_1024_bytes_so_far : spell kind.Name 80 (words_of 128 (replicate 1024 97)) ∷
     spell kind.Name 64512 (words_of 128 (replicate 1024 97)) ∷
     spell kind.Name 64511 (words_of 129 (replicate 1032 97)) ∷ [] ≡
@@ -79,12 +80,12 @@ text_of_255_bytes = refl
 text_of_256_bytes : map (spelled_from kind.Plain (replicate 256 97)) eight ≡ replicate 8 (Fault ENAMETOOLONG)
 text_of_256_bytes = refl
 
--- an address is one word, and begins at one
+-- an address is one word, and begins at a word
 address_places : map (λ at. spell kind.Addr at []) (0 ∷ 8 ∷ 9 ∷ 12 ∷ 15 ∷ 65528 ∷ 65529 ∷ 65536 ∷ (2 ^ 64 - 8) ∷ []) ≡
     More 0 ∷ More 1 ∷ Fault EFAULT ∷ Fault EFAULT ∷ Fault EFAULT ∷ More 8191 ∷ Fault EFAULT ∷ Fault EFAULT ∷ Fault EFAULT ∷ []
 address_places = refl
 
--- its length isn't looked at, its family must be 2, and its port has its high byte first
+-- its length is ignored, its family has to be 2, and its port has the high byte first
 addresses : map (λ bytes. spell kind.Addr 65528 (words_of 1 bytes)) (
     (16 ∷ 2 ∷ 31 ∷ 144 ∷ 10 ∷ 20 ∷ 30 ∷ 1 ∷ []) ∷
     (0 ∷ 2 ∷ 0 ∷ 0 ∷ 0 ∷ 0 ∷ 0 ∷ 0 ∷ []) ∷
@@ -97,7 +98,7 @@ addresses : map (λ bytes. spell kind.Addr 65528 (words_of 1 bytes)) (
 unfolding digits
 addresses = refl
 
--- the pointers of an argv begin at a word in memory
+-- the pointers of an argument vector begin at a word in memory
 argv_places : map (λ at. spell kind.Argv at []) (0 ∷ 8 ∷ 9 ∷ 12 ∷ 15 ∷ 65528 ∷ 65529 ∷ 65536 ∷ (2 ^ 64 - 8) ∷ []) ≡
     More 0 ∷ More 1 ∷ Fault EFAULT ∷ Fault EFAULT ∷ Fault EFAULT ∷ More 8191 ∷ Fault EFAULT ∷ Fault EFAULT ∷ Fault EFAULT ∷ []
 argv_places = refl
@@ -105,7 +106,7 @@ argv_places = refl
 argv_places_of_zero : map (λ at. spell kind.Argv at (0 ∷ [])) (8 ∷ 65528 ∷ 12 ∷ []) ≡ Text [] ∷ Text [] ∷ Fault EFAULT ∷ []
 argv_places_of_zero = refl
 
--- a pointer, the words of its text, the next pointer, and so on up to a zero: pointers from word 1 on, texts at bytes 33 and 46
+-- a pointer, the words of its text, the next pointer, and so on up to a zero pointer: pointers from word 1 on, texts at bytes 33 and 46
 argv_word_by_word :
     spell kind.Argv 8 (33 ∷ []) ∷
     spell kind.Argv 8 (33 ∷ words_of 1 (codes "xabcdefg")) ∷
@@ -117,7 +118,7 @@ argv_word_by_word :
     More 4 ∷ More 5 ∷ More 2 ∷ More 5 ∷ More 6 ∷ More 3 ∷ Text (codes "abcdefghi -l") ∷ []
 argv_word_by_word = refl
 
--- a text begins at any byte of a word, and needs the words that it stands in
+-- a text may begin at any byte of a word, and needs the words that contain it
 argv_from_each_byte : map (λ byte. spell kind.Argv 8 ((80 + byte) ∷ words_of 1 (replicate byte 0 ++ codes "abc"))) eight ≡
     More 2 ∷ More 2 ∷ More 2 ∷ More 2 ∷ More 2 ∷ More 11 ∷ More 11 ∷ More 11 ∷ []
 argv_from_each_byte = refl
@@ -126,7 +127,7 @@ argv_from_each_byte_ended : map (λ byte. spell kind.Argv 8 ((80 + byte) ∷ wor
     replicate 8 (Text (codes "abcdefgh"))
 argv_from_each_byte_ended = refl
 
--- blanks stand between the parts alone; a part may be empty, and may have blanks
+-- blanks are only between the parts; a part may be empty, and may have blanks
 argv_joined :
     spell kind.Argv 8 (80 ∷ 0 ∷ 0 ∷ []) ∷
     spell kind.Argv 8 (80 ∷ 0 ∷ 80 ∷ 0 ∷ 0 ∷ []) ∷
@@ -134,7 +135,7 @@ argv_joined :
     Text [] ∷ Text (codes " ") ∷ Text (codes "a b  c") ∷ []
 argv_joined = refl
 
--- what a pointer leads to must lie in memory, and so must the next pointer
+-- the text at a pointer has to be in memory, and so does the next pointer
 argv_outside :
     spell kind.Argv 8 (65535 ∷ []) ∷
     spell kind.Argv 8 (65536 ∷ []) ∷
@@ -146,12 +147,12 @@ argv_outside :
     More 8191 ∷ Fault EFAULT ∷ Fault EFAULT ∷ Fault EFAULT ∷ More 2 ∷ More 10 ∷ Fault EFAULT ∷ []
 argv_outside = refl
 
--- so many parts of one byte
+-- the words of this many parts of one byte
 abbrev parts : ℕ → List ℕ
 parts zero = []
 parts (suc count) = 800 ∷ 97 ∷ parts count
 
--- sixteen parts, and a pointer more, which may not lead anywhere, even out of memory
+-- sixteen parts are allowed, and one more pointer is a fault, even if it points outside memory
 argv_of_sixteen :
     spell kind.Argv 8 (parts 15) ∷
     spell kind.Argv 8 (parts 16) ∷
@@ -161,7 +162,7 @@ argv_of_sixteen :
     More 16 ∷ More 17 ∷ Text (codes "a a a a a a a a a a a a a a a a") ∷ Fault E2BIG ∷ Fault E2BIG ∷ []
 argv_of_sixteen = refl
 
--- what is spelled of an argv of one part, or of two of which the first has 600 bytes
+-- the spelling of an argument vector of one part, or of two parts of which the first has 600 bytes
 abbrev argv_of_one : ℕ → ℕ → Spelled
 argv_of_one count byte =
     spell kind.Argv 8 ((80 + byte) ∷ words_of ((byte + count) / 8 + 1) (replicate byte 120 ++ replicate count 97) ++ (0 ∷ []))
@@ -171,7 +172,7 @@ argv_of_two count byte =
     spell kind.Argv 8 (80 ∷ words_of 76 (replicate 600 97) ++
     ((80 + byte) ∷ words_of ((byte + count) / 8 + 1) (replicate byte 120 ++ replicate count 97) ++ (0 ∷ [])))
 
--- the parts have up to 1,024 bytes together, from whichever bytes of words; what joins them doesn't count
+-- the parts have up to 1,024 bytes together, from whichever bytes of words; the blanks between them don't count
 argv_of_1024_bytes : map (argv_of_one 1024) eight ≡ replicate 8 (Text (replicate 1024 97))
 argv_of_1024_bytes = refl
 
@@ -184,7 +185,7 @@ argv_of_1024_bytes_together = refl
 argv_of_1025_bytes_together : map (argv_of_two 425) eight ≡ replicate 8 (Fault E2BIG)
 argv_of_1025_bytes_together = refl
 
--- the byte that is too many is a fault at once, and that before memory ends
+-- a byte too many is a fault at once, before the end of memory is
 argv_of_many_bytes_so_far :
     spell kind.Argv 8 (80 ∷ words_of 128 (replicate 1024 97)) ∷
     spell kind.Argv 8 (80 ∷ words_of 129 (replicate 1025 97)) ∷
@@ -193,14 +194,14 @@ argv_of_many_bytes_so_far :
     More 138 ∷ Fault E2BIG ∷ Fault EFAULT ∷ Fault E2BIG ∷ []
 argv_of_many_bytes_so_far = refl
 
--- numbers stand in registers; whole registers are printed
+-- numbers are in registers; all bits of a register are printed
 decimals : map (λ n. spell kind.Decimal n []) (0 ∷ 7 ∷ 10 ∷ 1000 ∷ 2 ^ 32 ∷ (2 ^ 64 - 1) ∷ []) ≡
     Text (codes "0") ∷ Text (codes "7") ∷ Text (codes "10") ∷ Text (codes "1000") ∷ Text (codes "4294967296") ∷
     Text (codes "18446744073709551615") ∷ []
 unfolding digits
 decimals = refl
 
--- a mode is its low nine bits in octal
+-- a mode is printed as its low nine bits in octal
 modes : map (λ n. spell kind.Octal n []) (0 ∷ 7 ∷ 8 ∷ 64 ∷ 420 ∷ 493 ∷ 511 ∷ 512 ∷ 520 ∷ 4589 ∷ (2 ^ 64 - 1) ∷ []) ≡
     Text (codes "0") ∷ Text (codes "7") ∷ Text (codes "10") ∷ Text (codes "100") ∷ Text (codes "644") ∷ Text (codes "755") ∷
     Text (codes "777") ∷ Text (codes "0") ∷ Text (codes "10") ∷ Text (codes "755") ∷ Text (codes "777") ∷ []

@@ -1,4 +1,4 @@
--- Calls that tell of a name: stat, lstat, access and readlink.
+-- Examples of calls that only look at a name: stat, lstat, access and readlink.
 use Rattle.std.proofs.Common.{◌≡◌, ℕ, List, [], ◌∷◌, ◌++◌, refl, codes, replicate}
 use Rattle.std.specs.Prelude.{◌^◌, ◌-◌}
 use Rattle.st_base.specs.declared.errno.Errno.TheVariants.{ENOENT, EACCES, EFAULT, ENOTDIR, EINVAL}
@@ -13,11 +13,11 @@ use Rattle.st_effects.proofs.World.{world, user, other_user, root, mixed, made, 
 abbrev word : ℕ → ℕ → List ℕ
 word low high = low ∷ high ∷ replicate 6 0
 
--- five words at a byte of memory 1
+-- the change of five words at a byte of memory 1
 abbrev tells : ℕ → List ℕ → List ℕ → List ℕ → List ℕ → List ℕ → List Change
 tells at kind mode uid gid size = Put 1 at (kind ++ mode ++ uid ++ gid ++ size) ∷ []
 
--- the walk comes first, then the missing name, then the place of the words
+-- the tests in order: the walk, a missing name, the buffer of the words
 stat_in_order : Answer world user Stat (
     refused "/no/x" (4 ∷ []) ENOENT ∷
     refused "/d/f/x" (4 ∷ []) ENOTDIR ∷
@@ -28,7 +28,7 @@ stat_in_order : Answer world user Stat (
     refused "/d/f" (4 ∷ []) EFAULT ∷ [])
 stat_in_order = refl
 
--- five words begin at a word and end in memory
+-- the five words have to begin at a word and to end within memory
 stat_places : Answer world user Stat (
     refused "/d/f" (65504 ∷ []) EFAULT ∷
     refused "/d/f" (65500 ∷ []) EFAULT ∷
@@ -40,8 +40,8 @@ stat_places : Answer world user Stat (
     gives "/d/f" (0 ∷ []) 0 (tells 0 (word 2 0) (word 164 1) (word 0 0) (word 0 0) (word 3 0)) ∷ [])
 stat_places = refl
 
--- kind, mode, owner, group and size, of objects on which the user has no permission too: a directory's size is how many names
--- stand directly in it
+-- kind, mode, owner, group and size, also of objects to which the user has no access; a directory's size is the number of names
+-- directly in it
 stat_words : Answer world user Stat (
     gives "/" (8 ∷ []) 0 (tells 8 (word 1 0) (word 237 1) (word 0 0) (word 0 0) (word 6 0)) ∷
     gives "/w" (8 ∷ []) 0 (tells 8 (word 1 0) (word 255 1) (word 0 0) (word 0 0) (word 5 0)) ∷
@@ -63,7 +63,7 @@ lstat_in_order : Answer world user Lstat (
     refused "/w/l" (65504 ∷ []) EFAULT ∷ [])
 lstat_in_order = refl
 
--- a link has as many bytes as its target
+-- a link's size is the length of its target
 lstat_words : Answer world user Lstat (
     gives "/w/l" (65496 ∷ []) 0 (tells 65496 (word 3 0) (word 255 1) (word 232 3) (word 232 3) (word 7 0)) ∷
     gives "/d/l" (8 ∷ []) 0 (tells 8 (word 3 0) (word 255 1) (word 0 0) (word 0 0) (word 1 0)) ∷
@@ -76,12 +76,12 @@ stat_space : (made world 3 user Stat (codes "/w/h" ∷ []) (24 ∷ 8 ∷ [])).ch
     Put 6 8 (word 2 0 ++ word 237 1 ++ word 232 3 ++ word 232 3 ++ word 0 0) ∷ []
 stat_space = refl
 
--- byte 16 is the first of the mode, byte 7 stays what it was
+-- byte 16 is the first byte of the mode, byte 7 doesn't change
 stat_memory : memory_after 1 world.memory (changes Stat (codes "/d/f" ∷ []) (24 ∷ 8 ∷ [])) 1 16 ∷
     memory_after 1 world.memory (changes Stat (codes "/d/f" ∷ []) (24 ∷ 8 ∷ [])) 1 7 ∷ [] ≡ 164 ∷ 8 ∷ []
 stat_memory = refl
 
--- the mode comes first, then the walk, also where no access is asked, then the missing name, then the access
+-- the tests in order: the mode, the walk, also if no access is requested, a missing name, the access
 access_in_order : Answer world user Access (
     refused "/no/x" (8 ∷ []) EINVAL ∷
     refused "/p/x" (8 ∷ []) EINVAL ∷
@@ -102,7 +102,7 @@ access_in_order : Answer world user Access (
     gives "/w/e" (7 ∷ []) 0 [] ∷ [])
 access_in_order = refl
 
--- each access that is asked must be allowed: others may read this file and do no more
+-- each requested access has to be permitted: others may only read this file
 access_of_each_kind : Answer world user Access (
     gives "/d/f" (4 ∷ []) 0 [] ∷
     refused "/d/f" (2 ∷ []) EACCES ∷
@@ -112,7 +112,7 @@ access_of_each_kind : Answer world user Access (
     refused "/d/f" (3 ∷ []) EACCES ∷ [])
 access_of_each_kind = refl
 
--- for a directory the lowest bit asks to search it
+-- for a directory the lowest bit requests search
 access_of_directories : Answer world user Access (
     gives "/d" (1 ∷ []) 0 [] ∷
     gives "/d" (5 ∷ []) 0 [] ∷
@@ -126,7 +126,7 @@ access_of_directories : Answer world user Access (
     refused "/" (2 ∷ []) EACCES ∷ [])
 access_of_directories = refl
 
--- root reads and writes all files, and executes those that somebody may
+-- root may read and write all files, and execute a file that somebody may execute
 access_of_files_by_root : Answer world root Access (
     gives "/d/f" (6 ∷ []) 0 [] ∷
     refused "/d/f" (1 ∷ []) EACCES ∷
@@ -138,13 +138,13 @@ access_of_files_by_root : Answer world root Access (
     gives "/p/x" (7 ∷ []) 0 [] ∷ [])
 access_of_files_by_root = refl
 
--- root may search what nobody may
+-- root may search a directory that nobody else may search
 access_of_directories_by_root : Answer world root Access (
     gives "/z" (7 ∷ []) 0 [] ∷
     gives "/p" (7 ∷ []) 0 [] ∷ [])
 access_of_directories_by_root = refl
 
--- the walk and the access ask for the real user: its own directory and file stand open, whoever it runs as
+-- the walk and the access test the real user: it has access to its own directory and file, whatever its effective user is
 access_of_the_real_user : Answer world mixed Access (
     gives "/q/v" (6 ∷ []) 0 [] ∷
     gives "/s/keep" (2 ∷ []) 0 [] ∷
@@ -153,7 +153,7 @@ access_of_the_real_user : Answer world mixed Access (
     refused "/s/group" (4 ∷ []) EACCES ∷ [])
 access_of_the_real_user = refl
 
--- and for the real group
+-- they test the real group too
 access_of_the_real_group : Answer world (record other_user { ruid = 3000; rgid = 1000 }) Access (
     gives "/s/group" (4 ∷ []) 0 [] ∷
     refused "/s/group" (2 ∷ []) EACCES ∷ [])
@@ -164,7 +164,7 @@ access_of_another_real_group : Answer world (record user { ruid = 3000; rgid = 3
     refused "/q/v" (4 ∷ []) EACCES ∷ [])
 access_of_another_real_group = refl
 
--- that it runs as root doesn't help, neither in the walk nor at the end; to be root does, whoever it runs as
+-- effective user 0 makes no difference, neither in the walk nor at the end; real user 0 does, whatever the effective user is
 access_as_root : Answer world (record user { euid = 0; egid = 0 }) Access (
     refused "/p/x" (4 ∷ []) EACCES ∷
     refused "/d/f" (2 ∷ []) EACCES ∷ [])
@@ -175,7 +175,7 @@ access_of_root_as_another : Answer world (record root { euid = 1000; egid = 1000
     gives "/d/f" (6 ∷ []) 0 [] ∷ [])
 access_of_root_as_another = refl
 
--- the walk comes first, then the missing name, then what is no link, then the bytes that don't lie in memory
+-- the tests in order: the walk, a missing name, an object that is no link, a buffer outside memory
 readlink_in_order : Answer world user Readlink (
     refused "/no/x" (65536 ∷ 1 ∷ []) ENOENT ∷
     refused "/d/f/x" (65536 ∷ 1 ∷ []) ENOTDIR ∷
@@ -190,7 +190,7 @@ readlink_in_order : Answer world user Readlink (
     refused "/w/l" (65536 ∷ 1 ∷ []) EFAULT ∷ [])
 readlink_in_order = refl
 
--- so many bytes as are asked must lie in memory, also where the target has fewer; a sum doesn't wrap
+-- the requested number of bytes has to be within memory, even if the target is shorter; a sum doesn't wrap
 readlink_places : Answer world user Readlink (
     refused "/w/l" (65530 ∷ 7 ∷ []) EFAULT ∷
     refused "/w/l" (65529 ∷ 8 ∷ []) EFAULT ∷
@@ -201,7 +201,7 @@ readlink_places : Answer world user Readlink (
     gives "/w/l" (65536 ∷ 0 ∷ []) 0 (Put 1 65536 [] ∷ []) ∷ [])
 readlink_places = refl
 
--- the first bytes of the target, and how many they are
+-- the first bytes of the target, and their number
 readlink_bytes : Answer world user Readlink (
     gives "/w/l" (8 ∷ 9 ∷ []) 7 (Put 1 8 (codes "nowhere") ∷ []) ∷
     gives "/w/l" (9 ∷ 7 ∷ []) 7 (Put 1 9 (codes "nowhere") ∷ []) ∷

@@ -1,5 +1,5 @@
--- A system worth looking at: three users, objects with all kinds of permission, links, a name that is given twice, descriptors of
--- every kind, three processes and held calls. On it the calls of the table are computed.
+-- A system for the examples: three users, objects with all kinds of permission, links, an object with two names, descriptors of
+-- every kind, three processes and held calls. The calls of the table are computed over it.
 use Rattle.std.proofs.Common.{ℕ, Bool, true, false, List, [], ◌∷◌, ◌++◌, map, Some, None, replicate, codes, ◌==◌, if◌then◌else◌, ◌||◌, ◌%◌, ◌+◌, length, ◌-◌}
 use Rattle.st_model.specs.Descriptors.{Table}
 use Rattle.st_base.specs.Ids.{identity}
@@ -24,7 +24,7 @@ abbrev with_object : Tree → List ℕ → Kind → ℕ → ℕ → ℕ → List
 with_object tree name kind uid gid mode content =
     add_object tree (components_of name) (record { kind = kind; uid = uid; gid = gid; mode = mode; content = content })
 
--- Objects are numbered from 2 in this order; the mode in octal stands behind each.
+-- Objects are numbered from 2 in this order. After each is its mode in octal.
 abbrev pub open_tree : Tree
 open_tree =
     let t2 = with_object root_only (codes "/d") object_kind.Dir 0 0 493 [] in  -- 2: 755
@@ -39,7 +39,7 @@ open_tree =
     let t11 = with_object t10 (codes "/w/n/c") object_kind.File 1000 1000 493 (codes "code") in  -- 11: 755
     with_object t11 (codes "/s") object_kind.Dir 0 0 457 []  -- 12: 711, all may search, root may write
 
--- files whose three permissions differ, in a directory that all may search and root alone may write
+-- files whose three permissions differ, in a directory that all may search and only root may write
 abbrev pub tree : Tree
 tree =
     let t13 = with_object open_tree (codes "/s/owner") object_kind.File 1000 2000 63 (codes "1") in  -- 13: 077, its owner may nothing
@@ -57,11 +57,11 @@ tree =
     let t25 = with_object t24 (codes "/d/l") object_kind.Link 0 0 511 (codes "f") in  -- 25: 777, in a directory of root
     link_object t25 (components_of (codes "/w/h")) 7  -- /w/h and /w/e are one object
 
--- the same, where 4,096 objects were made
+-- the same tree after 4,096 objects were made
 abbrev pub full_tree : Tree
 full_tree = record tree { objects = tree.objects ++ replicate (4096 - length tree.objects) root_node }
 
--- the same, where one more object can be made
+-- the same tree when one more object can be made
 abbrev pub nearly_full_tree : Tree
 nearly_full_tree = record tree { objects = tree.objects ++ replicate (4095 - length tree.objects) root_node }
 
@@ -86,8 +86,9 @@ files =
     opened_for true true false 0 (file.Socket (Some 90) false) ∷  -- 9: a socket of process 3
     []
 
--- Process 1 has descriptors 0 to 7 for the open files 0 to 7, no 8, 9 for the open file 8, and 10 for the open file 1, which it
--- shares with its own 1 and with 1 of process 3; all others are free. Process 2 has all 64 descriptors open. Process 3 has 0, 1 and 2.
+-- Descriptors 0 to 7 of process 1 refer to the open files 0 to 7, its descriptor 8 is free, 9 refers to the open file 8, and 10 to the
+-- open file 1, which it shares with its descriptor 1 and with descriptor 1 of process 3. All its others are free. Process 2 has all 64
+-- descriptors open. Process 3 has 0, 1 and 2 open.
 abbrev pub descriptors : Table
 descriptors = record {
   processes =
@@ -97,7 +98,7 @@ descriptors = record {
   files = files;
 }
 
--- the user whose calls are computed, another user, root, and ids of which no two are equal
+-- the user whose calls are computed, another user, root, and four different ids
 abbrev pub user : Ids
 user = identity 1000 1000
 
@@ -110,8 +111,8 @@ root = identity 0 0
 abbrev pub mixed : Ids
 mixed = record { ruid = 1000; euid = 2000; rgid = 3000; egid = 4000 }
 
--- Processes 1, 2 and 3 are live: the user's, root's, and another user's that runs as the user. Process 4 has ended. Each has its number for
--- its memory, but for process 3, whose memory is 6. Byte b of memory s is (b + s) mod 256.
+-- Processes 1, 2 and 3 are live: the user's, root's, and another user's that runs as the user. Process 4 has ended. Each has the memory
+-- with its own number, except for process 3, whose memory is 6. Byte b of memory s is (b + s) mod 256.
 abbrev pub ids_of : ℕ → Ids
 ids_of pid =
     if pid == 1 then user
@@ -141,16 +142,16 @@ nearly_full_world = record world { tree = nearly_full_tree }
 abbrev filename : List ℕ → ArgText
 filename text = record { label = Filename; index = 0; text = text }
 
--- a call of thread 1 in this process under these ids, with texts as its arguments and these registers
+-- a call of thread 1 of this process under these ids, with these texts as its arguments and these registers
 abbrev pub made : System → ℕ → Ids → SysCall → List (List ℕ) → List ℕ → Outcome
 made system pid ids call texts regs =
     effect system call (record { tid = 1; pid = pid; ids = ids; regs = regs; args = map filename texts; child = 5; inherit = false })
 
--- what each of some calls of process 1 gives these ids
+-- the result of each of some calls of process 1 under these ids
 abbrev pub results_for : Ids → SysCall → List (List (List ℕ) × List ℕ) → List CallResult
 results_for ids call tries = map (λ each. (made world 1 ids call each.0 each.1).result) tries
 
--- what each of some calls of process 1 gives the user, another user, and root
+-- the result of each of some calls of process 1 for the user, another user, and root
 abbrev pub results : SysCall → List (List (List ℕ) × List ℕ) → List CallResult
 results = results_for user
 
@@ -160,6 +161,6 @@ other_results = results_for other_user
 abbrev pub root_results : SysCall → List (List (List ℕ) × List ℕ) → List CallResult
 root_results = results_for root
 
--- what a call of process 1 changes, made by the user
+-- the changes of a call of process 1 that the user makes
 abbrev pub changes : SysCall → List (List ℕ) → List ℕ → List Change
 changes call texts regs = (made world 1 user call texts regs).changes

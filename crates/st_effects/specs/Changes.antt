@@ -1,4 +1,4 @@
--- What changes make of the tree, of memory, of a process, of a thread and of numbers, each by itself.
+-- How changes alter the tree, memory, a process, a thread and the next numbers, each part by itself.
 use Rattle.std.specs.Prelude.{ℕ, suc, ◌==◌, ◌&&◌, ◌||◌, not, if◌then◌else◌, Bool, List}
 use Rattle.std.specs.List.{fold}
 use Rattle.st_model.specs.Memory.{memory_after_put}
@@ -23,7 +23,7 @@ tree_after_change tree _ = tree
 abbrev pub tree_after : Tree → List Change → Tree
 tree_after tree changes = fold tree_after_change tree changes
 
--- memory after a change that a process with this space makes: a child's is a copy of it
+-- memory after a change that a process with this space makes; a child's memory is a copy of the memory of this space
 abbrev pub memory_after_change : ℕ → (ℕ → ℕ → ℕ) → Change → ℕ → ℕ → ℕ
 memory_after_change own before (Put space at bytes) = memory_after_put before space at bytes
 memory_after_change own before (Forked pid space tid) = λ s b. if s == space then before own b else before s b
@@ -33,7 +33,7 @@ memory_after_change own before _ = before
 abbrev pub memory_after : ℕ → (ℕ → ℕ → ℕ) → List Change → ℕ → ℕ → ℕ
 memory_after own before changes = fold (memory_after_change own) before changes
 
--- process p after a change that process m makes: a child has its parent's policy, ids and directory
+-- process p after a change that process m makes; a child has its parent's row except for its space
 abbrev pub process_after_change : (ℕ → Process) → ℕ → ℕ → Process → Change → Process
 process_after_change processes m p before (Forked pid space tid) =
     if pid == p then record (processes m) { space = space } else before
@@ -56,13 +56,13 @@ owner_after_change t before _ = before
 abbrev pub owner_after : ℕ → ℕ → List Change → ℕ
 owner_after t before changes = fold (owner_after_change t) before changes
 
--- whether thread t, of process p, has nothing left but to end after a change that thread u of process m makes
+-- whether thread t, of process p, is dying after a change that thread u of process m makes
 abbrev pub dying_after_change : ℕ → ℕ → ℕ → ℕ → Bool → Change → Bool
 dying_after_change t p u m before (Dying pid) = before || pid == p
 dying_after_change t p u m before (Execed binary space) = before || (m == p && not (u == t))
 dying_after_change t p u m before _ = before
 
--- whether thread t, of process p, has nothing left but to end after changes that thread u of process m makes
+-- whether thread t, of process p, is dying after changes that thread u of process m makes
 abbrev pub dying_after : ℕ → ℕ → ℕ → ℕ → Bool → List Change → Bool
 dying_after t p u m before changes = fold (dying_after_change t p u m) before changes
 

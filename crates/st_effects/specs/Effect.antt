@@ -1,4 +1,4 @@
--- What each call gives its thread, and what it changes.
+-- The effect of each call: its result and its changes.
 use Rattle.std.specs.Prelude.{[]}
 use Rattle.st_calls.specs.declared.call.SysCall.{SysCall}
 use Rattle.st_calls.specs.declared.call.SysCall.TheVariants.{Open, Close, Read, Write, Lseek, Dup, Stat, Lstat, Access, Readlink, Unlink, Link, Symlink, Rename, Mkdir, Rmdir, Chdir, Chmod, Chown, Truncate, Fork, Execve, Exit, Kill, GetPid, GetUid, GetEuid, SetUid, SetEuid, SetGid, SetEgid, Socket, Bind, Connect}
@@ -8,7 +8,7 @@ use Rattle.st_effects.specs.Processes.{fork_outcome, execve_outcome, exit_outcom
 use Rattle.st_effects.specs.Sockets.{socket_outcome, bind_outcome, connect_outcome}
 use Rattle.st_effects.specs.System.{System, Request, Outcome, success}
 
--- a call, as this process makes it over this system
+-- the outcome of a call that is made with this request over this system
 abbrev pub effect : System → SysCall → Request → Outcome
 effect system Open request = open_outcome system request
 effect system Close request = close_outcome system request

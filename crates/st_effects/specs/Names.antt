@@ -1,4 +1,4 @@
--- Calls on names: what each gives and changes, its reasons for refusal in the order in which they are tested.
+-- Calls on names: the outcome of each call, with its reasons for refusal in the order in which they are tested.
 use Rattle.std.specs.Prelude.{ℕ, ◌+◌, ◌%◌, ◌^◌, ◌==◌, ◌&&◌, ◌||◌, not, nat_lt, nat_le, if◌then◌else◌, Bool, true, false, List, [], ◌∷◌, length, take, flat_map, is_some, bit_and, Option, Some, None}
 use Rattle.std.specs.Int.{w64, to_le_bytes}
 use Rattle.st_base.specs.Errno.{error_if}
@@ -19,31 +19,31 @@ use Rattle.st_model.specs.declared.object.NewKind.{NewKind}
 use Rattle.st_model.specs.declared.limits.TheConstants.{SPACE_BYTES, LONGEST_FILE}
 use Rattle.st_model.specs.declared.object.NewKind.TheVariants as made
 
--- a name has something already
+-- the error if an object already has the name
 abbrev pub already_exists : Tree → Components → Option Errno
 already_exists tree name = error_if (is_some (node_of tree name)) EEXIST
 
--- an object is no directory
+-- the error if an object is no directory
 abbrev pub not_a_directory : Object → Option Errno
 not_a_directory object = error_if (not (is_directory object.node.kind)) ENOTDIR
 
--- an object is a directory with entries
+-- the error if an object is a directory with entries
 abbrev pub directory_not_empty : Tree → Object → Option Errno
 directory_not_empty tree object = error_if (is_directory object.node.kind && not (size_of tree object.number == 0)) ENOTEMPTY
 
--- how stat numbers kinds of objects
+-- the number by which stat reports a kind of object
 abbrev pub number_of_kind : Kind → ℕ
 number_of_kind object_kind.Dir = 1
 number_of_kind object_kind.File = 2
 number_of_kind object_kind.Link = 3
 
--- what stat tells of an object: five words, which are its kind, mode, owner, group and size
+-- the bytes that stat reports for an object: five words, which are its kind, mode, owner, group and size
 abbrev pub stat_words : Tree → Object → List ℕ
 stat_words tree object =
     let node = object.node in
     flat_map (to_le_bytes w64) (number_of_kind node.kind ∷ node.mode ∷ node.uid ∷ node.gid ∷ size_of tree object.number ∷ [])
 
--- the five words of stat don't lie in memory, or don't begin at a word
+-- the fault if the five words of stat aren't within memory, or don't begin at a word
 abbrev pub stat_buffer_fault : ℕ → Option Errno
 stat_buffer_fault at = error_if (not (at % 8 == 0) || nat_lt SPACE_BYTES (at + 40)) EFAULT
 
@@ -56,26 +56,26 @@ stat_outcome system request =
     unless_refused system (stat_buffer_fault (register request 1) ∷ [])
     (success system 0 (Put (space_of_caller system request) (register request 1) (stat_words system.tree object) ∷ []))))
 
--- the real ids in the place of the effective ones
+-- the ids with the real user and group also as the effective ones
 abbrev pub with_real_ids : Ids → Ids
 with_real_ids ids = record ids { euid = ids.ruid; egid = ids.rgid }
 
--- what the lowest bit asks of an object: to go through a directory, to execute all else
+-- the access that the lowest bit of a mode requests: search of a directory, execution of any other object
 abbrev pub want_of_bit : Bool → Want
 want_of_bit true = want.Search
 want_of_bit false = want.Execute
 
--- an access isn't asked, or the ids may
+-- whether an access isn't requested or the ids have it
 abbrev pub has_access : Ids → Node → ℕ → ℕ → Want → Bool
 has_access ids node mode bit wanted = bit_and mode bit == 0 || is_allowed_at ids node wanted
 
--- each access that the mode asks for is one that the ids may
+-- whether the ids have each access that the mode requests
 abbrev pub has_all_access : Ids → Node → ℕ → Bool
 has_all_access ids node mode =
     has_access ids node mode 4 want.Read && (has_access ids node mode 2 want.Write &&
     has_access ids node mode 1 (want_of_bit (is_directory node.kind)))
 
--- access(name, mode), which asks for the real ids throughout
+-- access(name, mode), which tests the real ids throughout
 abbrev pub access_outcome : System → Request → Outcome
 access_outcome system request =
     let name = arg_name_at request 0 in
@@ -87,7 +87,7 @@ access_outcome system request =
     unless_refused system (error_if (not (has_all_access ids object.node (register request 1))) EACCES ∷ [])
     (success system 0 [])))
 
--- whether a kind is a link's
+-- whether a kind is that of a link
 abbrev pub is_link : Kind → Bool
 is_link object_kind.Dir = false
 is_link object_kind.File = false
@@ -131,7 +131,7 @@ link_outcome system request =
     parent_not_writable tree request.ids new ∷ [])
     (success system 0 (Linked new linked.number ∷ []))))
 
--- a new object under a name, which belongs to the effective ids
+-- the outcome of making a new object under a name; the object belongs to the effective ids
 abbrev pub make_outcome : System → Request → Components → NewKind → ℕ → Outcome
 make_outcome system request name kind mode =
     let obj = length system.tree.objects + 1 in
@@ -156,8 +156,9 @@ symlink_outcome system request =
 abbrev pub mkdir_outcome : System → Request → Outcome
 mkdir_outcome system request = make_outcome system request (arg_name_at request 0) made.Dir (low_mode (register request 1))
 
--- an object gets a name that nothing has, or that another object has, which goes first: a directory takes the place of an empty
--- directory alone, and another object that of no directory; two names of one object stay
+-- the outcome of a rename after the walks: an object gets a name that no object has, or that another object has, which is removed
+-- first. A directory replaces only an empty directory, and no other object replaces a directory. Two names of one object don't
+-- change.
 abbrev pub move_outcome : System → Request → Components → Components → Object → Option Object → Outcome
 move_outcome system request old new object None =
     unless_refused system (
@@ -222,7 +223,7 @@ chmod_outcome system request =
     unless_refused system (error_if (not (euid == 0 || euid == object.node.uid)) EPERM ∷ [])
     (success system 0 (Moded object.number (low_mode (register request 1)) ∷ []))))
 
--- a number is no id
+-- whether a number is too large for an id
 abbrev pub is_no_id : ℕ → Bool
 is_no_id number = nat_le (2 ^ 32) number
 

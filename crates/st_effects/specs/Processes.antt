@@ -1,4 +1,4 @@
--- Calls on processes: what each gives and changes, its reasons for refusal in the order in which they are tested.
+-- Calls on processes: the outcome of each call, with its reasons for refusal in the order in which they are tested.
 use Rattle.std.specs.Prelude.{ℕ, ◌+◌, ◌==◌, ◌&&◌, ◌||◌, not, if◌then◌else◌, Bool, true, false, List, [], ◌∷◌, length}
 use Rattle.st_base.specs.Errno.{error_if}
 use Rattle.st_model.specs.DescriptorCalls.{table_after_copy}
@@ -23,17 +23,17 @@ fork_outcome system request =
     (Forked system.next_process system.next_space request.child ∷ [])
     (table_after_copy system.descriptors request.pid system.next_process)
 
--- whether a kind is a file's
+-- whether a kind is that of a file
 abbrev pub is_file : Kind → Bool
 is_file object_kind.Dir = false
 is_file object_kind.File = true
 is_file object_kind.Link = false
 
--- an object is a file that the ids may execute
+-- whether an object is a file that the ids may execute
 abbrev pub may_execute : Ids → Node → Bool
 may_execute ids node = is_file node.kind && is_allowed_at ids node want.Execute
 
--- what the policy becomes where it isn't kept
+-- the change of the policy by an execve: none if the policy is inherited, otherwise the binary's policy applies
 abbrev pub policy_changes : Bool → List ℕ → List Change
 policy_changes true binary = []
 policy_changes false binary = Policy binary ∷ []
@@ -53,7 +53,7 @@ execve_outcome system request =
 abbrev pub exit_outcome : System → Request → Outcome
 exit_outcome system request = success system 0 (Dying request.pid ∷ [])
 
--- the signal that ends a process; 0 only asks
+-- the signal that ends a process; signal 0 only tests
 abbrev pub kill_signal : ℕ
 kill_signal = 9
 
@@ -72,7 +72,8 @@ kill_outcome system request =
     error_if (not (may_signal request.ids (system.processes target).ids.ruid)) EPERM ∷ [])
     (success system 0 (if signal == 0 then [] else Dying target ∷ []))
 
--- the live messages of a process, but for the thread's own, draw new numbers from this one on, in the order of their threads
+-- the changes that renew the live messages of a process other than the thread's own: they get new numbers from this number on, in
+-- the order of their threads
 abbrev pub renewals : ℕ → ℕ → ℕ → List HeldCall → List Change
 renewals pid tid next [] = []
 renewals pid tid next (held ∷ more) =

@@ -1,4 +1,4 @@
--- Calls on sockets: what each gives and changes, its reasons for refusal in the order in which they are tested.
+-- Calls on sockets: the outcome of each call, with its reasons for refusal in the order in which they are tested.
 use Rattle.std.specs.Prelude.{ℕ, ◌+◌, ◌-◌, ◌*◌, ◌==◌, ◌&&◌, not, nat_lt, if◌then◌else◌, true, false, List, [], ◌∷◌, None}
 use Rattle.std.specs.List.{fold}
 use Rattle.st_base.specs.Errno.{error_if}
@@ -24,7 +24,7 @@ socket_outcome system request =
 abbrev pub colon : ℕ
 colon = 58
 
--- the port of an address: the decimal number behind the last colon of its text
+-- the port of an address: the decimal number after the last colon of its text
 abbrev pub port_in : List ℕ → ℕ
 port_in text = fold (λ n byte. if byte == colon then 0 else 10 * n + (byte - 48)) 0 text
 

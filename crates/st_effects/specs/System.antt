@@ -1,4 +1,4 @@
--- What a call is made over, who makes it, and what it gives.
+-- The system over which a call is made, the request, and the outcome.
 use Rattle.std.specs.Prelude.{ℕ, Bool, List, [], slice_get, slice_index_or, Option, Some, None, unwrap_or}
 use Rattle.std.specs.Option.{option_map}
 use Rattle.st_model.specs.Descriptors.{Table}
@@ -20,28 +20,28 @@ pub record HeldCall : Type 0 where
   -- the message's number
   pub number : ℕ
 
--- the modelled system, as a call finds it
+-- the modelled system when a call is made
 pub record System : Type 0 where
   pub tree : Tree
   -- byte b of space s
   pub memory : ℕ → ℕ → ℕ
   pub descriptors : Table
-  -- the process of each number
+  -- the process with each number
   pub processes : ℕ → Process
-  -- whether a process of this number is there and hasn't ended
+  -- whether a process with this number exists and hasn't ended
   pub is_live : ℕ → Bool
-  -- the numbers that the next process, the next space and the next message have
+  -- the numbers of the next process, the next space and the next message
   pub next_process : ℕ
   pub next_space : ℕ
   pub next_number : ℕ
-  -- in the order of their threads
+  -- the held calls whose messages are live, in the order of their threads
   pub held : List HeldCall
 
--- who makes a call, and with what
+-- the caller of a call and the data with which it is made
 pub record Request : Type 0 where
   pub tid : ℕ
   pub pid : ℕ
-  -- the ids that the call is made under
+  -- the ids under which the call is made
   pub ids : Ids
   -- the six registers
   pub regs : List ℕ
@@ -52,30 +52,30 @@ pub record Request : Type 0 where
   -- whether execve keeps the policy that applies
   pub inherit : Bool
 
--- a call's result, what it changes, and the descriptors that there are then
+-- a call's result, its changes, and the descriptors after it
 pub record Outcome : Type 0 where
   pub result : CallResult
   pub changes : List Change
   pub descriptors : Table
 
--- a call that fails, which changes nothing
+-- the outcome of a call that fails, which changes nothing
 abbrev pub failure : System → Errno → Outcome
 failure system errno = record { result = Failed errno; changes = []; descriptors = system.descriptors }
 
--- a call that gives a number, and changes no descriptor
+-- the outcome of a call that returns a number and changes no descriptor
 abbrev pub success : System → ℕ → List Change → Outcome
 success system number changes = record { result = Value number; changes = changes; descriptors = system.descriptors }
 
--- a call that gives a number, and leaves these descriptors
+-- the outcome of a call that returns a number, with these descriptors after it
 abbrev pub success_with_table : ℕ → List Change → Table → Outcome
 success_with_table number changes descriptors = record { result = Value number; changes = changes; descriptors = descriptors }
 
--- the call fails for this reason, if there is one, else it has this outcome
+-- this outcome, unless there is an error, with which the call then fails
 abbrev pub unless_error : System → Option Errno → Outcome → Outcome
 unless_error system None outcome = outcome
 unless_error system (Some errno) outcome = failure system errno
 
--- the call fails for the first reason that is met, else it has this outcome
+-- this outcome, unless there is an error among these, with the first of which the call then fails
 abbrev pub unless_refused : System → List (Option Errno) → Outcome → Outcome
 unless_refused system reasons outcome = unless_error system (first_error reasons) outcome
 

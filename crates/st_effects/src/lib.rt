@@ -1,2 +1,2 @@
-//! What each call gives its thread and what it changes, and how far the arguments of a held call have come: definitions alone.
+//! Definitions of the result and the changes of each call, and of the progress of a held call's arguments.
 #![tactic(auto)]

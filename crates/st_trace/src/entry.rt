@@ -100,7 +100,7 @@ pub enum Entry {
     },
 }
 
-/// How an entered call goes on.
+/// How an entered call continues.
 #[derive(Clone, Copy, Debug, PartialEq, Eq)]
 pub enum Way {
     /// The first filter of its rule permits it plainly, so that it is made at once.

@@ -1,4 +1,4 @@
--- Bytes that are written over others.
+-- Bytes that overwrite other bytes.
 use Rattle.std.proofs.Common.{◌≡◌, ap, sym, ◌∙◌, ℕ, ◌+◌, ◌-◌, ◌<◌, ◌≤◌, List, [], ◌∷◌, ◌++◌, length, take, drop, replicate, append_assoc, inl, inr, arith}
 use Rattle.std.proofs.Math.ListN.{drop_of_length-le}
 use Rattle.std.proofs.Math.Seq.{take-append-add}
@@ -7,14 +7,14 @@ use Rattle.std.proofs.lemmas.List.{append-nil, drop-drop, length-append, length-
 use Rattle.st_model.specs.Tree.{bytes_after_write}
 use borrow.Rule.Slice.PartMut.{put_mid}
 
--- as many bytes are written over, from byte at on
+-- as many bytes are overwritten, from offset `at` on
 pub put_is : (old part new : List ℕ) (at width : ℕ) → width ≡ length part → new ≡ part → put_mid at width old new ≡ take at old ++ part ++ drop (at + length part) old
 put_is old part new at width width_is new_is =
     ap (λ (n : ℕ). put_mid at n old new) width_is ∙ ap (put_mid at (length part) old) new_is
     ∙ ap (λ (rest : List ℕ). take at old ++ (part ++ rest)) (drop-drop (length part) at old)
     ∙ sym (append_assoc (take at old) part (drop (at + length part) old))
 
--- before byte at: what was there, and zeros where there is a gap
+-- before offset `at`: the bytes from before, and zeros for a gap
 front : (before : List ℕ) (at end : ℕ) → at ≤ end → take at (before ++ replicate (end - length before) 0) ≡ take at (before ++ replicate (at - length before) 0)
 front before at end low = elim (cases_lt at (length before)) [
   | inl inside ↦ take-append-le at before (replicate (end - length before) 0) (omega (arith, inside)) ∙ sym (take-append-le at before (replicate (at - length before) 0) (omega (arith, inside)))
@@ -30,7 +30,7 @@ front before at end low = elim (cases_lt at (length before)) [
 zero_length : (zeros : ℕ) → length {A = ℕ} (replicate zeros 0) ≡ zeros
 zero_length zeros = length-replicate zeros 0
 
--- behind the end: what was there
+-- after the end: the bytes from before
 back : (before : List ℕ) (end : ℕ) → drop end (before ++ replicate (end - length before) 0) ≡ drop end before
 back before end = elim (cases_lt end (length before)) [
   | inl inside ↦
@@ -41,7 +41,7 @@ back before end = elim (cases_lt end (length before)) [
       ∙ sym (drop_of_length-le before past)
 ]
 
--- new bytes over those that were filled up to their end, if that lies behind them
+-- new bytes overwrite bytes that were extended with zeros, if needed, up to the end of the new bytes
 pub overwritten_is : (before new long : List ℕ) (at len : ℕ) → 0 < length new → length before ≤ len → len - length before ≡ at + length new - length before → long ≡ take len before ++ replicate (len - length before) 0
     → take at long ++ new ++ drop (at + length new) long ≡ bytes_after_write before at new
 overwritten_is before [] long at len some larger zeros long_is = absurd (omega (arith, some))

@@ -1,4 +1,4 @@
--- What a change of the objects makes of the tree.
+-- How changes of the objects change the tree.
 use Rattle.std.proofs.Common.{◌≡◌, ◌≢◌, ap, refl, sym, ◌∙◌, subst, ℕ, zero, suc, ◌<◌, ◌≤◌, Bool, true, false, List, [], ◌∷◌, ◌++◌, map, length, Option, Some, None, Vec, Global, arith}
 use Rattle.std.proofs.lemmas.Bool.{true≢false}
 use Rattle.std.proofs.lemmas.List.{length-append, length-map, map-append, with_items_is}
@@ -31,7 +31,7 @@ use Rattle.st_model.specs.declared.limits.TheConstants.{MOST_OBJECTS}
 
 -- ---- which objects are directories
 
--- the nodes tell which objects are directories
+-- the nodes determine which objects are directories
 dir_of_node : Option Node → Bool
 dir_of_node None = false
 dir_of_node (Some node) = is_directory node.kind
@@ -58,12 +58,12 @@ same_count old new nodes = sym (length-map new node_of) ∙ ap length nodes ∙ 
 
 -- ---- names that are linked, removed and renamed
 
--- the objects make a tree, and this one
+-- the objects represent this tree
 pub record Makes (objects : List Object) (tree : Tree) : Type 0 where
   pub whole : IsWhole objects
   pub view : tree_of objects ≡ tree
 
--- where no object but its entries changes
+-- changes of entries alone
 module _ (old new : List Object) (whole : IsWhole old) (nodes : map node_of new ≡ map node_of old) where
   pub made_after : (after : ℕ → Entries) (names : List (Components × ℕ)) → ((number : ℕ) → dirs_of new number ≡ after number) → AreDirectories (length old) (is_dir_of old) after → names_under (length old) after 1 ≡ names
       → Makes new (record { names = names; objects = (tree_of old).objects })
@@ -80,12 +80,12 @@ module _ (old new : List Object) (whole : IsWhole old) (nodes : map node_of new 
         view = λ i. record { names = names_are i; objects = nodes i };
       }
 
-  -- no entry changes either
+  -- no entry changes, and the tree stays the same
   pub made_again : ((number : ℕ) → dirs_of new number ≡ dirs_of old number) → Makes new (tree_of old)
   unfolding tree_of
   made_again same = made_after (dirs_of old) (tree_of old).names same whole.directories refl
 
-  -- an object has one more name
+  -- an object gets one more name
   pub made_linked : (name : Components) (holder held : ℕ) → IsFree old name holder → IsNumber old held → is_dir_of old held ≡ false
       → ((number : ℕ) → dirs_of new number ≡ with_entry (dirs_of old) holder (last_part name) held number)
       → Makes new (link_object (tree_of old) name held)
@@ -103,7 +103,7 @@ module _ (old new : List Object) (whole : IsWhole old) (nodes : map node_of new 
         above_root : (held : ℕ) → IsNumber old held → is_dir_of old held ≡ false → 1 < held
         above_root held is plain = above_by held is.0 plain (λ root. true≢false (sym (ap (is_dir_of old) root ∙ whole.directories.root) ∙ plain))
 
-  -- a name is gone
+  -- a name is removed
   pub made_removed : (name : Components) (holder : ℕ) → IsEmpty old name holder
       → ((number : ℕ) → dirs_of new number ≡ without_entry (dirs_of old) holder (last_part name) number)
       → Makes new (remove_name (tree_of old) name)
@@ -115,7 +115,7 @@ module _ (old new : List Object) (whole : IsWhole old) (nodes : map node_of new 
       (directories-removed dirs (parent name) (last_part name) taken.place taken.taken empty.1.1)
       (names-removed dirs (parent name) (last_part name) taken.place taken.taken empty.1.1 ∙ ap (without_name (tree_of old).names) (parent-last_part name taken.named))
 
-  -- an object has another name, in place of what had it
+  -- an object is renamed, and replaces the object with the new name
   pub made_renamed : (name other : Components) (way : RenamePlan) → IsRenamePlan old name other way
       → ((number : ℕ) → dirs_of new number ≡ without_entry (with_entry (dirs_of old) way.to (last_part other) way.obj) way.from (last_part name) number)
       → Makes new (tree_after_rename (tree_of old) name other)
@@ -157,7 +157,7 @@ push_dir : (objects : List Object) (object : Object) (number : ℕ) → number �
 push_dir objects object zero inside = refl
 push_dir objects object (suc before) inside = ap is_dir_at (push_before objects object before (omega (arith, inside)))
 
--- a new object has a new name
+-- a new object is added under a new name
 pub made_added : (old new : List Object) (object : Object) → IsWhole old → length old < MOST_OBJECTS → map node_of new ≡ map node_of old → (name : Components) (holder : ℕ) → IsFree old name holder
     → ((number : ℕ) → dirs_of new number ≡ with_entry (dirs_of old) holder (last_part name) (suc (length old)) number) → entries_of_body object.body ≡ []
     → Makes (new ++ object ∷ []) (add_object (tree_of old) name (node_of object))
@@ -186,9 +186,9 @@ made_added old new object whole room nodes name holder free entries none =
       view = λ i. record { names = names_are i; objects = nodes_are i };
     }
 
--- ---- objects in the place that contains them
+-- ---- objects in the vector that contains them
 
--- the objects are written back into the place that holds them
+-- the objects are written back into their vector
 pub written : (objects : Vec Object Global) (new : List Object) (old tree : Tree) (change : Tree → Tree) → length new ≡ length objects.items → old ≡ tree → Makes new (change old) → Makes (with_items objects new).items (change tree)
 written objects new old tree change count is makes =
     subst (λ (items : List Object). Makes items (change tree)) (sym (with_items_is objects new (count ∙ sym objects.ok.0)))
@@ -203,7 +203,7 @@ written_removed objects found at new tree name holder part whole view found_is a
     (made_removed objects.items new whole nodes_are name holder (subst (λ (os : List Object). IsEmpty os name holder) found_is empty)
     (λ number. entries number ∙ ap (λ (p : List ℕ). without_entry (dirs_of at) holder p number) part_is ∙ ap (λ (os : List Object). without_entry (dirs_of os) holder (last_part name) number) at_is))
 
--- and where nothing changes
+-- the same if nothing changes
 pub written_same : (objects : Vec Object Global) (old at new : List Object) (tree : Tree) → IsWhole old → tree_of old ≡ tree → objects.items ≡ old → at ≡ old → map node_of new ≡ map node_of at → ((number : ℕ) → dirs_of new number ≡ dirs_of at number)
     → Makes (with_items objects new).items tree
 written_same objects old at new tree whole view items at_is nodes dirs =
@@ -212,7 +212,7 @@ written_same objects old at new tree whole view items at_is nodes dirs =
     (made_again old new whole nodes_are (λ number. dirs number ∙ ap (λ (os : List Object). dirs_of os number) at_is))
 
 module _ (object : Object) (node : node_of object ≡ root_node) (none : entries_of_body object.body ≡ []) where
-  -- ---- a tree of the root alone
+  -- ---- the tree with the root alone
 
   no_dirs : (number : ℕ) → dirs_of (object ∷ []) number ≡ []
   no_dirs zero = refl
@@ -230,7 +230,7 @@ module _ (object : Object) (node : node_of object ≡ root_node) (none : entries
   only_root number [] (part ∷ rest) led led_too = absurd (none-some number (sym (leads_nowhere part rest) ∙ led_too))
   only_root number (part ∷ rest) other led led_too = absurd (none-some number (sym (leads_nowhere part rest) ∙ led))
 
-  -- the root alone
+  -- the root alone represents the tree `root_only`
   pub root_tree : Makes (object ∷ []) root_only
   unfolding tree_of IsStrictlySortedBy
   root_tree =

@@ -1,4 +1,4 @@
--- A directory's entries, as its index keeps them and in the order of their components.
+-- A directory's entries, as its index stores them and sorted by component.
 use Rattle.std.proofs.Common.{◌≡◌, ◌∙◌, ap, refl, sym, ℕ, zero, suc, ◌+◌, arith, Bool, drop, true, false, cond, List, [], ◌∷◌, length, Some, None, Option, Vec, Global}
 use Rattle.std.proofs.lemmas.Cmp.{eq_by_cmp_equiv, nat_list_cmp_total, nat_list_eq_equiv, on_equiv}
 use Rattle.std.proofs.lemmas.Map.{lookup-none, lookup-remove_entry}
@@ -22,7 +22,7 @@ use Rattle.st_model.proofs.Ordered.{same_sorted, sorted-insert_entry, sorted-rem
 use Rattle.st_tree.specs.Objects.{KeptEntries, sorted_entries}
 use Rattle.st_tree.specs.Paths.{Entries}
 
--- how the index looks a component up
+-- how the index looks up a component
 abbrev pub is_key : List ℕ → Vec ℕ Global → Bool
 is_key part key = bytes_eq part key.items
 
@@ -32,14 +32,14 @@ same_key key other = bytes_eq key.items other.items
 same_key-laws : IsEquivalence same_key
 same_key-laws = on_equiv (λ (key : Vec ℕ Global). key.items) nat_list_eq_equiv
 
--- a component is found among the entries in order as the index finds it
+-- a lookup of a component among the sorted entries finds what the index finds
 pub lookup-sorted : (part : List ℕ) (held : KeptEntries) → lookup (is_at (slice_cmp nat_cmp part)) (sorted_entries held) ≡ lookup (is_key part) held
 lookup-sorted part [] = refl
 lookup-sorted part (entry ∷ held) =
     lookup-insert_entry nat_list_cmp_total entry.0.items entry.1 part (sorted_entries held)
     ∙ (λ i. cond (sym (texts_ties part entry.0.items) i) (Some entry.1) (lookup-sorted part held i))
 
--- an entry of another component is passed over
+-- an entry of another component is skipped
 pub passed : (part : List ℕ) (held : KeptEntries) (place : ℕ) (entry : Vec ℕ Global × ℕ) → slice_get held place ≡ Some entry → bytes_eq part entry.0.items ≡ false → lookup (is_key part) (drop place held) ≡ lookup (is_key part) (drop (place + 1) held)
 passed part [] zero entry here apart = absurd (cc)
 passed part [] (suc place) entry here apart = absurd (cc)
@@ -51,13 +51,13 @@ passed part (first ∷ held) (suc place) entry here apart =
     let next : suc place + 1 ≡ suc (place + 1) = omega arith in
     passed part held place entry here apart ∙ ap (λ (n : ℕ). lookup (is_key part) (drop n (first ∷ held))) (sym next)
 
--- they are in order, each component once
+-- the sorted entries are in order, each component once
 pub sorted-sorted_entries : (held : KeptEntries) → IsStrictlySortedBy (slice_cmp nat_cmp) (keys_of (sorted_entries held))
 unfolding IsStrictlySortedBy
 sorted-sorted_entries [] = tt
 sorted-sorted_entries (entry ∷ held) = sorted-insert_entry (slice_cmp nat_cmp) nat_list_cmp_total (sorted_entries held) entry.0.items entry.1 (sorted-sorted_entries held)
 
--- ---- how many there are
+-- ---- the number of entries
 
 length-insert_new : (part : List ℕ) (number : ℕ) (entries : Entries) → lookup (is_at (slice_cmp nat_cmp part)) entries ≡ None → length (insert_entry (slice_cmp nat_cmp) entries part number) ≡ suc (length entries)
 length-insert_new part number [] none = refl
@@ -69,7 +69,7 @@ length-insert_new part number (entry ∷ entries) none = by (slice_cmp nat_cmp p
   by Equal none more = cc
   by Greater none more = ap suc (more none)
 
--- as many as the index holds, whose keys differ
+-- there are as many sorted entries as the index has, since its keys differ
 pub length-sorted_entries : (held : KeptEntries) → IsDistinct same_key (keys_of held) → length (sorted_entries held) ≡ length held
 length-sorted_entries [] distinct = refl
 length-sorted_entries (entry ∷ held) distinct =
@@ -79,7 +79,7 @@ length-sorted_entries (entry ∷ held) distinct =
 
 -- ---- after a change
 
--- the index has this for a component now, and for each other one what it had
+-- the index has this for a component now, and doesn't change for any other component
 module _ (part : List ℕ) (now : Option ℕ) (old new : KeptEntries) (here : lookup (is_key part) new ≡ now) (others : KeepsOthers same_key (is_key part) old new) where
   found_after : (other : List ℕ) → lookup (is_key other) new ≡ cond (bytes_eq part other) now (lookup (is_key other) old)
   unfolding KeepsOthers
@@ -90,7 +90,7 @@ module _ (part : List ℕ) (now : Option ℕ) (old new : KeptEntries) (here : lo
         others (is_key other) (λ key third. nat_list_eq_equiv.congr other key.items third.items)
         (λ key at. ap (bytes_eq other) (sym ((bytes_eq-Decides part key.items).0 at)) ∙ nat_list_eq_equiv.symm other part ∙ apart)
 
-  -- entries in order in which the same is found are those of the index in order
+  -- sorted entries in which lookups find the same are the sorted entries of the index
   sorted_after : (entries : Entries) → IsStrictlySortedBy (slice_cmp nat_cmp) (keys_of entries)
       → ((other : List ℕ) → lookup (is_at (slice_cmp nat_cmp other)) entries ≡ cond (bytes_eq part other) now (lookup (is_at (slice_cmp nat_cmp other)) (sorted_entries old)))
       → sorted_entries new ≡ entries
@@ -98,7 +98,7 @@ module _ (part : List ℕ) (now : Option ℕ) (old new : KeptEntries) (here : lo
       same_sorted (slice_cmp nat_cmp) nat_list_cmp_total exact_bytes (sorted_entries new) entries (sorted-sorted_entries new) sorted
       (λ other. lookup-sorted other new ∙ found_after other ∙ ap (cond (bytes_eq part other) now) (sym (lookup-sorted other old)) ∙ sym (alike other))
 
--- what is put into the index is put among the entries in order
+-- an insertion into the index is an insertion into the sorted entries
 pub sorted-put : (part : List ℕ) (number : ℕ) (old new : KeptEntries) → lookup (is_key part) new ≡ Some number → KeepsOthers same_key (is_key part) old new → sorted_entries new ≡ insert_entry (slice_cmp nat_cmp) (sorted_entries old) part number
 sorted-put part number old new here others =
     sorted_after part (Some number) old new here others (insert_entry (slice_cmp nat_cmp) (sorted_entries old) part number)
@@ -106,7 +106,7 @@ sorted-put part number old new here others =
     (λ other. lookup-insert_entry nat_list_cmp_total part number other (sorted_entries old)
     ∙ ap (λ (b : Bool). cond b (Some number) (lookup (is_at (slice_cmp nat_cmp other)) (sorted_entries old))) (sym (texts_ties other part) ∙ nat_list_eq_equiv.symm other part))
 
--- what is taken out of the index is taken out of the entries in order
+-- a removal from the index is a removal from the sorted entries
 pub sorted-taken : (part : List ℕ) (old new : KeptEntries) → lookup (is_key part) new ≡ None → KeepsOthers same_key (is_key part) old new → sorted_entries new ≡ remove_entry (is_at (slice_cmp nat_cmp part)) (sorted_entries old)
 sorted-taken part old new here others =
     let test : List ℕ → Bool = is_at (slice_cmp nat_cmp part) in

@@ -1,4 +1,4 @@
--- The names that directories give: which object each reaches, and how they stand.
+-- The names that directories form: the object to which each name leads, and their order.
 use Rattle.std.proofs.Common.{◌≡◌, ◌≢◌, ◌∙◌, ap, refl, sym, subst, ℕ, zero, suc, ◌+◌, ◌-◌, ◌≤◌, ◌<◌, Bool, true, false, ◌&&◌, cond, if◌then◌else◌, List, [], ◌∷◌, ◌++◌, length, drop, take, map, flat_map, bytes_eq, Option, Some, None, option_and_then, unwrap_or, arith, get_or, eqb, ne_eqb, zero-add, All, ⊎_elim, length-drop, take-append-drop, length-take-le, filter, take_at, take_all, eqb-true, eq-eqb}
 use Rattle.std.proofs.lemmas.Bool.{cases_lt, false≢true, true_from_ne_false, false_from_ne_true}
 use Rattle.std.proofs.lemmas.Cmp.{eq_by_cmp_equiv, nat_list_cmp_total, nat_list_eq_equiv, tied_itself}
@@ -28,11 +28,11 @@ use Rattle.st_model.proofs.Objects.{is_same_name-Decides}
 use Rattle.st_model.proofs.Ordered.{lookup-append, lookup-map_keys, lookup_never, keys_of-filter, lookup_agree, same_names, sorted-map_keys}
 use Rattle.st_tree.specs.Paths.{AreDirectories, Entries, dir_entry, object_from, names_under}
 
--- each directory's entries stand in the order of their names
+-- each directory's entries are sorted by component
 abbrev AreSorted : (ℕ → Entries) → Type 0
 AreSorted dirs = (number : ℕ) → IsStrictlySortedBy (slice_cmp nat_cmp) (keys_of (dirs number))
 
--- names behind a component
+-- names after a component
 abbrev behind : List ℕ → List (Components × ℕ) → List (Components × ℕ)
 behind part names = map (λ named. (part ∷ named.0, named.1)) names
 
@@ -40,7 +40,7 @@ behind part names = map (λ named. (part ∷ named.0, named.1)) names
 abbrev names_from : ℕ → (ℕ → Entries) → ℕ → List (Components × ℕ)
 names_from depth dirs from = ([], from) ∷ names_under depth dirs from
 
--- ---- which object a name reaches
+-- ---- the object to which a name leads
 
 number-behind : (part : List ℕ) (names : List (Components × ℕ)) (other : List ℕ) (rest : Components) → number_of_name (behind part names) (other ∷ rest) ≡ (if bytes_eq part other then number_of_name names rest else None)
 number-behind part names other rest = lookup-map_keys (λ name. part ∷ name) (λ name. is_same_name name (other ∷ rest)) names ∙ by (bytes_eq part other) where
@@ -55,7 +55,7 @@ option_or-None : {A : Type 0} (o : Option A) → option_or o None ≡ o
 option_or-None None = refl
 option_or-None (Some x) = refl
 
--- among names that stand behind the entries of a directory, a name goes on from the entry of its first component
+-- among the names after the entries of a directory, a name has the number that its rest has after the entry of its first component
 number-flat_map : (f : ℕ → List (Components × ℕ)) (es : Entries) (part : List ℕ) (rest : Components) → IsStrictlySortedBy (slice_cmp nat_cmp) (keys_of es) → number_of_name (flat_map (λ held. behind held.0 (f held.1)) es) (part ∷ rest) ≡ option_and_then (λ number. number_of_name (f number) rest) (lookup (is_at (slice_cmp nat_cmp part)) es)
 number-flat_map f [] part rest sorted = refl
 number-flat_map f (e ∷ es) part rest sorted =
@@ -87,15 +87,15 @@ number_beyond (suc depth) dirs from (part ∷ rest) sorted long =
       none None = refl
       none (Some number) = refl
 
--- a name that is no longer than the depth has the number of the object that it reaches
+-- a name that is no longer than the depth has the number of the object to which it leads
 pub number-names_under : (depth : ℕ) (dirs : ℕ → Entries) (from : ℕ) (part : List ℕ) (rest : Components) → AreSorted dirs → length (part ∷ rest) ≤ depth → number_of_name (names_under depth dirs from) (part ∷ rest) ≡ object_from dirs from (part ∷ rest)
 number-names_under depth dirs from part rest = number_from depth dirs from (part ∷ rest)
 
--- a longer name has none
+-- a longer name has no number
 pub no_number_beyond : (depth : ℕ) (dirs : ℕ → Entries) (from : ℕ) (part : List ℕ) (rest : Components) → AreSorted dirs → depth < length (part ∷ rest) → number_of_name (names_under depth dirs from) (part ∷ rest) ≡ None
 no_number_beyond depth dirs from part rest = number_beyond depth dirs from (part ∷ rest)
 
--- ---- how the names stand
+-- ---- the order of the names
 
 module _ (P : Components → Type 0) where
   all_behind : (part : List ℕ) (names rest : List (Components × ℕ)) → AllByRecursion (λ name. P (part ∷ name)) (keys_of names) → AllByRecursion P (keys_of rest) → AllByRecursion P (keys_of (behind part names ++ rest))
@@ -107,11 +107,11 @@ module _ (P : Components → Type 0) where
   all_joined Q leads_on f (e ∷ es) h =
       all_behind e.0 (f e.1) _ (recursion_from_All _ (keys_of (f e.1)) (λ k d _. leads_on e.0 _ h.0)) (all_joined Q leads_on f es h.1)
 
--- names behind a component stand as they did
+-- names after a component keep their order
 after_keeps : (part : List ℕ) (name other : Components) → compare_names (part ∷ name) (part ∷ other) ≡ compare_names name other
 after_keeps part name other = rw (tied_itself nat_list_cmp_total part) refl
 
--- names behind a component stand before those that begin with a later one
+-- names after a component come before names that begin with a later component
 ordered_after : (part : List ℕ) (names rest : List (Components × ℕ)) → IsOrdered names → AllByRecursion (λ name. (more : Components) → compare_names (part ∷ more) name ≡ Less) (keys_of rest) → IsOrdered rest → IsOrdered (behind part names ++ rest)
 unfolding IsStrictlySortedBy
 ordered_after part [] rest h after g = g
@@ -138,7 +138,7 @@ ordered_from (suc depth) dirs from sorted = (
   ordered_joined (names_from depth dirs) (λ number. ordered_from depth dirs number sorted) (dirs from) (sorted from),
 )
 
--- the names stand in their order
+-- the names are in order
 pub ordered_names_under : (depth : ℕ) (dirs : ℕ → Entries) (from : ℕ) → AreSorted dirs → IsOrdered (names_under depth dirs from)
 ordered_names_under depth dirs from sorted = sorted_tail compare_names [] (keys_of (names_under depth dirs from)) (ordered_from depth dirs from sorted)
 
@@ -148,13 +148,13 @@ below_root_names_under depth dirs from sorted =
     All-weaker (λ name. compare_names [] name ≡ Less) (λ name. name ≢ []) (λ name less root. let at : compare_names [] [] ≡ Less = ap (compare_names []) (sym root) ∙ less in cc) (keys_of (names_under depth dirs from))
     (All-from_recursion _ _ (sorted_head compare_names [] (keys_of (names_under depth dirs from)) (ordered_from depth dirs from sorted)))
 
--- directories that are equal each give the same names
+-- equal entries of each directory form the same names
 pub same_names_under : (dirs others : ℕ → Entries) → ((number : ℕ) → dirs number ≡ others number) → (depth from : ℕ) → names_under depth dirs from ≡ names_under depth others from
 same_names_under dirs others same depth from = λ i. names_under depth (λ number. same number i) from
 
 -- ---- the depth is enough
 
--- a name in two parts goes on from the object that its first part reaches
+-- a name in two parts leads on from the object to which its first part leads
 pub leads-append : (dirs : ℕ → Entries) (from : ℕ) (name more : Components) → object_from dirs from (name ++ more) ≡ option_and_then (λ number. object_from dirs number more) (object_from dirs from name)
 leads-append dirs from [] more = refl
 leads-append dirs from (part ∷ rest) more = by (dir_entry dirs from part) (λ number. leads-append dirs number rest more) where
@@ -162,7 +162,7 @@ leads-append dirs from (part ∷ rest) more = by (dir_entry dirs from part) (λ 
   by None behind = refl
   by (Some number) behind = behind number
 
--- so many numbers below a bound that all differ are no more than the bound
+-- if `n` numbers below a bound all differ, `n` is at most the bound
 differing_below : (f : ℕ → ℕ) (n bound : ℕ) → ((k : ℕ) → k < n → f k < bound) → ((i j : ℕ) → i < j → j < n → f i ≢ f j) → n ≤ bound
 differing_below f n bound below apart =
     let long : length (map f (range_with_len 0 n)) ≡ n = length-map-range_with_len f 0 n in
@@ -179,18 +179,18 @@ module _ (count : ℕ) (is_dir : ℕ → Bool) (dirs : ℕ → Entries) (law : A
   numbered_from from (part ∷ rest) number h is =
       option_and_then_some (λ held. object_from dirs held rest) (dir_entry dirs from part) number is (λ held here on. let given = law.numbered from part held here in numbered_from held rest number (omega arith) on)
 
-  -- what a name reaches has a number that was given
+  -- the number to which a name leads is that of an object
   pub reached_numbered : (name : Components) (number : ℕ) → object_from dirs 1 name ≡ Some number → (1 ≤ number) × (number ≤ count)
   reached_numbered name number = numbered_from 1 name number (omega (arith, law.made))
 
-  -- what has an entry is a directory
+  -- an object with an entry is a directory
   pub entry_in_directory : (number : ℕ) (part : List ℕ) (held : ℕ) → dir_entry dirs number part ≡ Some held → is_dir number ≡ true
   entry_in_directory number part held here =
       true_from_ne_false (is_dir number) (λ other.
       let bare : dirs number ≡ [] = law.only number (λ yes. false≢true (sym other ∙ yes)) in
       none-some held (sym (ap (lookup (is_at (slice_cmp nat_cmp part))) bare) ∙ here))
 
-  -- a proper prefix of a name that reaches something reaches a directory
+  -- a proper prefix of a name that leads to an object leads to a directory
   prefix_reaches : (name : Components) (last k : ℕ) → object_from dirs 1 name ≡ Some last → k < length name → (number : ℕ) × (object_from dirs 1 (take k name) ≡ Some number) × (is_dir number ≡ true)
   prefix_reaches name last k is within = by (drop k name) refl where
     by : (rest : Components) → drop k name ≡ rest → (number : ℕ) × (object_from dirs 1 (take k name) ≡ Some number) × (is_dir number ≡ true)
@@ -201,7 +201,7 @@ module _ (count : ℕ) (is_dir : ℕ → Bool) (dirs : ℕ → Entries) (law : A
         option_and_then_some (λ number. object_from dirs number (part ∷ rest)) (object_from dirs 1 (take k name)) last whole (λ number here on.
         option_and_then_some (λ held. object_from dirs held rest) (dir_entry dirs number part) last on (λ held there _. (number, here, entry_in_directory number part held there)))
 
-  -- a name that reaches something is no longer than there are objects
+  -- a name that leads to an object has at most as many components as there are objects
   pub name_within : (name : Components) (number : ℕ) → object_from dirs 1 name ≡ Some number → length name ≤ count
   name_within name last is =
       differing_below (λ k. unwrap_or (object_from dirs 1 (take k name)) 0 - 1) (length name) count
@@ -216,7 +216,7 @@ module _ (count : ℕ) (is_dir : ℕ → Bool) (dirs : ℕ → Entries) (law : A
       let prefixes : take i name ≡ take j name = law.single a.0 (take i name) (take j name) a.2 a.1 (b.1 ∙ ap Some (sym one)) in
       omega (arith, ap length prefixes, length-take-le i name (omega arith), length-take-le j name (omega arith)))
 
-  -- each name has the number of the object that it reaches
+  -- each name has the number of the object to which it leads
   pub number-names : (part : List ℕ) (rest : Components) → number_of_name (names_under count dirs 1) (part ∷ rest) ≡ object_from dirs 1 (part ∷ rest)
   number-names part rest = ⊎_elim
       (λ long. no_number_beyond count dirs 1 part rest law.sorted long ∙ sym (none (object_from dirs 1 (part ∷ rest)) refl long))
@@ -226,14 +226,14 @@ module _ (count : ℕ) (is_dir : ℕ → Bool) (dirs : ℕ → Entries) (law : A
         none None is long = refl
         none (Some number) is long = absurd (omega (arith, name_within (part ∷ rest) number is))
 
-  -- and so it has in a tree with these names
+  -- the same for the names of a tree
   pub object_reached : (tree : Tree) → tree.names ≡ names_under count dirs 1 → (name : Components) → object_of tree name ≡ object_from dirs 1 name
   object_reached tree is [] = refl
   object_reached tree is (part ∷ rest) = ap (λ names. number_of_name names (part ∷ rest)) is ∙ number-names part rest
 
--- ---- how many entries a directory has
+-- ---- the number of entries of a directory
 
--- a name with one more component reaches an entry of what the name reaches
+-- a name with one more component leads to that component's entry in the object to which the name leads
 pub leads_last : (dirs : ℕ → Entries) (from : ℕ) (name : Components) (last : List ℕ) → object_from dirs from (name ++ last ∷ []) ≡ option_and_then (λ number. dir_entry dirs number last) (object_from dirs from name)
 leads_last dirs from name last = leads-append dirs from name (last ∷ []) ∙ (λ i. option_and_then (λ number. itself (dir_entry dirs number last) i) (object_from dirs from name)) where
   itself : (o : Option ℕ) → option_and_then (λ number. Some number) o ≡ o
@@ -275,14 +275,14 @@ module _ (count : ℕ) (is_dir : ℕ → Bool) (dirs : ℕ → Entries) (law : A
   abbrev all_names : List (Components × ℕ)
   all_names = names_under count dirs 1
 
-  -- whether a name stands in the directory with the number
+  -- whether a name's parent is the directory with this number
   abbrev is_held : Components → Bool
   is_held name = is_number number (object_from dirs 1 (parent name))
 
   abbrev held_names : List (Components × ℕ)
   held_names = filter (λ named. is_held named.0) all_names
 
-  -- the directory's entries as names behind its name
+  -- the directory's entries as names, each after the directory's name
   abbrev entry_names : Components → List (Components × ℕ)
   entry_names name = map (λ held. (name ++ held.0 ∷ [], held.1)) (dirs number)
 
@@ -307,14 +307,14 @@ module _ (count : ℕ) (is_dir : ℕ → Bool) (dirs : ℕ → Entries) (law : A
       All-cons (λ other. other ≢ []) (name ++ e.0 ∷ []) (keys_of (map (λ held. (name ++ held.0 ∷ [], held.1)) es))
       (λ root. absurd (omega (arith, length_push name e.0, ap length root))) (below_root_entries name es)
 
-  -- under the names of the entries of a directory, another name of the directory finds the same entries
+  -- among the names of a directory's entries, a lookup by another name of the directory finds the same entries
   entry_found : (name other : Components) (last : List ℕ) → object_from dirs 1 name ≡ Some number → object_from dirs 1 other ≡ Some number → lookup (λ part. is_same_name (name ++ part ∷ []) (other ++ last ∷ [])) (dirs number) ≡ dir_entry dirs number last
   entry_found name other last here there = by (is_dir number) refl where
     by : (b : Bool) → is_dir number ≡ b → lookup (λ part. is_same_name (name ++ part ∷ []) (other ++ last ∷ [])) (dirs number) ≡ dir_entry dirs number last
     by true dir = rw (law.single number other name dir there here) (λ i. lookup (λ part. same_last name part last i) (dirs number))
     by false other_kind = rw (law.only number (λ dir. false≢true (sym other_kind ∙ dir))) refl
 
-  -- the names that stand in a directory are its entries
+  -- the names whose parent is a directory are its entries
   held_are_entries : (name : Components) → object_from dirs 1 name ≡ Some number → held_names ≡ entry_names name
   held_are_entries name there =
       same_names held_names (entry_names name) ordered_held (sorted-map_keys (slice_cmp nat_cmp) compare_names (λ part. name ++ part ∷ []) (last_rises name) (dirs number) (law.sorted number)) below_root_held (below_root_entries name (dirs number))
@@ -334,7 +334,7 @@ module _ (count : ℕ) (is_dir : ℕ → Bool) (dirs : ℕ → Entries) (law : A
   number_last [] last = number-names count is_dir dirs law last []
   number_last (part ∷ rest) last = number-names count is_dir dirs law part (rest ++ last ∷ [])
 
-  -- a directory in which no name stands has no entries
+  -- a directory that is the parent of no name has no entries
   bare : held_names ≡ [] → dirs number ≡ []
   bare none = by (dirs number) refl where
     by : (es : Entries) → dirs number ≡ es → es ≡ []
@@ -346,7 +346,7 @@ module _ (count : ℕ) (is_dir : ℕ → Bool) (dirs : ℕ → Entries) (law : A
         number_last name e.0 ∙ leads_last dirs 1 name e.0 ∙ ap (option_and_then (λ other. dir_entry dirs other e.0)) there ∙ first in
         none-some e.1 (sym (ap (λ names. number_of_name names (name ++ e.0 ∷ [])) none) ∙ found))
 
-  -- a directory has as many names as entries
+  -- the number of names whose parent is a directory is the number of its entries
   pub entries_counted : (tree : Tree) → tree.names ≡ names_under count dirs 1 → entry_count tree number ≡ length (dirs number)
   entries_counted tree is = (λ i. length (filter (λ named. is_number number (object_reached count is_dir dirs law tree is (parent named.0) i)) (is i))) ∙ by held_names refl where
     by : (held : List (Components × ℕ)) → held_names ≡ held → length held_names ≡ length (dirs number)

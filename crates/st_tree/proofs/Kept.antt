@@ -1,4 +1,4 @@
--- Kinds that stay, and the node of a new object.
+-- Changes that keep the kinds of objects, and the node of a new object.
 use Rattle.std.proofs.Common.{◌≡◌, ap, sym, ◌∙◌, ℕ, suc, ◌-◌, ◌<◌, List, [], ◌∷◌, ◌++◌, length, get_or, set, inl, inr, arith}
 use Rattle.std.proofs.Math.Seq.{get_or-append_seam}
 use Rattle.std.proofs.lemmas.Bool.{cases_eq}
@@ -11,7 +11,7 @@ use Rattle.st_tree.specs.Refusals.{IsMade}
 pub kinds_same : (old new : Tree) → new ≡ old → KeepsKinds old new
 kinds_same old new is = (ap (λ (t : Tree). length t.objects) is, λ number. ap (λ (t : Tree). (node_with_number t number).kind) is)
 
--- an object becomes another of its kind
+-- an object is replaced by an object of the same kind
 pub kinds_kept : (old new : Tree) (number : ℕ) (node : Node) → IsMade old number → node.kind ≡ (node_with_number old number).kind → new ≡ with_node old number node → KeepsKinds old new
 kinds_kept old new number node made kind is =
     let objects : List Node = old.objects in

@@ -1,4 +1,4 @@
--- Where names lead after one entry of one directory was put or taken.
+-- Where names lead after one entry of one directory is inserted or removed.
 use Rattle.std.proofs.Common.{◌≡◌, ◌≢◌, ⊎_elim, ◌≤◌, ◌<◌, ap, refl, sym, ◌∙◌, subst, ℕ, suc, Bool, true, false, if◌then◌else◌, List, [], ◌∷◌, ◌++◌, length, drop, Option, Some, None, option_and_then, arith}
 use Rattle.std.proofs.lemmas.Bool.{both_ways, cases_eq, cases_lt, cases_Bool, cond-true, cond-false, false_from_ne_true}
 use Rattle.std.proofs.lemmas.List.{append-nil, append_cancel_left}
@@ -17,7 +17,7 @@ use Rattle.st_tree.specs.Paths.{Entries, AreDirectories, dir_entry, object_from,
 
 -- ---- where names lead
 
--- one entry has another object or none now; what it had and what it has hold nothing
+-- one entry has another object or none now; its object before and its object now have no entries
 pub record OneEntry (dirs others : ℕ → Entries) (holder : ℕ) (part : List ℕ) (now : Option ℕ) : Type 0 where
   pub kept : (number : ℕ) → number ≢ holder → others number ≡ dirs number
   pub apart : (number : ℕ) (q : List ℕ) → (number ≡ holder → q ≡ part → ⊥) → dir_entry others number q ≡ dir_entry dirs number q
@@ -26,7 +26,7 @@ pub record OneEntry (dirs others : ℕ → Entries) (holder : ℕ) (part : List 
   pub is_bare : (number : ℕ) → now ≡ Some number → others number ≡ []
 
 module _ {count : ℕ} {is_dir : ℕ → Bool} {dirs others : ℕ → Entries} (are : AreDirectories count is_dir dirs) (place : Components) {holder : ℕ} {part : List ℕ} {now : Option ℕ} (reach : object_from dirs 1 place ≡ Some holder) (dir : is_dir holder ≡ true) (one : OneEntry dirs others holder part now) where
-  -- a name that doesn't begin with the entry's leads where it led
+  -- a name that doesn't have the entry's name as a prefix leads where it led before
   pub leads_elsewhere : (name : Components) → is_prefix (place ++ part ∷ []) name ≡ false → object_from others 1 name ≡ object_from dirs 1 name
   leads_elsewhere name outside = leads_alike dirs others 1 name (λ front q back number split there.
       one.apart number q (λ at same.
@@ -37,13 +37,13 @@ module _ {count : ℕ} {is_dir : ℕ → Bool} {dirs others : ℕ → Entries} (
   pub reach_kept : object_from others 1 place ≡ Some holder
   reach_kept = leads_elsewhere place (ap (λ (a : Components). is_prefix a place) (sym (append-nil (place ++ part ∷ []))) ∙ longer_apart place part []) ∙ reach
 
-  -- a name that begins with the entry's leads on from what it has now
+  -- a name with the entry's name as a prefix leads on from the entry's object now
   pub leads_behind : (rest : Components) → object_from others 1 ((place ++ part ∷ []) ++ rest) ≡ option_and_then (λ number. object_from others number rest) now
   leads_behind rest =
       ap (object_from others 1) (append-end place part rest) ∙ leads_on others 1 holder place (part ∷ rest) reach_kept
       ∙ ap (option_and_then (λ number. object_from others number rest)) one.here
 
-  -- a name has what the entry has now if it is the entry's, and else leads where it led
+  -- the entry's own name leads to the entry's object now, and any other name leads where it led before
   pub leads_one : (name : Components) → object_from others 1 name ≡ (if is_same_name (place ++ part ∷ []) name then now else object_from dirs 1 name)
   leads_one name = ⊎_elim behind outside (cases_Bool (is_prefix (place ++ part ∷ []) name)) where
     outside : is_prefix (place ++ part ∷ []) name ≡ false → object_from others 1 name ≡ (if is_same_name (place ++ part ∷ []) name then now else object_from dirs 1 name)
@@ -66,12 +66,12 @@ module _ {count : ℕ} {is_dir : ℕ → Bool} {dirs others : ℕ → Entries} (
     behind : is_prefix (place ++ part ∷ []) name ≡ true → object_from others 1 name ≡ (if is_same_name (place ++ part ∷ []) name then now else object_from dirs 1 name)
     behind within = by (drop (length (place ++ part ∷ [])) name) (begins_rest (place ++ part ∷ []) name within)
 
-  -- what a number of the old ones is, it stays; what the entry has now is numbered, and a directory only if no name reached it
+  -- the objects with old numbers keep their kinds; the entry's object now has a number, and is a directory only if no name led to it
   module _ {more : ℕ} {is_dir_now : ℕ → Bool} (at_least : count ≤ more) (alike : (number : ℕ) → number ≤ count → is_dir_now number ≡ is_dir number)
       (in_order : IsStrictlySortedBy (slice_cmp nat_cmp) (keys_of (others holder)))
       (numbers : (number : ℕ) → now ≡ Some number → (1 < number) × (number ≤ more))
       (fresh : (number : ℕ) → now ≡ Some number → is_dir_now number ≡ true → (name : Components) → object_from dirs 1 name ≢ Some number) where
-    -- ---- what stays of directories
+    -- ---- `AreDirectories` after the change
 
     low : holder ≤ count
     low = (reached_numbered _ _ _ are place holder reach).1
@@ -113,7 +113,7 @@ module _ {count : ℕ} {is_dir : ℕ → Bool} {dirs others : ℕ → Entries} (
         (cases_Bool (is_same_name (place ++ part ∷ []) name))))
         (has_or_not (dir_entry dirs holder part) number)
 
-    -- so the directories stay directories
+    -- the entries still form a tree
     pub directories_one : AreDirectories more is_dir_now others
     directories_one = record {
       root = alike 1 are.made ∙ are.root;
@@ -128,9 +128,9 @@ module _ {count : ℕ} {is_dir : ℕ → Bool} {dirs others : ℕ → Entries} (
       lost = lost_one;
     }
 
--- ---- entries that are put
+-- ---- entries that are inserted
 
--- an object without entries gets a name that led nowhere
+-- an object without entries gets a name that led to no object
 bare_put : (dirs : ℕ → Entries) (holder : ℕ) (part : List ℕ) (held : ℕ) → dir_entry dirs holder part ≡ None → held ≢ holder → dirs held ≡ [] → OneEntry dirs (with_entry dirs holder part held) holder part (Some held)
 bare_put dirs holder part held absent differs bare = record {
   kept = with_entry_apart dirs holder part held;
@@ -145,11 +145,11 @@ module _ {count : ℕ} {is_dir : ℕ → Bool} {dirs : ℕ → Entries} (are : A
     added : OneEntry dirs (with_entry dirs holder part (suc count)) holder part (Some (suc count))
     added = bare_put dirs holder part (suc count) absent (λ same. let low : holder ≤ count = (reached_numbered _ _ _ are place holder reach).1 in omega arith) (unmade are (suc count) (λ low. omega arith))
 
-    -- a new object has its name, and each other name what it had
+    -- a new object has its name, and each other name leads where it led before
     pub leads-added : (name : Components) → object_from (with_entry dirs holder part (suc count)) 1 name ≡ (if is_same_name (place ++ part ∷ []) name then Some (suc count) else object_from dirs 1 name)
     leads-added = leads_one are place reach dir added
 
-    -- directories with a new object in one are directories, whatever it is
+    -- the entries form a tree after a new object of any kind is added
     pub directories-added : {is_dir_now : ℕ → Bool} → ((number : ℕ) → number ≤ count → is_dir_now number ≡ is_dir number) → AreDirectories (suc count) is_dir_now (with_entry dirs holder part (suc count))
     directories-added alike = directories_one are place reach dir added (omega arith) alike
         (sorted-with_entry dirs holder part (suc count) holder (are.sorted holder))
@@ -160,11 +160,11 @@ module _ {count : ℕ} {is_dir : ℕ → Bool} {dirs : ℕ → Entries} (are : A
       linked : OneEntry dirs (with_entry dirs holder part held) holder part (Some held)
       linked = bare_put dirs holder part held absent (λ same. plain (ap is_dir same ∙ dir)) (are.only held plain)
 
-      -- an object that is no directory has one more name
+      -- an object that is no directory gets one more name
       pub leads-linked : (name : Components) → object_from (with_entry dirs holder part held) 1 name ≡ (if is_same_name (place ++ part ∷ []) name then Some held else object_from dirs 1 name)
       leads-linked = leads_one are place reach dir linked
 
-      -- directories stay directories
+      -- the entries still form a tree
       pub directories-linked : AreDirectories count is_dir (with_entry dirs holder part held)
       directories-linked = directories_one are place reach dir linked (omega arith) (λ number inside. refl)
           (sorted-with_entry dirs holder part held holder (are.sorted holder))
@@ -172,7 +172,7 @@ module _ {count : ℕ} {is_dir : ℕ → Bool} {dirs : ℕ → Entries} (are : A
           (λ number is d name led. let same : held ≡ number = cc in absurd (plain (ap is_dir same ∙ d)))
 
   module _ {held : ℕ} (has : dir_entry dirs holder part ≡ Some held) (bare : dirs held ≡ []) where
-    -- ---- entries that are taken
+    -- ---- entries that are removed
 
     removed : OneEntry dirs (without_entry dirs holder part) holder part None
     removed = record {
@@ -183,11 +183,11 @@ module _ {count : ℕ} {is_dir : ℕ → Bool} {dirs : ℕ → Entries} (are : A
       is_bare = λ number is. cc;
     }
 
-    -- a name leads nowhere, and each other name where it led
+    -- the removed name leads to no object, and each other name leads where it led before
     pub leads-removed : (name : Components) → object_from (without_entry dirs holder part) 1 name ≡ (if is_same_name (place ++ part ∷ []) name then None else object_from dirs 1 name)
     leads-removed = leads_one are place reach (entry_in_directory _ _ _ are holder part held has) removed
 
-    -- directories stay directories
+    -- the entries still form a tree
     pub directories-removed : AreDirectories count is_dir (without_entry dirs holder part)
     directories-removed = directories_one are place reach (entry_in_directory _ _ _ are holder part held has) removed (omega arith) (λ number inside. refl)
         (sorted-without_entry dirs holder part holder (are.sorted holder))

@@ -1,4 +1,4 @@
--- The names that directories give after an object was added, linked, removed or renamed.
+-- The names that directories form after an object is added, linked, removed or renamed.
 use Rattle.std.proofs.Common.{◌≡◌, ◌≢◌, ◌≤◌, ◌<◌, ap, refl, sym, ◌∙◌, ℕ, suc, Bool, true, false, cond, if◌then◌else◌, List, [], ◌∷◌, ◌++◌, map, length, drop, Some, None}
 use Rattle.std.proofs.lemmas.Bool.{cond-true, cond-false, cond_both, false_from_ne_true}
 use Rattle.std.proofs.lemmas.List.{append-nil, append_cancel_left}
@@ -14,14 +14,14 @@ use Rattle.st_tree.proofs.Leads.{apart_from}
 use Rattle.st_tree.proofs.Renames.{bare_beyond, beyond, directories-renamed, leads-renamed, with_moved}
 use Rattle.st_tree.specs.Paths.{Entries, AreDirectories, dir_entry, object_from, names_under, with_entry, without_entry}
 
--- names in their order are what directories give, if each has the object that it leads to
+-- names in order are those that directories form, if each name has the object to which it leads
 pub names_are : {count : ℕ} {is_dir : ℕ → Bool} {dirs : ℕ → Entries} → AreDirectories count is_dir dirs → (names : List (Components × ℕ)) → IsOrdered names → IsBelowRoot names
     → ((part : List ℕ) (rest : Components) → number_of_name names (part ∷ rest) ≡ object_from dirs 1 (part ∷ rest)) → names_under count dirs 1 ≡ names
 names_are {count} {is_dir} {dirs} are names ordered below same =
     same_names (names_under count dirs 1) names (ordered_names_under count dirs 1 are.sorted) ordered (below_root_names_under count dirs 1 are.sorted) below
     (λ part rest. number-names count is_dir dirs are part rest ∙ sym (same part rest))
 
--- a name with a component more isn't the root's
+-- a name with one more component isn't the root's
 pub named_more : (place : Components) (part : List ℕ) → place ++ part ∷ [] ≢ []
 named_more [] part none = cc
 named_more (first ∷ place) part none = cc
@@ -33,7 +33,7 @@ module _ {count : ℕ} {is_dir : ℕ → Bool} {dirs : ℕ → Entries} (are : A
   below : IsBelowRoot (names_under count dirs 1)
   below = below_root_names_under count dirs 1 are.sorted
 
-  -- where one name more leads to an object, the names have one more
+  -- if one more name leads to an object, the names have one more name
   with_name_leads : {more : ℕ} {is_dir_now : ℕ → Bool} {others : ℕ → Entries} (now : AreDirectories more is_dir_now others) (number : ℕ)
       → ((name : Components) → object_from others 1 name ≡ cond (is_same_name (place ++ part ∷ []) name) (Some number) (object_from dirs 1 name))
       → names_under more others 1 ≡ with_name (names_under count dirs 1) (place ++ part ∷ []) number
@@ -46,15 +46,15 @@ module _ {count : ℕ} {is_dir : ℕ → Bool} {dirs : ℕ → Entries} (are : A
 
   module _ {holder : ℕ} (reach : object_from dirs 1 place ≡ Some holder) where
     module _ (dir : is_dir holder ≡ true) (absent : dir_entry dirs holder part ≡ None) where
-      -- a new object has its name among the others
+      -- a new object's name is added to the names
       pub names-added : names_under (suc count) (with_entry dirs holder part (suc count)) 1 ≡ with_name (names_under count dirs 1) (place ++ part ∷ []) (suc count)
       names-added = with_name_leads (directories-added are place part reach dir absent {is_dir_now = is_dir} (λ number low. refl)) (suc count) (leads-added are place part reach dir absent)
 
-      -- an object that is no directory has one more name among the others
+      -- one more name of an object that is no directory is added to the names
       pub names-linked : (held : ℕ) → 1 < held → held ≤ count → is_dir held ≢ true → names_under count (with_entry dirs holder part held) 1 ≡ with_name (names_under count dirs 1) (place ++ part ∷ []) held
       names-linked held above low plain = with_name_leads (directories-linked are place part reach dir absent held above low plain) held (leads-linked are place part reach dir absent held above low plain)
 
-    -- a name is gone from the others
+    -- a removed name is removed from the names
     pub names-removed : {held : ℕ} → dir_entry dirs holder part ≡ Some held → dirs held ≡ [] → names_under count (without_entry dirs holder part) 1 ≡ without_name (names_under count dirs 1) (place ++ part ∷ [])
     names-removed has bare =
         names_are (directories-removed are place part reach has bare) _ (ordered_without_name (names_under count dirs 1) (place ++ part ∷ []) ordered) (below_root_without_name (names_under count dirs 1) (place ++ part ∷ []) below)
@@ -63,7 +63,7 @@ module _ {count : ℕ} {is_dir : ℕ → Bool} {dirs : ℕ → Entries} (are : A
         ∙ ap (cond (is_same_name (place ++ part ∷ []) (next ∷ rest)) None) (number-names count is_dir dirs are next rest)
         ∙ sym (leads-removed are place part reach has bare (next ∷ rest)))
 
--- ---- a name that becomes another
+-- ---- a rename
 
 append_named : (name rest : Components) → name ≢ [] → name ++ rest ≢ []
 append_named [] rest named is = named refl
@@ -85,7 +85,7 @@ module _ {count : ℕ} {is_dir : ℕ → Bool} {dirs : ℕ → Entries} (are : A
     (target : Components) {to : ℕ} (other : List ℕ) (reach_to : object_from dirs 1 target ≡ Some to) (dir_to : is_dir to ≡ true)
     (bare : (number : ℕ) → dir_entry dirs to other ≡ Some number → dirs number ≡ [])
     (outside : is_prefix (source ++ part ∷ []) (target ++ other ∷ []) ≡ false) where
-  -- the names but for the one that the object gets
+  -- the names without the new name of the object
   abbrev others : List (Components × ℕ)
   others = without_name (names_under count dirs 1) (target ++ other ∷ [])
 
@@ -96,14 +96,14 @@ module _ {count : ℕ} {is_dir : ℕ → Bool} {dirs : ℕ → Entries} (are : A
   number_there [] named = absurd (named refl)
   number_there (next ∷ rest) named = number-names count is_dir dirs are next rest
 
-  -- each of them has what it had
+  -- each of these names keeps its object
   number_others : (name : Components) → name ≢ [] → target ++ other ∷ [] ≢ name → number_of_name others name ≡ object_from dirs 1 name
   number_others name named differs =
       number-without (names_under count dirs 1) (target ++ other ∷ []) name (ordered_names_under count dirs 1 are.sorted)
       ∙ cond-false _ _ _ (false_from_ne_true _ (λ same. differs ((is_same_name-Decides (target ++ other ∷ []) name).0 same)))
       ∙ number_there name named
 
-  -- none of them begins with the name that the object gets
+  -- none of these names has the object's new name as a prefix
   none_others : (name : Components) → is_prefix (target ++ other ∷ []) name ≡ true → number_of_name others name ≡ None
   none_others name within = by (drop (length (target ++ other ∷ [])) name) (begins_rest (target ++ other ∷ []) name within) where
     by : (rest : Components) → name ≡ (target ++ other ∷ []) ++ rest → number_of_name others name ≡ None
@@ -116,7 +116,7 @@ module _ {count : ℕ} {is_dir : ℕ → Bool} {dirs : ℕ → Entries} (are : A
         number_others name (λ root. append_named (target ++ other ∷ []) (next ∷ rest) (named_more target other) (sym is ∙ root)) longer
         ∙ ap (object_from dirs 1) is ∙ bare_beyond are source part reach has target other reach_to dir_to bare outside next rest
 
-  -- each name with the old prefix has the new one, in the place of what had it
+  -- each name with the old prefix gets the new prefix, and the new name's old entry is replaced
   pub names-renamed : names_under count (with_moved dirs from part to other held) 1 ≡ sorted_names (map (λ named. (with_prefix_replaced (source ++ part ∷ []) (target ++ other ∷ []) named.0, named.1)) (without_name (names_under count dirs 1) (target ++ other ∷ [])))
   names-renamed =
       names_are (directories-renamed are source part reach has target other reach_to dir_to bare outside) _

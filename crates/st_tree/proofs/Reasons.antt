@@ -1,4 +1,4 @@
--- Why calls are refused, by where their names lead.
+-- The reasons why changes are refused, by where their names lead.
 use Rattle.std.proofs.Common.{◌≡◌, ap, refl, sym, ◌∙◌, ℕ, suc, ◌-◌, ◌<◌, Bool, true, false, List, [], ◌∷◌, ◌++◌, length, get_or, take, Option, Some, None, Result, Ok, Err, IfOk, arith}
 use Rattle.std.proofs.Math.Seq.{take-suc, take-length}
 use Rattle.std.proofs.Math.Bool.{beq}
@@ -30,19 +30,19 @@ use Rattle.st_tree.proofs.Numbers.{is_dir_at_number}
 use Rattle.st_tree.proofs.Trees.{entries_at_number, node_at_number, is_there, look_reached, object_led, root_is, seen_reached}
 use Rattle.st_tree.proofs.Ways.{entry_within, leads_reached, reached-append, reached_within, stepped-ok}
 
--- ---- names that are needed, and their directories
+-- ---- names that have to exist, and their directories
 
--- a name that is not the root's is its directory's with one component more
+-- a name other than the root's is its parent with one more component
 pub parent-last_part : (name : Components) → 0 < length name → parent name ++ last_part name ∷ [] ≡ name
 parent-last_part name named =
     let before : suc (length name - 1) ≡ length name = omega arith in
     sym (take-suc name (length name - 1) [] (omega arith)) ∙ ap (λ (n : ℕ). take n name) before ∙ take-length name
 
--- what seen says of the name of a directory that is needed
+-- the reason for refusal by a look at a name that has to be a directory's
 directory_reason : SeenText → Option Errno
 directory_reason seen = first_error (error_if (is_missing seen) ENOENT ∷ error_if (is_no_directory seen) ENOTDIR ∷ [])
 
--- and of a name that is needed
+-- the reason for refusal by a look at a name that has to exist
 name_reason : SeenText → Option Errno
 name_reason seen = first_error (error_if (is_missing seen) ENOENT ∷ error_if (is_not_dir seen) ENOTDIR ∷ [])
 
@@ -63,7 +63,7 @@ directory_of_reached objects (Ok number) is = directory_of_object number (item_a
 directory_of_reached objects (Err Missing) is = refl
 directory_of_reached objects (Err NotDir) is = refl
 
--- a name's directory is refused for the gap on the way to it
+-- the reason for refusal by a name's directory is the gap on the way to it
 pub no_directory_reached : (objects : List Object) → IsWhole objects → (name : Components) → no_directory (tree_of objects) name ≡ option_map errno_of_gap (result_err (directory_reached objects (parent name)))
 unfolding directory_reason
 no_directory_reached objects whole name =
@@ -88,7 +88,7 @@ name_of_reached objects (Err NotDir) is = refl
 
 -- ---- which reason is the first
 
--- reasons in their order
+-- the error of a condition that is true
 pub error_if-true : (condition : Bool) (errno : Errno) → condition ≡ true → Some errno ≡ error_if condition errno
 error_if-true condition errno is = sym (ap (λ (b : Bool). error_if b errno) is)
 
@@ -111,9 +111,9 @@ last-met reason condition errno none is = first_error-later (Some errno) reason 
 pub last-unmet : (reason : Option Errno) (condition : Bool) (errno : Errno) → None ≡ reason → condition ≡ false → None ≡ first_error (reason ∷ error_if condition errno ∷ [])
 last-unmet reason condition errno none is = first_error-later None reason (error_if condition errno ∷ []) none (first_error-last None (error_if condition errno) (error_if-false condition errno is))
 
--- ---- names that are to be given
+-- ---- names that are to be added
 
--- the place of a new name
+-- a new name is refused for the gap on the way to its directory
 pub place_gap : (objects : List Object) → IsWhole objects → (name : Components) (gap : Gap) → Err gap ≡ directory_reached objects (parent name) → Some (errno_of_gap gap) ≡ place_refused (tree_of objects) name
 place_gap objects whole name gap lost =
     first_error-here (errno_of_gap gap) (no_directory (tree_of objects) name) (error_if (is_some (object_of (tree_of objects) name)) EEXIST ∷ [])
@@ -129,7 +129,7 @@ place_free objects whole name holder found none =
     last-unmet (no_directory (tree_of objects) name) (is_some (object_of (tree_of objects) name)) EEXIST
     (sym (no_directory_reached objects whole name ∙ ap (λ (f : Result ℕ Gap). option_map errno_of_gap (result_err f)) (sym found))) (ap is_some none)
 
--- ---- what a name leads to
+-- ---- where a name leads
 
 directory_by : (objects : List Object) (found : Result ℕ Gap) (holder : ℕ) → Ok holder ≡ and_then_from found (λ number. if is_dir_of objects number then Ok number else Err NotDir) → (found ≡ Ok holder) × (is_dir_of objects holder ≡ true)
 directory_by objects (Err gap) holder is = cc
@@ -140,7 +140,7 @@ directory_by objects (Ok number) holder is = by (is_dir_of objects number) refl 
       (sym is, ap (is_dir_of objects) same ∙ dir)
   by false dir is = cc
 
--- a directory that is reached, and what a name has there
+-- a directory that is reached is the directory to which the name leads
 pub directory_led : (objects : List Object) → IsWhole objects → (name : Components) (holder : ℕ) → Ok holder ≡ directory_reached objects name → (object_from (dirs_of objects) 1 name ≡ Some holder) × (is_dir_of objects holder ≡ true)
 directory_led objects whole name holder found =
     let both = directory_by objects (object_or_gap objects 1 name) holder found in
@@ -156,14 +156,14 @@ and_on-ok : (step : Result ℕ Gap) → and_then_from step (λ number. Ok number
 and_on-ok (Ok number) = refl
 and_on-ok (Err gap) = refl
 
--- a name by the way to its directory, and a last step
+-- the way of a name is the way to its directory and a last step
 pub reached_last : (objects : List Object) (name : Components) → 0 < length name
     → object_or_gap objects 1 name ≡ and_then_from (object_or_gap objects 1 (parent name)) (λ number. object_or_gap objects number (last_part name ∷ []))
 reached_last objects name named = ap (object_or_gap objects 1) (sym (parent-last_part name named)) ∙ reached-append objects 1 (parent name) (last_part name ∷ [])
 
--- ---- names that have to be there
+-- ---- names that have to exist
 
--- a name that is needed is refused for the gap on the way to it
+-- the reason for refusal by a name that has to exist is the gap on the way to it
 no_object_reached : (objects : List Object) → IsWhole objects → (name : Components) → no_object (tree_of objects) name ≡ option_map errno_of_gap (result_err (object_or_gap objects 1 name))
 unfolding name_reason
 no_object_reached objects whole name =
@@ -175,7 +175,7 @@ name_gap_before objects whole name gap named lost =
     sym (no_object_reached objects whole name
     ∙ ap (λ (f : Result ℕ Gap). option_map errno_of_gap (result_err f)) (reached_last objects name named ∙ ap (λ (f : Result ℕ Gap). and_then_from f (λ number. object_or_gap objects number (last_part name ∷ []))) (sym lost)))
 
--- by the way and its last step
+-- the same by the way to its directory and the last step
 pub name_by : (objects : List Object) → IsWhole objects → (name : Components) (holder : ℕ) (step : Result ℕ Gap) → 0 < length name → Ok holder ≡ object_or_gap objects 1 (parent name)
     → step ≡ gap_or_entry (is_dir_of objects holder) (dir_entry (dirs_of objects) holder (last_part name))
     → option_map errno_of_gap (result_err step) ≡ no_object (tree_of objects) name
@@ -191,9 +191,9 @@ pub named_from : (name : Components) → (name ≡ [] → ⊥) → 0 < length na
 named_from [] differs = absurd (differs refl)
 named_from (part ∷ rest) differs = omega arith
 
--- ---- what a call finds of a name
+-- ---- what a change finds of a name
 
--- what is found for a new name, or for one that is there
+-- a name without an object is free in its directory
 pub is_free : (objects : List Object) → IsWhole objects → (name : Components) (holder : ℕ) → 0 < length name → Ok holder ≡ directory_reached objects (parent name) → IsNumber objects holder → dir_entry (dirs_of objects) holder (last_part name) ≡ None → IsFree objects name holder
 is_free objects whole name holder named found number none =
     let led = directory_led objects whole (parent name) holder found in
@@ -232,9 +232,9 @@ pub named_no_root : (name : Components) → 0 < length name → is_root name ≡
 named_no_root [] named = absurd (omega (arith, named))
 named_no_root (part ∷ rest) named = refl
 
--- ---- what takes the place of another object
+-- ---- objects that replace other objects
 
--- why an object can't take the place of another, by whether each is a directory, and whether the other has entries
+-- why an object can't replace another, by whether each is a directory, and whether the other has entries
 pub replace_reason : Bool → Bool → Bool → Option Errno
 replace_reason old new full = first_error (error_if (old && not new) ENOTDIR ∷ error_if (not old && new) EISDIR ∷ error_if full ENOTEMPTY ∷ [])
 
@@ -273,7 +273,7 @@ module _ (objects : List Object) (whole : IsWhole objects) (held replaced : ℕ)
   pub replace_like : (dir full : Bool) → dir ≡ is_dir_of objects held → dir ≡ is_dir_of objects replaced → full ≡ nat_lt 0 (length (dirs_of objects replaced)) → error_if full ENOTEMPTY ≡ replace_refused (tree_of objects) (Some held) (Some replaced)
   replace_like dir full is_dir too full_is = alike dir full ∙ sym (replaced_reason dir dir full is_dir too full_is)
 
--- ---- tests as the code makes them
+-- ---- tests in the form of the code
 
 pub leads_on_by : (old new : Components) (begins_it : Bool) → (IsTrue begins_it ↔ (old ≡ take (length old) new)) → begins_it ≡ is_prefix old new
 leads_on_by old new true is = sym ((is_same_name-Decides old (take (length old) new)).1 (is.0 refl))

@@ -1,4 +1,4 @@
--- Where names lead after an object got another name.
+-- Where names lead after an object is renamed.
 use Rattle.std.proofs.Common.{◌≡◌, ◌≢◌, ⊎_elim, ◌≤◌, ◌<◌, ap, refl, sym, ◌∙◌, subst, ℕ, Bool, true, false, if◌then◌else◌, List, [], ◌∷◌, ◌++◌, length, drop, Option, Some, None, option_and_then}
 use Rattle.std.proofs.lemmas.Bool.{both_ways, cases_Bool, false_from_ne_true}
 use Rattle.std.proofs.lemmas.List.{append-nil, append_assoc, append_cancel_left}
@@ -12,7 +12,7 @@ use Rattle.st_tree.specs.Paths.{Entries, AreDirectories, dir_entry, object_from,
 
 -- ---- two entries and their directories
 
--- the directories after the object of one entry went to another, in the place of what that one had
+-- the directories after the object of one entry is moved to another entry, and replaces the object of that entry
 abbrev pub with_moved : (ℕ → Entries) → ℕ → List ℕ → ℕ → List ℕ → ℕ → ℕ → Entries
 with_moved dirs from part to other held = without_entry (with_entry dirs to other held) from part
 
@@ -24,7 +24,7 @@ module _ {count : ℕ} {is_dir : ℕ → Bool} {dirs : ℕ → Entries} (are : A
   dir : is_dir from ≡ true
   dir = entry_in_directory _ _ _ are from part held has
 
-  -- the new name doesn't lead on from the old one
+  -- the new name doesn't have the old name as a prefix
   pub beyond : (rest : Components) → target ++ other ∷ [] ≢ (source ++ part ∷ []) ++ rest
   beyond rest = apart_from (source ++ part ∷ []) (target ++ other ∷ []) rest outside
 
@@ -49,9 +49,9 @@ module _ {count : ℕ} {is_dir : ℕ → Bool} {dirs : ℕ → Entries} (are : A
   moved_kept : (number : ℕ) → number ≢ from → number ≢ to → with_moved dirs from part to other held number ≡ dirs number
   moved_kept number here there = without_entry_apart (with_entry dirs to other held) from part number here ∙ with_entry_apart dirs to other held number there
 
-  -- ---- names that begin with neither
+  -- ---- names that have neither name as a prefix
 
-  -- a name that meets neither entry on its way leads where it led
+  -- a name whose way has neither entry leads where it led before
   alike_from : (base : Components) (at : ℕ) (name : Components) → object_from dirs 1 base ≡ Some at
       → ((front back : Components) → name ≡ front ++ part ∷ back → base ++ front ≢ source) → ((front back : Components) → name ≡ front ++ other ∷ back → base ++ front ≢ target)
       → object_from (with_moved dirs from part to other held) at name ≡ object_from dirs at name
@@ -61,20 +61,20 @@ module _ {count : ℕ} {is_dir : ℕ → Bool} {dirs : ℕ → Entries} (are : A
       (λ here same. not_source front back (split ∙ ap (λ (p : List ℕ). front ++ p ∷ back) same) (are.single from (base ++ front) source dir (led ∙ ap (λ (n : ℕ). Some n) here) reach))
       (λ here same. not_target front back (split ∙ ap (λ (p : List ℕ). front ++ p ∷ back) same) (are.single to (base ++ front) target dir_to (led ∙ ap (λ (n : ℕ). Some n) here) reach_to)))
 
-  -- a name that begins with neither name leads where it led
+  -- a name that has neither name as a prefix leads where it led before
   pub moved_elsewhere : (name : Components) → is_prefix (source ++ part ∷ []) name ≡ false → is_prefix (target ++ other ∷ []) name ≡ false → object_from (with_moved dirs from part to other held) 1 name ≡ object_from dirs 1 name
   moved_elsewhere name not_old not_new = alike_from [] 1 name refl
       (λ front back split met. apart_from (source ++ part ∷ []) name back not_old (split ∙ ap (λ (a : Components). a ++ part ∷ back) met ∙ sym (append-end source part back)))
       (λ front back split met. apart_from (target ++ other ∷ []) name back not_new (split ∙ ap (λ (a : Components). a ++ other ∷ back) met ∙ sym (append-end target other back)))
 
-  -- ---- names that begin with one of the two
+  -- ---- names that have one of the two names as a prefix
 
-  -- nothing was reached behind the new name
+  -- before the rename no longer name with the new name as a prefix led to an object
   pub bare_beyond : (next : List ℕ) (rest : Components) → object_from dirs 1 ((target ++ other ∷ []) ++ next ∷ rest) ≡ None
   bare_beyond next rest =
       ap (object_from dirs 1) (append-end target other (next ∷ rest)) ∙ leads_on dirs 1 to target (other ∷ next ∷ rest) reach_to ∙ bare_end dirs (dir_entry dirs to other) next rest bare
 
-  -- so what was reached from it on is the object that it had
+  -- if a name with the new name as a prefix led to an object, it was the new name's own object
   bare_target : (rest : Components) (number : ℕ) → object_from dirs 1 ((target ++ other ∷ []) ++ rest) ≡ Some number → dir_entry dirs to other ≡ Some number
   bare_target [] number is = sym (leads_end dirs 1 to target other reach_to) ∙ ap (object_from dirs 1) (sym (append-nil (target ++ other ∷ []))) ∙ is
   bare_target (next ∷ rest) number is = let none = bare_beyond next rest in cc
@@ -85,20 +85,20 @@ module _ {count : ℕ} {is_dir : ℕ → Bool} {dirs : ℕ → Entries} (are : A
   short_target : is_prefix (target ++ other ∷ []) target ≡ false
   short_target = ap (λ (a : Components). is_prefix a target) (sym (append-nil (target ++ other ∷ []))) ∙ longer_apart target other []
 
-  -- the directory of the old name is reached as before
+  -- the name of the old name's directory leads where it led before
   pub source_kept : object_from (with_moved dirs from part to other held) 1 source ≡ Some from
   source_kept = moved_elsewhere source short_source (false_from_ne_true _ (λ within.
       let was : dir_entry dirs to other ≡ Some from = bare_target (drop (length (target ++ other ∷ [])) source) from (ap (object_from dirs 1) (sym (begins_rest (target ++ other ∷ []) source within)) ∙ reach) in
       let none : dir_entry dirs from part ≡ None = entry_none dirs from part (bare from was) in
       cc)) ∙ reach
 
-  -- and the directory of the new name too
+  -- the name of the new name's directory leads where it led before
   pub target_kept : object_from (with_moved dirs from part to other held) 1 target ≡ Some to
   target_kept = moved_elsewhere target (false_from_ne_true _ (λ within.
       beyond (drop (length (source ++ part ∷ [])) target ++ other ∷ [])
       (ap (λ (a : Components). a ++ other ∷ []) (begins_rest (source ++ part ∷ []) target within) ∙ append_assoc (source ++ part ∷ []) (drop (length (source ++ part ∷ [])) target) (other ∷ [])))) short_target ∙ reach_to
 
-  -- behind the new name stands what stood behind the old one
+  -- a name with the new prefix leads where it led with the old prefix
   pub moved_behind : (rest : Components) → object_from (with_moved dirs from part to other held) 1 ((target ++ other ∷ []) ++ rest) ≡ object_from dirs 1 ((source ++ part ∷ []) ++ rest)
   moved_behind rest =
       let named : object_from dirs 1 (source ++ part ∷ []) ≡ Some held = leads_end dirs 1 from source part reach ∙ has in
@@ -110,7 +110,7 @@ module _ {count : ℕ} {is_dir : ℕ → Bool} {dirs : ℕ → Entries} (are : A
       (λ front back split met. beyond (front ++ other ∷ []) (ap (λ (a : Components). a ++ other ∷ []) (sym met) ∙ append_assoc (source ++ part ∷ []) front (other ∷ [])))
       ∙ sym (leads_on dirs 1 held (source ++ part ∷ []) rest named)
 
-  -- behind the old name nothing stands
+  -- a name with the old prefix leads to no object
   pub moved_away : (rest : Components) → object_from (with_moved dirs from part to other held) 1 ((source ++ part ∷ []) ++ rest) ≡ None
   moved_away rest =
       ap (object_from (with_moved dirs from part to other held) 1) (append-end source part rest)
@@ -122,8 +122,8 @@ module _ {count : ℕ} {is_dir : ℕ → Bool} {dirs : ℕ → Entries} (are : A
   abbrev leads_after : Bool → Bool → Components → Option ℕ
   leads_after to_new to_old name = if to_new then object_from dirs 1 ((source ++ part ∷ []) ++ drop (length (target ++ other ∷ [])) name) else if to_old then None else object_from dirs 1 name
 
-  -- a name that begins with the new one leads where it led with the old one in its place, one that begins with the old one leads
-  -- nowhere, and each other leads where it led
+  -- a name with the new prefix leads where it led with the old prefix, a name with the old prefix leads to no object, and each other
+  -- name leads where it led before
   pub leads-renamed : (name : Components) → object_from (with_moved dirs from part to other held) 1 name
       ≡ (if is_prefix (target ++ other ∷ []) name then object_from dirs 1 ((source ++ part ∷ []) ++ drop (length (target ++ other ∷ [])) name) else if is_prefix (source ++ part ∷ []) name then None else object_from dirs 1 name)
   leads-renamed name = by (is_prefix (target ++ other ∷ []) name) (is_prefix (source ++ part ∷ []) name) refl refl where
@@ -134,7 +134,7 @@ module _ {count : ℕ} {is_dir : ℕ → Bool} {dirs : ℕ → Entries} (are : A
         ap (object_from (with_moved dirs from part to other held) 1) (begins_rest (source ++ part ∷ []) name q) ∙ moved_away (drop (length (source ++ part ∷ [])) name)
     by false false p q = moved_elsewhere name q p
 
-  -- ---- what stays of directories
+  -- ---- `AreDirectories` after the rename
 
   moved_numbered : (number : ℕ) (q : List ℕ) (kept : ℕ) → dir_entry (with_moved dirs from part to other held) number q ≡ Some kept → (1 < kept) × (kept ≤ count)
   moved_numbered number q kept is = ⊎_elim
@@ -156,7 +156,7 @@ module _ {count : ℕ} {is_dir : ℕ → Bool} {dirs : ℕ → Entries} (are : A
       (cases_Bool (is_here from part number q)))
       (cases_Bool (is_here to other number q))
 
-  -- a name behind the old one isn't one that begins with neither
+  -- a name with the new prefix and a name without the old prefix led to one directory only if they are equal
   moved_two : (number : ℕ) (name second : Components) → is_prefix (target ++ other ∷ []) name ≡ true → is_prefix (source ++ part ∷ []) second ≡ false → is_dir number ≡ true
       → object_from dirs 1 ((source ++ part ∷ []) ++ drop (length (target ++ other ∷ [])) name) ≡ Some number → object_from dirs 1 second ≡ Some number → name ≡ second
   moved_two number name second p q d h k = absurd (apart_from (source ++ part ∷ []) second (drop (length (target ++ other ∷ [])) name) q (are.single number second _ d k h))
@@ -187,7 +187,7 @@ module _ {count : ℕ} {is_dir : ℕ → Bool} {dirs : ℕ → Entries} (are : A
         by name is true false p q differs = differs (bare_target (drop (length (target ++ other ∷ [])) name) number (ap (object_from dirs 1) (sym (begins_rest (target ++ other ∷ []) name p)) ∙ is))
         by name is false false p q differs = none name (moved_elsewhere name q p ∙ is)
 
-  -- directories stay directories when an object gets another name
+  -- the entries still form a tree after a rename
   pub directories-renamed : AreDirectories count is_dir (with_moved dirs from part to other held)
   directories-renamed = record {
     root = are.root;

@@ -1,4 +1,4 @@
--- Why a renaming is refused, and what it goes by.
+-- Why a rename is refused, and the data of a rename.
 use Rattle.std.proofs.Common.{◌≡◌, ◌≢◌, ap, refl, sym, ◌∙◌, subst, ℕ, ◌<◌, Bool, true, false, List, [], ◌∷◌, length, Option, Some, None, Result, Ok, Err}
 use Rattle.std.proofs.lemmas.Bool.{eq-eqb, false_from_ne_true, ltb-false, ne_eqb, true≢false}
 use Rattle.std.proofs.Math.Seq.{take_all}
@@ -20,7 +20,7 @@ use Rattle.st_tree.specs.declared.places.Gap.{Gap}
 use Rattle.st_tree.specs.declared.places.RenamePlan.{RenamePlan}
 use Rattle.st_tree.proofs.Reasons.{directory_led, first_error-here, first_error-last, first_error-later, named_no_root, no_directory_reached, object_in, error_if-false}
 
--- what refuses the last: the object that is there
+-- the last reason for refusal: the object to be replaced
 abbrev pub replaced_refused : Tree → Option ℕ → Option ℕ → Option Errno
 replaced_refused tree old new = if is_same_object old new then None else replace_refused tree old new
 
@@ -30,7 +30,7 @@ no_object_there tree number = by (is_directory (node_with_number tree number).ki
   by true = refl
   by false = refl
 
--- old and new are named, and new doesn't lead on from old
+-- neither name is the root's, and the old name is no proper prefix of the new name
 module _ (objects : List Object) (whole : IsWhole objects) (old new : Components) (named_old : 0 < length old) (named_new : 0 < length new) (apart : is_proper_prefix old new ≡ false) where
   no_reason : (is_root old || is_root new || is_proper_prefix old new) ≡ false
   no_reason =
@@ -50,7 +50,7 @@ module _ (objects : List Object) (whole : IsWhole objects) (old new : Components
       rest_refused (Some (errno_of_gap gap)) none
       (first_error-here (errno_of_gap gap) (no_directory (tree_of objects) new) _ (sym (no_directory_reached objects whole new ∙ ap (λ (f : Result ℕ Gap). option_map errno_of_gap (result_err f)) (sym lost))))
 
-  -- both directories are there
+  -- both directories exist
   module _ (from held to : ℕ) (taken : IsTaken objects old from held) (none : None ≡ no_object (tree_of objects) old) (found_to : Ok to ≡ directory_reached objects (parent new)) where
     new_is : object_of (tree_of objects) new ≡ dir_entry (dirs_of objects) to (last_part new)
     new_is = object_in objects whole new to named_new (directory_led objects whole (parent new) to found_to).0
@@ -107,7 +107,7 @@ module _ (objects : List Object) (whole : IsWhole objects) (old new : Components
 is_one-same : (there : Option ℕ) (number : ℕ) → there ≡ Some number → is_same_object there there ≡ true
 is_one-same there number is = ap (λ (o : Option ℕ). is_same_object o o) is ∙ eq-eqb number number refl
 
--- the new name neither leads on from the old one nor is it
+-- the old name neither is a prefix of the new name nor equals it
 pub way_apart : (objects : List Object) → IsWhole objects → (old new : Components) (way : RenamePlan) → IsRenamePlan objects old new way → is_prefix old new ≡ false
 way_apart objects whole old new way is = false_from_ne_true (is_prefix old new) (λ e. by e (nat_lt (length old) (length new)) refl) where
   by : is_prefix old new ≡ true → (longer : Bool) → nat_lt (length old) (length new) ≡ longer → ⊥

@@ -1,4 +1,4 @@
--- The tree that the objects make: what is seen of its names, and what its objects are.
+-- The tree that the objects represent: looks at its names, and its objects.
 use Rattle.std.proofs.Common.{◌≡◌, ap, refl, subst, sym, ◌∙◌, ℕ, zero, suc, ◌-◌, Bool, true, false, List, [], ◌∷◌, ◌++◌, length, get_or, Option, Some, None, Result, Ok, Err, IfOk, option_and_then, arith}
 use Rattle.std.proofs.lemmas.Bool.{true≢false}
 use Rattle.std.proofs.lemmas.List.{get_or-map, length-map}
@@ -35,7 +35,7 @@ pub count_made : (objects : List Object) → length (tree_of objects).objects �
 unfolding tree_of
 count_made objects = length-map objects node_of
 
--- a name's object is what the name leads to
+-- a name's object is the object to which the name leads
 pub object_led : (objects : List Object) → IsWhole objects → (name : Components) → object_of (tree_of objects) name ≡ object_from (dirs_of objects) 1 name
 object_led objects whole name = object_reached (length objects) (is_dir_of objects) (dirs_of objects) whole.directories (tree_of objects) (names_made objects) name
 
@@ -57,9 +57,9 @@ size_at_number objects number object whole is read =
     ap (λ (node : Node). size_of_kind node.kind (entry_count (tree_of objects) number) node.content) (node_at_number objects number object is read)
     ∙ ap (λ (count : ℕ). size_of_kind (node_of object).kind count (node_of object).content) (entries_at_number objects number whole ∙ ap length (dirs_at objects number object object is read))
 
--- ---- what is seen of a name's object
+-- ---- looks at names
 
--- what is seen of what is reached
+-- the result of a look, by the object that is reached or the reason why none is
 abbrev pub seen_reached : List Object → Result ℕ Gap → SeenText
 seen_reached objects (Ok number) = seen_of (option_map node_of (item_at_number objects number))
 seen_reached objects (Err Missing) = seen.Missing
@@ -98,7 +98,7 @@ look_on objects whole done (part ∷ rest) at is led =
 pub root_is : (objects : List Object) → IsWhole objects → IsNumber objects 1
 root_is objects whole = (omega arith, whole.directories.made)
 
--- what is seen of a name
+-- a look at a name is a look at what is reached by the name
 pub look_reached : (objects : List Object) → IsWhole objects → (name : Components) → look (tree_of objects) name ≡ seen_reached objects (object_or_gap objects 1 name)
 look_reached objects whole name = look_on objects whole [] name 1 (root_is objects whole) refl
 
@@ -110,7 +110,7 @@ look_found objects whole name number object found is read =
 pub look_gap : (objects : List Object) → IsWhole objects → (name : Components) (gap : Gap) → Err gap ≡ object_or_gap objects 1 name → look (tree_of objects) name ≡ seen_reached objects (Err gap)
 look_gap objects whole name gap lost = look_reached objects whole name ∙ ap (seen_reached objects) (sym lost)
 
--- ---- names of which nothing is seen
+-- ---- names without an object
 
 body_seen : (body : Body) → is_absent (seen_of_kind (kind_of_body body) (content_of_body body)) ≡ false
 body_seen (Dir entries) = refl
@@ -121,7 +121,7 @@ kind_seen : (at : Option Object) → is_some at ≡ true → is_absent (seen_of 
 kind_seen None there = absurd (true≢false (sym there))
 kind_seen (Some object) there = body_seen object.body
 
--- nothing is seen exactly where the name leads to nothing
+-- a look sees no object exactly when the name leads to no object
 lost_reached : (objects : List Object) (found : Result ℕ Gap) → IfOk found (IsNumber objects) → (result_ok found ≡ None) ↔ (is_absent (seen_reached objects found) ≡ true)
 lost_reached objects (Ok number) is = (λ e. cc, λ e. absurd (true≢false (sym e ∙ kind_seen (item_at_number objects number) (is_there objects number is))))
 lost_reached objects (Err Missing) is = (λ e. refl, λ e. refl)
@@ -138,9 +138,9 @@ look_lost_reached objects whole name =
 pub object_found : (objects : List Object) → IsWhole objects → (name : Components) → object_of (tree_of objects) name ≡ result_ok (object_or_gap objects 1 name)
 object_found objects whole name = object_led objects whole name ∙ sym (leads_reached objects whole 1 name)
 
--- ---- numbers that were given, as a tree has them
+-- ---- numbers of objects in a tree
 
--- a number that was given, as the fields have it
+-- the number of an object of the tree is the number of a stored object
 pub made_within : (objects : List Object) (tree : Tree) (number : ℕ) → tree_of objects ≡ tree → IsMade tree number → IsNumber objects number
 made_within objects tree number is made = (made.0, omega (arith, made.1, count_made objects, ap (λ (t : Tree). length t.objects) is))
 
@@ -163,27 +163,27 @@ pub some_made : (objects : List Object) (tree : Tree) (found : Result ℕ Gap) �
 some_made objects tree (Ok number) is inside = within_made objects tree number is inside
 some_made objects tree (Err gap) is inside = tt
 
--- ---- one component more
+-- ---- one more component
 
--- what a component has in a name's object is what the longer name has
+-- the object of a component in a name's object is the object of the longer name
 pub child_led : (objects : List Object) → IsWhole objects → (tree : Tree) → tree_of objects ≡ tree → (name : Components) (at : ℕ) (part : List ℕ) → object_of tree name ≡ Some at
     → dir_entry (dirs_of objects) at part ≡ object_of tree (name ++ part ∷ [])
 child_led objects whole tree is name at part found =
     let led : object_from (dirs_of objects) 1 name ≡ Some at = sym (object_led objects whole name) ∙ ap (λ (t : Tree). object_of t name) is ∙ found in
     sym (ap (λ (t : Tree). object_of t (name ++ part ∷ [])) (sym is) ∙ object_led objects whole (name ++ part ∷ []) ∙ leads_end (dirs_of objects) 1 at name part led)
 
--- where a name has nothing, no longer one has anything
+-- if a name has no object, no longer name has an object
 pub lost_below : (objects : List Object) → IsWhole objects → (tree : Tree) → tree_of objects ≡ tree → (name rest : Components) → object_of tree name ≡ None → object_of tree (name ++ rest) ≡ None
 lost_below objects whole tree is name rest none =
     ap (λ (t : Tree). object_of t (name ++ rest)) (sym is) ∙ object_led objects whole (name ++ rest) ∙ leads-append (dirs_of objects) 1 name rest
     ∙ ap (option_and_then (λ number. object_from (dirs_of objects) number rest)) (sym (object_led objects whole name) ∙ ap (λ (t : Tree). object_of t name) is ∙ none)
 
--- and is there
+-- the object of a component exists
 pub child_made : (objects : List Object) → IsWhole objects → (tree : Tree) → tree_of objects ≡ tree → (at : ℕ) (part : List ℕ) (held : Option ℕ) → held ≡ dir_entry (dirs_of objects) at part → IfSome held (IsMade tree)
 child_made objects whole tree is at part None entry = tt
 child_made objects whole tree is at part (Some number) entry = within_made objects tree number is (entry_within objects at number part whole (sym entry))
 
--- ---- directories, and what is none
+-- ---- directories, and objects that are no directories
 
 -- the root is a directory
 pub root_directory : (objects : List Object) → IsWhole objects → (tree : Tree) → tree_of objects ≡ tree → is_directory (node_with_number tree 1).kind ≡ true
@@ -194,7 +194,7 @@ root_directory (first ∷ objects) whole tree is =
     ∙ ap (λ (node : Node). is_directory node.kind) (node_at_number (first ∷ objects) 1 first number refl)
     ∙ sym (is_dir_at_number (first ∷ objects) 1 first first number refl) ∙ whole.directories.root
 
--- what is no directory has no entries
+-- an object that is no directory has no entries
 pub plain_bare : (objects : List Object) → IsWhole objects → (tree : Tree) → tree_of objects ≡ tree → (number : ℕ) (object : Object) → IsNumber objects number → object ≡ get_or objects (number - 1) object
     → is_directory (node_of object).kind ≡ false → entry_count tree number ≡ 0
 plain_bare objects whole tree is number object made read plain =

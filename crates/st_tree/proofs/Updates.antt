@@ -1,4 +1,4 @@
--- One object changes, and no entry.
+-- Changes of one object that don't change its entries.
 use Rattle.std.proofs.Common.{◌≡◌, ap, refl, sym, ◌∙◌, subst, ℕ, zero, suc, ◌-◌, List, [], ◌∷◌, map, length, get_or, set, arith}
 use Rattle.std.proofs.Math.Seq.{map-set_same}
 use Rattle.std.proofs.lemmas.List.{length-set, map-set}
@@ -14,7 +14,7 @@ use Rattle.st_tree.proofs.Flat.{same_names_under}
 use Rattle.st_tree.proofs.Leads.{same_directories}
 use Rattle.st_tree.proofs.Trees.{made_within, node_at_number}
 
--- entries, where those of the one object stay
+-- all entries stay the same if those of the changed object do
 set_entries : (objects : List Object) (i j : ℕ) (object d : Object) → entries_of_body object.body ≡ entries_of_body (get_or objects i d).body → entries_at (slice_get (set objects i object) j) ≡ entries_at (slice_get objects j)
 set_entries [] i j object d same = refl
 set_entries (first ∷ objects) zero zero object d same = same
@@ -22,7 +22,7 @@ set_entries (first ∷ objects) zero (suc j) object d same = refl
 set_entries (first ∷ objects) (suc i) zero object d same = refl
 set_entries (first ∷ objects) (suc i) (suc j) object d same = set_entries objects i j object d same
 
--- directories, where the kind of the one object stays
+-- all directories stay directories if the changed object keeps its kind
 set_dir : (objects : List Object) (i j : ℕ) (object d : Object) → kind_of_body object.body ≡ kind_of_body (get_or objects i d).body → is_dir_at (slice_get (set objects i object) j) ≡ is_dir_at (slice_get objects j)
 set_dir [] i j object d same = refl
 set_dir (first ∷ objects) zero zero object d same = ap is_directory same
@@ -35,13 +35,13 @@ module _ (objects : List Object) (whole : IsWhole objects) (tree : Tree) (view :
   dirs_kept zero = refl
   dirs_kept (suc j) = set_entries objects (number - 1) j object before (entries ∙ ap (λ (o : Object). entries_of_body o.body) read)
 
-  -- the object is as before
+  -- the object has the same node as before
   pub updated_same : node_of object ≡ node_of before → Makes (set objects (number - 1) object) tree
   updated_same same =
       subst (Makes (set objects (number - 1) object)) view
       (made_again objects (set objects (number - 1) object) whole (map-set_same node_of objects (number - 1) object before (same ∙ ap node_of read)) dirs_kept)
 
-  -- the object is another node of its kind
+  -- the object has another node of the same kind
   pub updated : (node : Node) → node_of object ≡ node → kind_of_body object.body ≡ kind_of_body before.body → Makes (set objects (number - 1) object) (with_node tree number node)
   unfolding tree_of
   updated node node_is kind =
@@ -62,7 +62,7 @@ module _ (objects : List Object) (whole : IsWhole objects) (tree : Tree) (view :
         dir_by kind (suc j) = set_dir objects (number - 1) j object before (kind ∙ ap (λ (o : Object). kind_of_body o.body) read)
 
 module _ (objects : List Object) (whole : IsWhole objects) (tree : Tree) (view : tree_of objects ≡ tree) (number : ℕ) (before : Object) (read : before ≡ get_or objects (number - 1) before) (made : IsMade tree number) where
-  -- the object as the tree has it
+  -- the object's node in the tree
   pub node_before : node_with_number tree number ≡ node_of before
   node_before = ap (λ (t : Tree). node_with_number t number) (sym view) ∙ node_at_number objects number before (made_within objects tree number view made) read
 
@@ -72,7 +72,7 @@ module _ (objects : List Object) (whole : IsWhole objects) (tree : Tree) (view :
   pub owner_set : (uid gid : ℕ) → Makes (set objects (number - 1) (record before { uid = uid; gid = gid })) (set_owner tree number uid gid)
   owner_set uid gid = updated objects whole tree view number before (record before { uid = uid; gid = gid }) read refl _ (ap (λ (node : Node). record node { uid = uid; gid = gid }) (sym node_before)) refl
 
-  -- the content becomes what f makes of it
+  -- the function `f` is applied to the object's content
   pub content_set : (object : Object) (f : List ℕ → List ℕ) → node_of object ≡ with_content (node_of before) (f (node_of before).content) → entries_of_body object.body ≡ entries_of_body before.body
       → Makes (set objects (number - 1) object) (with_node tree number (with_content (node_with_number tree number) (f (node_with_number tree number).content)))
   content_set object f is entries =

@@ -24,11 +24,11 @@ entry_within objects from number part whole is =
     let held = whole.directories.numbered from part number is in
     (omega (arith, held.0), held.1)
 
--- a step stays among the numbers
+-- a step leads to the number of an object
 pub step_within : (objects : List Object) (from number : ℕ) (part : List ℕ) → IsWhole objects → Ok number ≡ gap_or_entry (is_dir_of objects from) (dir_entry (dirs_of objects) from part) → IsNumber objects number
 step_within objects from number part whole is = entry_within objects from number part whole (stepped-ok _ _ number (sym is)).1
 
--- one component more
+-- one more component
 pub reached_step : (objects : List Object) (at : ℕ) (left rest : Components) (part : List ℕ) (step : Result ℕ Gap) → left ≡ part ∷ rest
     → step ≡ gap_or_entry (is_dir_of objects at) (dir_entry (dirs_of objects) at part)
     → object_or_gap objects at left ≡ and_then_from step (λ number. object_or_gap objects number rest)
@@ -43,7 +43,7 @@ pub and_on-same : (step : Result ℕ Gap) (f g : ℕ → Result ℕ Gap) → ((n
 and_on-same (Ok number) f g same = same number
 and_on-same (Err gap) f g same = refl
 
--- a name, and then a name from where it leads
+-- a name in two parts leads where its second part leads from the object of the first
 pub reached-append : (objects : List Object) (from : ℕ) (name rest : Components) → object_or_gap objects from (name ++ rest) ≡ and_then_from (object_or_gap objects from name) (λ number. object_or_gap objects number rest)
 reached-append objects from [] rest = refl
 reached-append objects from (part ∷ name) rest =
@@ -60,7 +60,7 @@ step_leads objects rest false (Some number) only more =
 step_leads objects rest true None only more = refl
 step_leads objects rest true (Some number) only more = more number
 
--- what is reached is what the name leads to
+-- the object that is reached is the object to which the name leads
 pub leads_reached : (objects : List Object) → IsWhole objects → (from : ℕ) (name : Components) → result_ok (object_or_gap objects from name) ≡ object_from (dirs_of objects) from name
 leads_reached objects whole from [] = refl
 leads_reached objects whole from (part ∷ rest) =

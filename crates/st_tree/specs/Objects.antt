@@ -1,4 +1,4 @@
--- The objects that a tree keeps, as the tree of names that they make.
+-- The objects that a tree stores, and the tree of names that they represent.
 use Rattle.st_base.specs.Numbered.{item_at_number}
 use Rattle.std.specs.Prelude.{◌≤◌, ℕ, Bool, false, List, [], ◌∷◌, map, length, Option, Some, None, Vec}
 use Rattle.std.specs.BTreeMap.{insert_entry}
@@ -20,22 +20,22 @@ kind_of_body (Dir entries) = object_kind.Dir
 kind_of_body (File content) = object_kind.File
 kind_of_body (Link target) = object_kind.Link
 
--- a file's bytes or a link's target; a directory has none
+-- the content of an object, by its body: a file's bytes or a link's target; a directory has none
 abbrev pub content_of_body : Body → List ℕ
 content_of_body (Dir entries) = []
 content_of_body (File content) = content.items
 content_of_body (Link target) = target.items
 
--- entries as the index of a directory keeps them, in any order
+-- entries as the index of a directory stores them, in any order
 abbrev pub KeptEntries : Type 0
 KeptEntries = List (Vec ℕ Global × ℕ)
 
--- the same in the order of their components
+-- entries sorted by their components
 abbrev pub sorted_entries : KeptEntries → Entries
 sorted_entries [] = []
 sorted_entries (held ∷ rest) = insert_entry (slice_cmp nat_cmp) (sorted_entries rest) held.0.items held.1
 
--- the entries of a directory; another object has none
+-- the entries of a directory, by its body; any other object has none
 abbrev pub entries_of_body : Body → Entries
 entries_of_body (Dir entries) = sorted_entries entries.entries
 entries_of_body (File content) = []
@@ -65,19 +65,19 @@ is_dir_at (Some object) = is_directory (kind_of_body object.body)
 abbrev pub dirs_of : List Object → ℕ → Entries
 dirs_of objects number = entries_at (item_at_number objects number)
 
--- whether a number has a directory
+-- whether the object with this number is a directory
 abbrev pub is_dir_of : List Object → ℕ → Bool
 is_dir_of objects number = is_dir_at (item_at_number objects number)
 
--- the names that the objects' entries give, and the objects
+-- the tree that the objects represent: the names that their entries form, and the objects without their entries
 unfoldable pub tree_of : List Object → Tree
 tree_of objects = record { names = names_under (length objects) (dirs_of objects) 1; objects = map node_of objects }
 
--- the objects' entries make a tree, and there are no more objects than may be
+-- the objects' entries form a tree, and there are at most as many objects as there may be
 pub record IsWhole (objects : List Object) : Type 0 where
   pub directories : AreDirectories (length objects) (is_dir_of objects) (dirs_of objects)
   pub few : length objects ≤ MOST_OBJECTS
 
--- a number was given to an object
+-- some object has this number
 abbrev pub IsNumber : List Object → ℕ → Type 0
 IsNumber objects number = (1 ≤ number) × (number ≤ length objects)

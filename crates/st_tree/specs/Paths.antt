@@ -1,4 +1,4 @@
--- Directories that hold one another, and the names that they give.
+-- Directories that contain other directories, and the names that they form.
 use Rattle.std.specs.Prelude.{◌≡◌, ◌≢◌, ◌≤◌, ◌<◌, ℕ, zero, suc, ◌==◌, Bool, true, if◌then◌else◌, List, [], ◌∷◌, map, flat_map, Option, Some}
 use Rattle.std.specs.List.Sorted.{IsStrictlySortedBy}
 use Rattle.std.specs.Map.{lookup, keys_of, remove_entry}
@@ -8,7 +8,7 @@ use Rattle.std.specs.Option.{option_and_then}
 use Rattle.std.specs.Ordering.{nat_cmp}
 use Rattle.st_names.specs.Name.{Components}
 
--- a directory's entries, in the order of their names: each component with the number of its object
+-- a directory's entries, sorted by component: each component with the number of its object
 abbrev pub Entries : Type 0
 Entries = List (List ℕ × ℕ)
 
@@ -16,30 +16,30 @@ Entries = List (List ℕ × ℕ)
 abbrev pub dir_entry : (ℕ → Entries) → ℕ → List ℕ → Option ℕ
 dir_entry dirs number part = lookup (is_at (slice_cmp nat_cmp part)) (dirs number)
 
--- the object that is reached from this one by a name
+-- the object to which a name leads from this object
 abbrev pub object_from : (ℕ → Entries) → ℕ → Components → Option ℕ
 object_from dirs from [] = Some from
 object_from dirs from (part ∷ rest) = option_and_then (λ number. object_from dirs number rest) (dir_entry dirs from part)
 
--- the names that lead on from an object over at most so many directories, in their order, each with the object that it reaches
+-- the names of at most `depth` components that lead from an object to an object, in order, each with the object to which it leads
 abbrev pub names_under : ℕ → (ℕ → Entries) → ℕ → List (Components × ℕ)
 names_under zero dirs from = []
 names_under (suc depth) dirs from =
     flat_map (λ held. (held.0 ∷ [], held.1) ∷ map (λ named. (held.0 ∷ named.0, named.1)) (names_under depth dirs held.1)) (dirs from)
 
--- the directories with one more entry, or with another object in an entry's place
+-- the directories with one entry inserted, or replaced if it exists
 abbrev pub with_entry : (ℕ → Entries) → ℕ → List ℕ → ℕ → ℕ → Entries
 with_entry dirs holder part number other =
     if other == holder then insert_entry (slice_cmp nat_cmp) (dirs other) part number else dirs other
 
--- the directories without an entry
+-- the directories with one entry removed
 abbrev pub without_entry : (ℕ → Entries) → ℕ → List ℕ → ℕ → Entries
 without_entry dirs holder part other =
     if other == holder then remove_entry (is_at (slice_cmp nat_cmp part)) (dirs other) else dirs other
 
--- Of so many objects, of which some are directories: each entry has a number that was given, and not the root's; what isn't
--- a directory has no entries; a directory is reached from the root by one name at most, and one that no name reaches has no
--- entries.
+-- The entries of `count` objects, some of which are directories, form a tree. Each entry has the number of an object other than the
+-- root. An object that isn't a directory has no entries. At most one name leads from the root to a directory, and an object to which
+-- no name leads has no entries.
 pub record AreDirectories (count : ℕ) (is_dir : ℕ → Bool) (dirs : ℕ → Entries) : Type 0 where
   pub root : is_dir 1 ≡ true
   pub made : 1 ≤ count

@@ -1,4 +1,4 @@
--- Why each call that changes a tree is refused: the first reason that is met decides. And what a renaming makes of a tree.
+-- Why each change of a tree is refused, by the first condition that is true, and the tree after a rename.
 use Rattle.std.specs.Prelude.{◌≡◌, ℕ, ◌+◌, ◌≤◌, Bool, true, false, ◌&&◌, ◌||◌, not, if◌then◌else◌, nat_lt, nat_le, List, [], ◌∷◌, length, Option, Some, None, is_some}
 use Rattle.st_base.specs.Errno.{first_error, error_if}
 use Rattle.st_base.specs.declared.errno.Errno.{Errno}
@@ -10,15 +10,15 @@ use Rattle.st_names.specs.declared.seen.SeenText.{SeenText}
 use Rattle.st_names.specs.declared.seen.SeenText.TheVariants.{Missing, NotDir, Dir, File, Link}
 use Rattle.st_model.specs.declared.limits.TheConstants.{LONGEST_FILE, MOST_OBJECTS}
 
--- a number was given to an object
+-- some object has this number
 abbrev pub IsMade : Tree → ℕ → Type 0
 IsMade tree number = (1 ≤ number) × (number ≤ length tree.objects)
 
--- a number was given to a file
+-- some object has this number, and it is a file
 abbrev pub IsFile : Tree → ℕ → Type 0
 IsFile tree number = IsMade tree number × ((node_with_number tree number).kind ≡ object_kind.File)
 
--- something on the way is missing, or the last
+-- whether a look finds that the name or a proper prefix is missing
 abbrev pub is_missing : SeenText → Bool
 is_missing Missing = true
 is_missing NotDir = false
@@ -26,7 +26,7 @@ is_missing Dir = false
 is_missing File = false
 is_missing (Link target) = false
 
--- something on the way is no directory
+-- whether a look finds that a proper prefix is no directory
 abbrev pub is_not_dir : SeenText → Bool
 is_not_dir Missing = false
 is_not_dir NotDir = true
@@ -34,11 +34,11 @@ is_not_dir Dir = false
 is_not_dir File = false
 is_not_dir (Link target) = false
 
--- nothing is seen
+-- whether a look finds no object
 abbrev pub is_absent : SeenText → Bool
 is_absent seen = is_missing seen || is_not_dir seen
 
--- something on the way is no directory, or the last
+-- whether a look finds that the name or a proper prefix is no directory
 abbrev pub is_no_directory : SeenText → Bool
 is_no_directory Missing = false
 is_no_directory NotDir = true
@@ -46,71 +46,71 @@ is_no_directory Dir = false
 is_no_directory File = true
 is_no_directory (Link target) = true
 
--- the directory that a name would stand in isn't there
+-- why the parent of a name isn't a directory
 abbrev pub no_directory : Tree → Components → Option Errno
 no_directory tree name = first_error (
     error_if (is_missing (look tree (parent name))) ENOENT ∷
     error_if (is_no_directory (look tree (parent name))) ENOTDIR ∷ [])
 
--- nothing has this name
+-- why no object has this name
 abbrev pub no_object : Tree → Components → Option Errno
 no_object tree name = first_error (
     error_if (is_missing (look tree name)) ENOENT ∷
     error_if (is_not_dir (look tree name)) ENOTDIR ∷ [])
 
--- a name can't be given to an object
+-- why a name can't be added
 abbrev pub place_refused : Tree → Components → Option Errno
 place_refused tree name = first_error (
     no_directory tree name ∷
     error_if (is_some (object_of tree name)) EEXIST ∷ [])
 
--- no new object can be made under a name
+-- why no new object can be made under a name
 abbrev pub add_refused : Tree → Components → Option Errno
 add_refused tree name = first_error (
     place_refused tree name ∷
     error_if (nat_le MOST_OBJECTS (length tree.objects)) ENOSPC ∷ [])
 
--- an object can't have this name too
+-- why an object can't have this name too
 abbrev pub link_refused : Tree → ℕ → Components → Option Errno
 link_refused tree number name = first_error (
     place_refused tree name ∷
     error_if (is_directory (node_with_number tree number).kind) EPERM ∷ [])
 
--- an object has names below it
+-- whether there is an object and it has entries
 abbrev pub has_entries : Tree → Option ℕ → Bool
 has_entries tree None = false
 has_entries tree (Some number) = nat_lt 0 (entry_count tree number)
 
--- a name can't be removed
+-- why a name can't be removed
 abbrev pub remove_refused : Tree → Components → Option Errno
 remove_refused tree name = first_error (
     error_if (is_root name) EINVAL ∷
     no_object tree name ∷
     error_if (has_entries tree (object_of tree name)) ENOTEMPTY ∷ [])
 
--- an object is there, and is a directory, or is none
+-- whether there is an object and it is a directory
 abbrev pub is_directory_at : Tree → Option ℕ → Bool
 is_directory_at tree None = false
 is_directory_at tree (Some number) = is_directory (node_with_number tree number).kind
 
--- an object is there, and is no directory
+-- whether there is an object and it is no directory
 abbrev pub is_plain_at : Tree → Option ℕ → Bool
 is_plain_at tree None = false
 is_plain_at tree (Some number) = not (is_directory (node_with_number tree number).kind)
 
--- an object can't take the place of another
+-- why an object can't replace another
 abbrev pub replace_refused : Tree → Option ℕ → Option ℕ → Option Errno
 replace_refused tree old new = first_error (
     error_if (is_directory_at tree old && is_plain_at tree new) ENOTDIR ∷
     error_if (is_plain_at tree old && is_directory_at tree new) EISDIR ∷
     error_if (has_entries tree new) ENOTEMPTY ∷ [])
 
--- both are there, and one
+-- whether there are two objects and they are the same
 abbrev pub is_same_object : Option ℕ → Option ℕ → Bool
 is_same_object None new = false
 is_same_object (Some number) new = is_number number new
 
--- where both names have one object, nothing is replaced
+-- why a rename is refused; if both names have the same object, nothing is replaced
 abbrev pub rename_refused : Tree → Components → Components → Option Errno
 rename_refused tree old new = first_error (
     error_if (is_root old || is_root new || is_proper_prefix old new) EINVAL ∷
@@ -118,17 +118,18 @@ rename_refused tree old new = first_error (
     no_directory tree new ∷
     (if is_same_object (object_of tree old) (object_of tree new) then None else replace_refused tree (object_of tree old) (object_of tree new)) ∷ [])
 
--- each name with the old prefix has the new one, in place of what had it; but where both names have one object nothing changes
+-- the tree after a rename: each name with the old prefix gets the new prefix, and the object with the new name, if any, is replaced;
+-- if both names have the same object, nothing changes
 abbrev pub tree_after_rename : Tree → Components → Components → Tree
 tree_after_rename tree old new = record {
   names = if is_same_object (object_of tree old) (object_of tree new) then tree.names else (rename (remove_name tree new) old new).names;
   objects = tree.objects;
 }
 
--- bytes would end past the most bytes of a file
+-- why a write is refused: there are bytes, and they would end above the greatest length of a file
 abbrev pub write_refused : ℕ → List ℕ → Option Errno
 write_refused at bytes = error_if (nat_lt 0 (length bytes) && nat_lt LONGEST_FILE (at + length bytes)) ENOSPC
 
--- a length is past the most bytes of a file
+-- why a truncation is refused: the length is above the greatest length of a file
 abbrev pub cut_refused : ℕ → Option Errno
 cut_refused len = error_if (nat_lt LONGEST_FILE len) ENOSPC

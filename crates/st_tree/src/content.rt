@@ -1,11 +1,11 @@
-// The bytes of files.
+// Reading and overwriting the bytes of files.
 ghost use Rattle.std.specs.Prelude.{◌≡◌, ◌+◌, ◌≤◌, ◌++◌, drop, length, take, OnOk, OnErr};
 ghost use Rattle.st_model.specs.Tree.{bytes_after_write};
 ghost use Rattle.st_model.specs.declared.limits.TheConstants.{LONGEST_FILE};
 
 use std::alloc::AllocError;
 
-// So many bytes, from this one on; fewer where they end before.
+// `count` bytes from offset `at` on, or fewer if the bytes end before.
 pub(crate) fn part(bytes: &[u8], at: u64, count: u64) -> &[u8]
     ensures { result.now ≡ take count (drop at bytes.now) }
 {
@@ -15,7 +15,7 @@ pub(crate) fn part(bytes: &[u8], at: u64, count: u64) -> &[u8]
     &rest[..end]
 }
 
-// Puts new bytes in the place of as many, from this one on.
+// Overwrites bytes from offset `at` on with as many new bytes.
 fn put(bytes: &mut [u8], at: usize, new: &[u8])
     requires { at + length new.now ≤ length bytes.old }
     ensures { bytes.new ≡ take at bytes.old ++ new.now ++ drop (at + length new.now) bytes.old }
@@ -23,7 +23,7 @@ fn put(bytes: &mut [u8], at: usize, new: &[u8])
     bytes[at..at + new.len()].copy_from_slice(new);
 }
 
-// Puts new bytes in the place of those from this one on, behind zeros where there is a gap.
+// Overwrites or extends bytes from offset `at` on with new bytes. A gap before `at` is filled with zeros.
 pub(crate) fn overwrite(bytes: &mut Vec<u8>, at: usize, new: &[u8]) -> Result<(), AllocError>
     requires { at + length new.now ≤ LONGEST_FILE }
     ensures ok { OnOk result (bytes.new.items ≡ bytes_after_write bytes.old.items at new.now) }

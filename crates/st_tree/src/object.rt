@@ -19,18 +19,18 @@ use st_model::{Kind, NewKind, NewNode, Permission, Want};
 use st_names::Seen;
 use std::alloc::{AllocError, Global};
 
-/// What an object shows of itself.
+/// The kind, owner, group, mode and size of an object.
 #[derive(Clone, Copy, Debug, PartialEq, Eq)]
 pub struct Node {
     pub kind: Kind,
     pub uid: u32,
     pub gid: u32,
     pub mode: u32,
-    /// Entries of a directory, bytes of a file, bytes of a link's target.
+    /// The number of entries of a directory, of bytes of a file, or of bytes of a link's target.
     pub size: u64,
 }
 
-// An object, as the tree keeps it.
+// An object as the tree stores it.
 #[derive(Debug, Drop)]
 pub(crate) struct Object {
     pub(crate) uid: u32,
@@ -41,7 +41,7 @@ pub(crate) struct Object {
 
 #[derive(Debug, Drop)]
 pub(crate) enum Body {
-    // The number of the object that each component has. No call lists a directory, so they stand in no order.
+    // The number of the object for each component. No call lists a directory, so the entries are in no particular order.
     Dir(IndexMap<Vec<u8>, Obj>),
     File(Vec<u8>),
     Link(Vec<u8>),
@@ -61,10 +61,10 @@ impl Body {
     }
 }
 
-// Up to so many entries each is compared: a hash costs more than that.
+// Up to this many entries are compared one by one, since a hash costs more.
 const FEW_ENTRIES: usize = 4;
 
-// The number that a component has among entries, each of which is compared.
+// The number that a component has among entries, by a comparison with each entry.
 fn compared(entries: &IndexMap<Vec<u8>, Obj>, part: &[u8]) -> Option<Obj>
     ensures { result ≡ lookup (λ key. bytes_eq part.now key.items) entries.now.entries }
 {
@@ -91,7 +91,7 @@ fn entry_in(entries: &IndexMap<Vec<u8>, Obj>, part: &[u8]) -> Option<Obj>
 }
 
 impl Object {
-    // A new object, without entries, which takes no memory.
+    // A new object without entries. It allocates no memory.
     pub(crate) fn of(alloc: Global, new: NewNode) -> Self
         ensures node { node_of result ≡ node_of_new new }
         ensures entries { entries_of_body result.body ≡ [] }
@@ -119,7 +119,7 @@ impl Object {
         }
     }
 
-    // How many entries it has.
+    // The number of entries of a directory, or 0 for any other object.
     pub(crate) fn entries(&self) -> usize
         ensures { result ≡ length (entries_of_body self.now.body) }
     {
@@ -129,7 +129,7 @@ impl Object {
         }
     }
 
-    // What it shows of itself.
+    // The object's kind, owner, group, mode and size.
     pub(crate) fn node(&self) -> Node
         ensures kind { result.kind ≡ (node_of self.now).kind }
         ensures uid { result.uid ≡ self.now.uid }
@@ -151,7 +151,7 @@ impl Object {
         }
     }
 
-    // Whether a user and a group may do this with it.
+    // Whether a user and a group have this access to the object.
     pub(crate) fn allows(&self, uid: u32, gid: u32, want: Want) -> bool
         ensures { result ≡ allowed (node_of self.now) uid gid want }
     {
@@ -163,7 +163,7 @@ impl Object {
         permission.is_permitted(uid, gid, want)
     }
 
-    // What a look at it sees.
+    // The result of a look at the object.
     pub(crate) fn seen(&self) -> Seen<'_>
         ensures { seen_text result ≡ seen_of_kind (node_of self.now).kind (node_of self.now).content }
     {
@@ -174,7 +174,7 @@ impl Object {
         }
     }
 
-    // The number that a component has here.
+    // The number that a component has in a directory; none in any other object.
     pub(crate) fn entry(&self, part: &[u8]) -> Option<Obj>
         ensures { result ≡ lookup (is_at (slice_cmp nat_cmp part.now)) (entries_of_body self.now.body) }
     {
@@ -184,7 +184,7 @@ impl Object {
         }
     }
 
-    // Gives a component of a directory this number.
+    // Inserts or replaces a component's entry in a directory.
     pub(crate) fn put(&mut self, alloc: Global, part: &[u8], obj: Obj) -> Result<(), AllocError>
         requires { is_directory (kind_of_body self.old.body) ≡ true }
         ensures ok { OnOk result (entries_of_body self.new.body ≡ insert_entry (slice_cmp nat_cmp) (entries_of_body self.old.body) part.now obj) }
@@ -198,7 +198,7 @@ impl Object {
         Ok(())
     }
 
-    // Takes a component's entry away, if it has one.
+    // Removes a component's entry, if it has one.
     pub(crate) fn take(&mut self, part: &[u8])
         ensures entries { entries_of_body self.new.body ≡ remove_entry (is_at (slice_cmp nat_cmp part.now)) (entries_of_body self.old.body) }
         ensures node { node_of self.new ≡ node_of self.old }
@@ -208,7 +208,7 @@ impl Object {
         }
     }
 
-    // The bytes of a file, or of a link's target.
+    // The bytes of a file or of a link's target. A directory has none.
     pub(crate) fn content(&self) -> &[u8]
         ensures { result.now ≡ (node_of self.now).content }
     {
@@ -219,7 +219,7 @@ impl Object {
         }
     }
 
-    // So many bytes, from this one on.
+    // `count` bytes from offset `at` on, or fewer if the content ends before.
     pub(crate) fn read(&self, alloc: Global, at: u64, count: u64) -> Result<Text, AllocError>
         ensures bytes { IfOk result (λ text. text ≡ take count (drop at (node_of self.now).content)) }
         ensures few { IfOk result (λ text. length text ≤ count) }
@@ -228,7 +228,7 @@ impl Object {
         Text::of(alloc, content::part(self.content(), at, count))
     }
 
-    // Puts bytes into a file, from this one on.
+    // Writes bytes to a file from offset `at` on.
     pub(crate) fn write(&mut self, at: usize, bytes: &[u8]) -> Result<(), AllocError>
         requires file { kind_of_body self.old.body ≡ object_kind.File }
         requires fits { at + length bytes.now ≤ LONGEST_FILE }
@@ -242,7 +242,7 @@ impl Object {
         Ok(())
     }
 
-    // Cuts a file to a length, or fills it up.
+    // Truncates or extends a file to a length.
     pub(crate) fn cut(&mut self, len: usize) -> Result<(), AllocError>
         requires { kind_of_body self.old.body ≡ object_kind.File }
         ensures ok { OnOk result (node_of self.new ≡ with_content (node_of self.old) (bytes_after_cut (node_of self.old).content len)) }

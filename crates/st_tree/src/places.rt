@@ -1,4 +1,4 @@
-// Where names lead among the objects, and why a name may not be given, or taken away.
+// The objects to which names lead, and why a name may not be added, removed or renamed.
 ghost use Rattle.std.specs.Prelude.{◌≡◌, ◌<◌, ◌≤◌, false, Some, [], length, map, ℕ, IfOk, OnOk, OnErr};
 ghost use Rattle.std.specs.Result.{result_err};
 ghost use Rattle.st_names.specs.Name.{last_part, parent};
@@ -21,13 +21,13 @@ pub(crate) const ROOT: Obj = 1;
 // Why a name leads to no object.
 #[derive(Clone, Copy, Debug, PartialEq, Eq)]
 pub(crate) enum Gap {
-    // A component on the way, or the last, isn't there.
+    // A component on the way, or the last component, is missing.
     Missing,
     // Something on the way is no directory.
     NotDir,
 }
 
-// What a renaming goes by: the directories that the names stand in, and the object.
+// The data of a rename: the directories of the old and the new name, and the object.
 #[derive(Clone, Copy)]
 pub(crate) struct RenamePlan {
     pub(crate) from: Obj,
@@ -46,7 +46,7 @@ impl Gap {
     }
 }
 
-// The object that a component has in this one, which has to be a directory.
+// The object that a component has in this object, which has to be a directory.
 fn step(objects: &[Object], from: Obj, part: &[u8]) -> Result<Obj, Gap>
     requires { IsNumber objects.now from }
     ensures { result ≡ gap_or_entry (is_dir_of objects.now from) (dir_entry (dirs_of objects.now) from part.now) }
@@ -57,7 +57,7 @@ fn step(objects: &[Object], from: Obj, part: &[u8]) -> Result<Obj, Gap>
     table::entry(objects, from, part).ok_or(Gap::Missing)
 }
 
-// The object that components lead to from the root.
+// The object to which components lead from the root.
 fn reach(objects: &[Object], parts: NameParts<'_>) -> Result<Obj, Gap>
     requires { IsWhole objects.now }
     ensures reached { result ≡ object_or_gap objects.now 1 parts.entry }
@@ -70,7 +70,7 @@ fn reach(objects: &[Object], parts: NameParts<'_>) -> Result<Obj, Gap>
     Ok(at)
 }
 
-// The object that a name leads to.
+// The object to which a name leads.
 pub(crate) fn find(objects: &[Object], name: &AbsName) -> Result<Obj, Gap>
     requires { IsWhole objects.now }
     ensures reached { result ≡ object_or_gap objects.now 1 name.now }
@@ -79,7 +79,7 @@ pub(crate) fn find(objects: &[Object], name: &AbsName) -> Result<Obj, Gap>
     reach(objects, name.parts())
 }
 
-// The directory that a name stands in, or would.
+// The directory of a name, whether or not the name exists.
 fn directory_of(objects: &[Object], name: &AbsName) -> Result<Obj, Gap>
     requires { IsWhole objects.now }
     ensures reached { result ≡ directory_reached objects.now (parent name.now) }
@@ -92,7 +92,7 @@ fn directory_of(objects: &[Object], name: &AbsName) -> Result<Obj, Gap>
     Ok(holder)
 }
 
-// The directory that a new name may stand in.
+// The directory of a name that doesn't exist, or why the name can't be added.
 fn free_place(objects: &[Object], name: &AbsName) -> Result<Obj, Errno>
     requires { IsWhole objects.now }
     ensures free { IfOk result (IsFree objects.now name.now) }
@@ -111,7 +111,7 @@ fn free_place(objects: &[Object], name: &AbsName) -> Result<Obj, Errno>
     }
 }
 
-// The directory that a name other than the root's stands in, and its object.
+// The directory and the object of a name other than the root's.
 fn taken_place(objects: &[Object], name: &AbsName) -> Result<(Obj, Obj), Errno>
     requires whole { IsWhole objects.now }
     requires named { 0 < length name.now }
@@ -128,7 +128,7 @@ fn taken_place(objects: &[Object], name: &AbsName) -> Result<(Obj, Obj), Errno>
     }
 }
 
-// The directory for a new object's name.
+// The directory for the name of a new object, or why the object can't be added.
 pub(crate) fn place_to_add(objects: &[Object], name: &AbsName) -> Result<Obj, Errno>
     requires { IsWhole objects.now }
     ensures free { IfOk result (IsFree objects.now name.now) }
@@ -142,7 +142,7 @@ pub(crate) fn place_to_add(objects: &[Object], name: &AbsName) -> Result<Obj, Er
     Ok(holder)
 }
 
-// The directory for an object's new name.
+// The directory for one more name of an object, or why the name can't be added.
 pub(crate) fn place_to_link(objects: &[Object], obj: Obj, name: &AbsName) -> Result<Obj, Errno>
     requires whole { IsWhole objects.now }
     requires number { IsNumber objects.now obj }
@@ -157,7 +157,7 @@ pub(crate) fn place_to_link(objects: &[Object], obj: Obj, name: &AbsName) -> Res
     Ok(holder)
 }
 
-// The directory of a name that may be taken away.
+// The directory of a name that may be removed, or why the name can't be removed.
 pub(crate) fn place_to_remove(objects: &[Object], name: &AbsName) -> Result<Obj, Errno>
     requires { IsWhole objects.now }
     ensures empty { IfOk result (IsEmpty objects.now name.now) }
@@ -173,14 +173,14 @@ pub(crate) fn place_to_remove(objects: &[Object], name: &AbsName) -> Result<Obj,
     Ok(holder)
 }
 
-/// Whether a name leads on from another.
+/// Whether `old` is a proper prefix of `new`.
 pub fn is_proper_prefix(old: &AbsName, new: &AbsName) -> bool
     ensures { result ≡ is_proper_prefix old.now new.now }
 {
     old.begins(new) && old.len() < new.len()
 }
 
-// Lets an object take the place of another, or says why it can't.
+// Whether an object can replace another object, or why it can't.
 fn replace(objects: &[Object], obj: Obj, replaced: Obj) -> Result<(), Errno>
     requires whole { IsWhole objects.now }
     requires number { IsNumber objects.now obj }
@@ -198,7 +198,7 @@ fn replace(objects: &[Object], obj: Obj, replaced: Obj) -> Result<(), Errno>
     Ok(())
 }
 
-// What a renaming goes by; none where both names have one object.
+// The data of a rename, or none if both names have the same object.
 pub(crate) fn rename_plan(
     objects: &[Object],
     old: &AbsName,
@@ -226,7 +226,7 @@ pub(crate) fn rename_plan(
     Ok(Some(RenamePlan { from, to, obj }))
 }
 
-// Moves the entry of one name to another, in place of what it has there.
+// Moves the entry of one name to another name, and replaces the entry of that name if it has one.
 pub(crate) fn move_entry(
     objects: &mut [Object],
     alloc: Global,

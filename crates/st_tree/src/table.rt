@@ -1,4 +1,4 @@
-// The objects by their numbers, and the entries of those that are directories.
+// Objects by their numbers, and the entries of directories.
 ghost use Rattle.std.specs.Prelude.{◌≡◌, ℕ, true, nat_lt, length, map, OnOk, OnErr};
 ghost use Rattle.st_tree.specs.Objects.{dirs_of, is_dir_of, node_of, IsNumber};
 ghost use Rattle.st_tree.specs.Paths.{dir_entry, with_entry, without_entry};
@@ -7,7 +7,7 @@ use crate::object::Object;
 use st_base::Obj;
 use std::alloc::{AllocError, Global};
 
-// Whether a number has a directory.
+// Whether the object with this number is a directory.
 pub(crate) fn is_dir(objects: &[Object], obj: Obj) -> bool
     requires { IsNumber objects.now obj }
     ensures { result ≡ is_dir_of objects.now obj }
@@ -23,7 +23,7 @@ pub(crate) fn has_entries(objects: &[Object], obj: Obj) -> bool
     objects[obj as usize - 1].entries() > 0
 }
 
-// The number that a component has in this object.
+// The number that a component has in a directory; none in any other object.
 pub(crate) fn entry(objects: &[Object], holder: Obj, part: &[u8]) -> Option<Obj>
     requires { IsNumber objects.now holder }
     ensures { result ≡ dir_entry (dirs_of objects.now) holder part.now }
@@ -31,7 +31,7 @@ pub(crate) fn entry(objects: &[Object], holder: Obj, part: &[u8]) -> Option<Obj>
     objects[holder as usize - 1].entry(part)
 }
 
-// Gives a component of a directory this number.
+// Inserts or replaces a component's entry in a directory.
 pub(crate) fn put_entry(
     objects: &mut [Object],
     alloc: Global,
@@ -48,7 +48,7 @@ pub(crate) fn put_entry(
     objects[holder as usize - 1].put(alloc, part, obj)
 }
 
-// Takes a component's entry away from an object.
+// Removes a component's entry from an object, if it has one.
 pub(crate) fn take_entry(objects: &mut [Object], holder: Obj, part: &[u8])
     requires { IsNumber objects.old holder }
     ensures entries { (n : ℕ) → dirs_of objects.new n ≡ without_entry (dirs_of objects.old) holder part.now n }

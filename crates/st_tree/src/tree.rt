@@ -17,13 +17,13 @@ use std::alloc::{AllocError, Global};
 use std::marker::Model;
 use thiserror::Error;
 
-/// Why a tree was not changed.
+/// Why a tree wasn't changed.
 #[derive(Clone, Copy, Debug, PartialEq, Eq, Drop, Error)]
 pub enum TreeFault {
     /// The call fails with this error.
     #[error("the call fails")]
     Os(Errno),
-    /// There is no memory for the change.
+    /// Out of memory for the change.
     #[error("out of memory")]
     NoMemory,
 }
@@ -48,11 +48,11 @@ impl From<Errno> for TreeFault {
     }
 }
 
-/// A file tree: objects, numbered from 1 in the order in which they were made, under the names that directories give them. The
-/// root is object 1.
+/// A file tree: objects, numbered from 1 in the order in which they were made, under the names that the entries of directories form.
+/// The root is object 1.
 #[derive(Debug, Drop)]
 pub struct Tree {
-    // Object n stands at n - 1.
+    // Object n is at index n - 1.
     objects: Vec<Object>,
 }
 
@@ -84,7 +84,7 @@ impl Tree {
         Ok(Tree { objects })
     }
 
-    /// What is seen of a name. Of what stands on the way, the first that is missing or is no directory decides.
+    /// The result of a look at a name. The first proper prefix that is missing or is no directory decides.
     pub fn look<'a>(&'a self, name: &AbsName) -> Seen<'a>
         ensures { seen_text result ≡ look self.now name.now }
     {
@@ -95,7 +95,7 @@ impl Tree {
         }
     }
 
-    /// The object that has a name; none exactly where a look sees Missing or NotDir.
+    /// The object that has a name; none exactly when a look sees Missing or NotDir.
     pub fn object(&self, name: &AbsName) -> Option<Obj>
         ensures object { result ≡ object_of self.now name.now }
         ensures none { IsNone result ↔ (is_absent (look self.now name.now) ≡ true) }
@@ -114,7 +114,8 @@ impl Tree {
         places::ROOT
     }
 
-    /// The object that a component has in this one; none in what is no directory. Where there is none, no name leads on from there.
+    /// The object that a component has in this object; none in an object that is no directory. If there is none, no longer name has an
+    /// object either.
     pub fn child(&self, obj: Obj, part: &[u8]) -> Option<Obj>
         requires { IsMade self.now obj }
         ensures object { (name : Components) → object_of self.now name ≡ Some obj → result ≡ object_of self.now (name ++ part.now ∷ []) }
@@ -124,7 +125,7 @@ impl Tree {
         table::entry(&self.objects, obj, part)
     }
 
-    /// What an object shows of itself.
+    /// The kind, owner, group, mode and size of an object.
     pub fn node(&self, obj: Obj) -> Node
         requires { IsMade self.now obj }
         ensures kind { result.kind ≡ (node_with_number self.now obj).kind }
@@ -137,8 +138,8 @@ impl Tree {
         self.objects[obj as usize - 1].node()
     }
 
-    /// Whether a user and a group may do this with an object: the owner's bits decide for the owner, else the group's for a
-    /// member of the group, else the others'. User 0 may do all but execute what nobody may.
+    /// Whether a user and a group have this access to an object. The owner's bits decide for the owner, otherwise the group's bits for a
+    /// member of the group, otherwise the others' bits. User 0 has every access, except that it may not execute what nobody may execute.
     pub fn allowed(&self, obj: Obj, uid: u32, gid: u32, want: Want) -> bool
         requires { IsMade self.now obj }
         ensures { result ≡ allowed (node_with_number self.now obj) uid gid want }
@@ -146,7 +147,7 @@ impl Tree {
         self.objects[obj as usize - 1].allows(uid, gid, want)
     }
 
-    /// The bytes of a file, or of a link's target; a directory has none.
+    /// The bytes of a file or of a link's target. A directory has none.
     pub fn content(&self, obj: Obj) -> &[u8]
         requires { IsMade self.now obj }
         ensures { result.now ≡ (node_with_number self.now obj).content }
@@ -154,7 +155,7 @@ impl Tree {
         self.objects[obj as usize - 1].content()
     }
 
-    /// How many objects were ever made; the next one gets the number above.
+    /// The number of objects that were ever made. The next object gets the next number.
     pub fn made(&self) -> u32
         ensures count { result ≡ length self.now.objects }
         ensures few { result ≤ MOST_OBJECTS }
@@ -162,9 +163,9 @@ impl Tree {
         self.objects.len() as u32
     }
 
-    /// Makes an object under a new name, and gives its number. ENOENT where the name's directory is missing, ENOTDIR where
-    /// something on the way is no directory, EEXIST where the name is taken, ENOSPC where 4,096 objects were made. After an
-    /// error nothing is changed.
+    /// Makes an object under a new name, and returns its number. Fails with ENOENT if the name's directory is missing, with ENOTDIR if a
+    /// proper prefix is no directory, with EEXIST if the name exists, and with ENOSPC if 4,096 objects were made. After an error
+    /// nothing is changed.
     pub fn add(&mut self, alloc: Global, name: &AbsName, new: NewNode) -> Result<Obj, TreeFault>
         ensures ok { OnOk result (self.new ≡ add_object self.old name.now (node_of_new new)) }
         ensures number { IfOk result (λ obj. obj ≡ suc (length self.old.objects)) }
@@ -182,8 +183,8 @@ impl Tree {
         Ok(obj)
     }
 
-    /// Gives an object one more name. ENOENT, ENOTDIR and EEXIST as for a new object, then EPERM where it is a directory.
-    /// After an error nothing is changed.
+    /// Gives an object one more name. Fails with ENOENT, ENOTDIR and EEXIST as for a new object, then with EPERM if the object is a
+    /// directory. After an error nothing is changed.
     pub fn link(&mut self, alloc: Global, obj: Obj, name: &AbsName) -> Result<(), TreeFault>
         requires { IsMade self.old obj }
         ensures ok { OnOk result (self.new ≡ link_object self.old name.now obj) }
@@ -196,8 +197,8 @@ impl Tree {
         Ok(())
     }
 
-    /// Takes a name away; its object stays. EINVAL for the root, then ENOENT where the name or something on the way is
-    /// missing, ENOTDIR where something on the way is no directory, ENOTEMPTY for a directory with entries.
+    /// Removes a name; its object stays. Fails with EINVAL for the root, then with ENOENT if the name or a proper prefix is missing, with
+    /// ENOTDIR if a proper prefix is no directory, and with ENOTEMPTY for a directory with entries. After an error nothing is changed.
     pub fn remove(&mut self, name: &AbsName) -> Result<(), TreeFault>
         ensures ok { OnOk result (self.new ≡ remove_name self.old name.now) }
         ensures may { OnOk result (remove_refused self.old name.now ≡ None) }
@@ -209,11 +210,11 @@ impl Tree {
         Ok(())
     }
 
-    /// Gives the names that begin with this one the new beginning: an object moves with all that is below it, and takes the
-    /// place of what has the new name. Where both names have one object nothing is changed. EINVAL where one is the root or
-    /// the new name leads on from the old one; then ENOENT or ENOTDIR of the old name, ENOENT or ENOTDIR of the new name's
-    /// directory; then ENOTDIR where the object alone is a directory, EISDIR where the one that it replaces alone is,
-    /// ENOTEMPTY where that one has entries. After an error nothing is changed.
+    /// Replaces the old prefix by the new prefix in each name that has it: an object moves with all names below it, and replaces the
+    /// object with the new name, if there is one. If both names have the same object, nothing is changed. Fails with EINVAL if either
+    /// name is the root's or the old name is a proper prefix of the new name; then with ENOENT or ENOTDIR for the old name, or for the
+    /// new name's directory; then with ENOTDIR if only the moved object is a directory, with EISDIR if only the replaced object is one,
+    /// and with ENOTEMPTY if the replaced object has entries. After an error nothing is changed.
     pub fn rename(&mut self, alloc: Global, old: &AbsName, new: &AbsName) -> Result<(), TreeFault>
         ensures ok { OnOk result (self.new ≡ tree_after_rename self.old old.now new.now) }
         ensures may { OnOk result (rename_refused self.old old.now new.now ≡ None) }
@@ -227,7 +228,7 @@ impl Tree {
         Ok(())
     }
 
-    /// So many bytes of a file, from this one on; fewer where it ends before.
+    /// `count` bytes of a file from offset `at` on, or fewer if the file ends before.
     pub fn read(&self, alloc: Global, obj: Obj, at: u64, count: u64) -> Result<Text, AllocError>
         requires { IsFile self.now obj }
         ensures bytes { IfOk result (λ text. text ≡ take count (drop at (node_with_number self.now obj).content)) }
@@ -237,8 +238,8 @@ impl Tree {
         self.objects[obj as usize - 1].read(alloc, at, count)
     }
 
-    /// Puts bytes into a file, from this one on; a gap before them is filled with zeros, and no bytes change nothing. ENOSPC
-    /// where they would end past byte 65,536. After an error nothing is changed.
+    /// Writes bytes to a file from offset `at` on. A gap before them is filled with zeros, and writing no bytes changes nothing. Fails with
+    /// ENOSPC if the file would get longer than 65,536 bytes. After an error nothing is changed.
     pub fn write(&mut self, obj: Obj, at: u64, bytes: &[u8]) -> Result<(), TreeFault>
         requires { IsFile self.old obj }
         ensures ok { OnOk result (self.new ≡ write_object self.old obj at bytes.now) }
@@ -257,7 +258,8 @@ impl Tree {
         Ok(())
     }
 
-    /// Cuts a file to a length, or fills it up with zeros. ENOSPC past 65,536 bytes. After an error nothing is changed.
+    /// Truncates a file to a length, or extends it with zeros. Fails with ENOSPC for more than 65,536 bytes. After an error nothing is
+    /// changed.
     pub fn cut(&mut self, obj: Obj, len: u64) -> Result<(), TreeFault>
         requires { IsFile self.old obj }
         ensures ok { OnOk result (self.new ≡ cut_object self.old obj len) }
