@@ -1,4 +1,4 @@
--- What holds of each element of two lists, and of each element of both together.
+-- A property of each element of two lists is one of each element of their concatenation.
 use Rattle.std.proofs.Common.{List, [], ◌∷◌, ◌++◌}
 use Rattle.std.specs.List.{AllByRecursion}
 

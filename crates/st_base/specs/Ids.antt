@@ -1,4 +1,4 @@
--- Identities of processes.
+-- Identities: ids whose real and effective parts are equal.
 use Rattle.std.specs.Prelude.{ℕ}
 use Rattle.st_base.specs.declared.ids.Ids.{Ids}
 

@@ -20,7 +20,7 @@ pub type Obj = u32;
 /// A message's sequence number, counted from 1. No number is used twice.
 pub type Seq = u64;
 
-/// Who a process is: real and effective user and group, as in credentials(7) and setuid(2).
+/// The ids of a process: its real and effective user and group, as in credentials(7) and setuid(2).
 #[derive(Clone, Copy, Debug, PartialEq, Eq)]
 pub struct Ids {
     pub ruid: u32,

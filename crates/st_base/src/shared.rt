@@ -27,7 +27,7 @@ impl<T: Drop> Shared<T> {
         }
     }
 
-    /// The value.
+    /// The shared value.
     pub fn get(&self) -> &T
         ensures { result.now ≡ self.now }
     {

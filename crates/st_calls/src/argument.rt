@@ -57,7 +57,7 @@ impl Label {
         }
     }
 
-    /// The label that a word names.
+    /// The label whose name is this word.
     pub fn of_word(word: &[u8]) -> Option<Label>
         ensures { result ≡ label_named word.now }
     {

@@ -124,7 +124,7 @@ impl SysCall {
         }
     }
 
-    /// The call that a word names.
+    /// The call whose name is this word.
     pub fn of_word(word: &[u8]) -> Option<SysCall>
         ensures { result ≡ call_named word.now }
     {

@@ -85,7 +85,7 @@ impl Rule {
         }
     }
 
-    /// The rule that a word names: `fsread`, `fswrite`, or a call's name.
+    /// The rule whose name is this word: `fsread`, `fswrite`, or a call's name.
     pub fn of_word(word: &[u8]) -> Option<Rule>
         ensures { result ≡ rule_named word.now }
     {

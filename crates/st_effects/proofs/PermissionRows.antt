@@ -174,7 +174,7 @@ effective_group_of_the_directory = refl
 real_group_of_the_directory : Answer (with_mode 20 24) (record other_user { rgid = 1000 }) Unlink (refused "/q/v" [] EACCES ∷ [])
 real_group_of_the_directory = refl
 
--- and for the file itself, whose mode is 020
+-- the same for the file itself, whose mode is 020
 effective_group : Answer (with_mode 14 16) (record other_user { euid = 3000; egid = 1000 }) Truncate (
     gives "/s/group" (1 ∷ []) 0 (Cut 14 1 ∷ []) ∷ [])
 effective_group = refl

@@ -86,7 +86,7 @@ open_node_outcome system request (Some object) =
     error_if (not (may_open object.node request.ids flags)) EACCES ∷ [])
     (open_object_outcome system request object.number (truncation object.number flags))
 
--- open(name, flags, mode)
+-- the outcome of open(name, flags, mode)
 abbrev pub open_outcome : System → Request → Outcome
 open_outcome system request =
     unless_refused system (
@@ -95,7 +95,7 @@ open_outcome system request =
     walk_error system.tree request.ids (arg_name_at request 0) ∷ [])
     (open_node_outcome system request (object_at system.tree (arg_name_at request 0)))
 
--- close(fd)
+-- the outcome of close(fd)
 abbrev pub close_outcome : System → Request → Outcome
 close_outcome system request =
     unless_refused system (close_refused system.descriptors request.pid (register request 0) ∷ [])
@@ -144,7 +144,7 @@ read_file_outcome system request (Some file) =
     (success_with_table (length bytes) (put_changes (space_of_caller system request) at bytes)
     (table_after_seek system.descriptors request.pid (register request 0) (file.offset + length bytes)))
 
--- read(fd, at, count)
+-- the outcome of read(fd, at, count)
 abbrev pub read_outcome : System → Request → Outcome
 read_outcome system request = read_file_outcome system request (file_at system.descriptors request.pid (register request 0))
 
@@ -177,7 +177,7 @@ write_file_outcome system request (Some file) =
     buffer_fault (register request 1) (register request 2) ∷ [])
     (write_kind_outcome system request file file.kind)
 
--- write(fd, at, count)
+-- the outcome of write(fd, at, count)
 abbrev pub write_outcome : System → Request → Outcome
 write_outcome system request = write_file_outcome system request (file_at system.descriptors request.pid (register request 0))
 
@@ -227,11 +227,11 @@ abbrev pub seek_file_outcome : System → Request → Option OpenFile → Outcom
 seek_file_outcome system request None = failure system EBADF
 seek_file_outcome system request (Some file) = seek_outcome system request (seek_offset system.tree request file file.kind)
 
--- lseek(fd, offset, whence)
+-- the outcome of lseek(fd, offset, whence)
 abbrev pub lseek_outcome : System → Request → Outcome
 lseek_outcome system request = seek_file_outcome system request (file_at system.descriptors request.pid (register request 0))
 
--- dup(fd)
+-- the outcome of dup(fd)
 abbrev pub dup_outcome : System → Request → Outcome
 dup_outcome system request =
     unless_refused system (dup_refused system.descriptors request.pid (register request 0) ∷ [])

@@ -47,7 +47,7 @@ stat_words tree object =
 abbrev pub stat_buffer_fault : ℕ → Option Errno
 stat_buffer_fault at = error_if (not (at % 8 == 0) || nat_lt SPACE_BYTES (at + 40)) EFAULT
 
--- stat(name, at) and lstat(name, at)
+-- the outcome of stat(name, at) and lstat(name, at)
 abbrev pub stat_outcome : System → Request → Outcome
 stat_outcome system request =
     let name = arg_name_at request 0 in
@@ -75,7 +75,7 @@ has_all_access ids node mode =
     has_access ids node mode 4 want.Read && (has_access ids node mode 2 want.Write &&
     has_access ids node mode 1 (want_of_bit (is_directory node.kind)))
 
--- access(name, mode), which tests the real ids throughout
+-- the outcome of access(name, mode), which tests the real ids throughout
 abbrev pub access_outcome : System → Request → Outcome
 access_outcome system request =
     let name = arg_name_at request 0 in
@@ -93,7 +93,7 @@ is_link object_kind.Dir = false
 is_link object_kind.File = false
 is_link object_kind.Link = true
 
--- readlink(name, at, count)
+-- the outcome of readlink(name, at, count)
 abbrev pub readlink_outcome : System → Request → Outcome
 readlink_outcome system request =
     let name = arg_name_at request 0 in
@@ -105,7 +105,7 @@ readlink_outcome system request =
     buffer_fault (register request 1) (register request 2) ∷ [])
     (success system (length target) (Put (space_of_caller system request) (register request 1) target ∷ []))))
 
--- unlink(name)
+-- the outcome of unlink(name)
 abbrev pub unlink_outcome : System → Request → Outcome
 unlink_outcome system request =
     let name = arg_name_at request 0 in
@@ -116,7 +116,7 @@ unlink_outcome system request =
     error_if (is_directory object.node.kind) EPERM ∷ [])
     (success system 0 (Removed name ∷ []))))
 
--- link(old, new)
+-- the outcome of link(old, new)
 abbrev pub link_outcome : System → Request → Outcome
 link_outcome system request =
     let tree = system.tree in
@@ -146,13 +146,13 @@ make_outcome system request name kind mode =
 abbrev pub link_mode : ℕ
 link_mode = 511
 
--- symlink(text, name)
+-- the outcome of symlink(text, name)
 abbrev pub symlink_outcome : System → Request → Outcome
 symlink_outcome system request =
     unless_refused system (error_if (length (arg_text_at request 0) == 0) ENOENT ∷ [])
     (make_outcome system request (arg_name_at request 1) (made.Link (arg_text_at request 0)) link_mode)
 
--- mkdir(name, mode)
+-- the outcome of mkdir(name, mode)
 abbrev pub mkdir_outcome : System → Request → Outcome
 mkdir_outcome system request = make_outcome system request (arg_name_at request 0) made.Dir (low_mode (register request 1))
 
@@ -175,7 +175,7 @@ move_outcome system request old new object (Some other) =
     directory_not_empty system.tree other ∷ [])
     (success system 0 (Removed new ∷ Renamed old new ∷ []))
 
--- rename(old, new)
+-- the outcome of rename(old, new)
 abbrev pub rename_outcome : System → Request → Outcome
 rename_outcome system request =
     let tree = system.tree in
@@ -188,7 +188,7 @@ rename_outcome system request =
     error_if (is_root old || (is_root new || is_proper_prefix old new)) EINVAL ∷ [])
     (move_outcome system request old new object (object_at tree new))))
 
--- rmdir(name)
+-- the outcome of rmdir(name)
 abbrev pub rmdir_outcome : System → Request → Outcome
 rmdir_outcome system request =
     let name = arg_name_at request 0 in
@@ -202,7 +202,7 @@ rmdir_outcome system request =
     directory_not_empty system.tree object ∷ [])
     (success system 0 (Removed name ∷ []))))
 
--- chdir(name)
+-- the outcome of chdir(name)
 abbrev pub chdir_outcome : System → Request → Outcome
 chdir_outcome system request =
     let name = arg_name_at request 0 in
@@ -213,7 +213,7 @@ chdir_outcome system request =
     error_if (not (is_allowed_at request.ids object.node want.Search)) EACCES ∷ [])
     (success system 0 (Cwd name ∷ []))))
 
--- chmod(name, mode)
+-- the outcome of chmod(name, mode)
 abbrev pub chmod_outcome : System → Request → Outcome
 chmod_outcome system request =
     let name = arg_name_at request 0 in
@@ -227,7 +227,7 @@ chmod_outcome system request =
 abbrev pub is_no_id : ℕ → Bool
 is_no_id number = nat_le (2 ^ 32) number
 
--- chown(name, uid, gid)
+-- the outcome of chown(name, uid, gid)
 abbrev pub chown_outcome : System → Request → Outcome
 chown_outcome system request =
     let name = arg_name_at request 0 in
@@ -238,7 +238,7 @@ chown_outcome system request =
     unless_refused system (error_if (not (request.ids.euid == 0)) EPERM ∷ [])
     (success system 0 (Owned object.number (register request 1) (register request 2) ∷ []))))
 
--- truncate(name, len)
+-- the outcome of truncate(name, len)
 abbrev pub truncate_outcome : System → Request → Outcome
 truncate_outcome system request =
     let name = arg_name_at request 0 in

@@ -16,7 +16,7 @@ use Rattle.st_effects.specs.System.{System, Request, Outcome, HeldCall, success,
 use Rattle.st_trace.specs.declared.entry.Change.{Change}
 use Rattle.st_trace.specs.declared.entry.Change.TheVariants.{Forked, Execed, SetIds, Dying, Renewed, Policy}
 
--- fork()
+-- the outcome of fork()
 abbrev pub fork_outcome : System → Request → Outcome
 fork_outcome system request =
     success_with_table system.next_process
@@ -38,7 +38,7 @@ abbrev pub policy_changes : Bool → List ℕ → List Change
 policy_changes true binary = []
 policy_changes false binary = Policy binary ∷ []
 
--- execve(name, argv)
+-- the outcome of execve(name, argv)
 abbrev pub execve_outcome : System → Request → Outcome
 execve_outcome system request =
     let name = arg_name_at request 0 in
@@ -49,7 +49,7 @@ execve_outcome system request =
     error_if (length object.node.content == 0) ENOEXEC ∷ [])
     (success system 0 (Execed (printed_name name) system.next_space ∷ policy_changes request.inherit (printed_name name)))))
 
--- exit(code)
+-- the outcome of exit(code)
 abbrev pub exit_outcome : System → Request → Outcome
 exit_outcome system request = success system 0 (Dying request.pid ∷ [])
 
@@ -61,7 +61,7 @@ kill_signal = 9
 abbrev pub may_signal : Ids → ℕ → Bool
 may_signal ids target = ids.euid == 0 || (ids.ruid == target || ids.euid == target)
 
--- kill(pid, signal)
+-- the outcome of kill(pid, signal)
 abbrev pub kill_outcome : System → Request → Outcome
 kill_outcome system request =
     let target = register request 0 in
@@ -80,7 +80,7 @@ renewals pid tid next (held ∷ more) =
     if held.pid == pid && not (held.tid == tid) then Renewed held.number next ∷ renewals pid tid (next + 1) more
     else renewals pid tid next more
 
--- setuid(uid), seteuid(uid), setgid(gid) and setegid(gid)
+-- the outcome of setuid(uid), seteuid(uid), setgid(gid) and setegid(gid)
 abbrev pub set_ids_outcome : SysCall → System → Request → Outcome
 set_ids_outcome call system request =
     unless_refused system (set_refused call request.ids (register request 0) ∷ [])

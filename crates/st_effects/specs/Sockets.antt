@@ -10,11 +10,11 @@ use Rattle.st_model.specs.declared.open_file.OpenFile.{OpenFile}
 use Rattle.st_effects.specs.Descriptors.{next_descriptor}
 use Rattle.st_effects.specs.System.{System, Request, Outcome, success_with_table, unless_refused, register, arg_text_at}
 
--- a new socket
+-- the open file of a new socket
 abbrev pub socket_file : OpenFile
 socket_file = record { kind = file.Socket None false; read = true; write = true; append = false; offset = 0 }
 
--- socket(domain, type)
+-- the outcome of socket(domain, type)
 abbrev pub socket_outcome : System → Request → Outcome
 socket_outcome system request =
     unless_refused system (open_refused system.descriptors request.pid ∷ [])
@@ -28,11 +28,11 @@ colon = 58
 abbrev pub port_in : List ℕ → ℕ
 port_in text = fold (λ n byte. if byte == colon then 0 else 10 * n + (byte - 48)) 0 text
 
--- the least port that is open to every user
+-- the least port that every user may bind
 abbrev pub first_free_port : ℕ
 first_free_port = 1024
 
--- bind(fd, addr)
+-- the outcome of bind(fd, addr)
 abbrev pub bind_outcome : System → Request → Outcome
 bind_outcome system request =
     let port = port_in (arg_text_at request 0) in
@@ -43,7 +43,7 @@ bind_outcome system request =
     bind_refused system.descriptors request.pid fd port ∷ [])
     (success_with_table 0 [] (table_after_bind system.descriptors request.pid fd port))
 
--- connect(fd, addr)
+-- the outcome of connect(fd, addr)
 abbrev pub connect_outcome : System → Request → Outcome
 connect_outcome system request =
     let port = port_in (arg_text_at request 0) in

@@ -49,7 +49,7 @@ pub record Request : Type 0 where
   pub args : List ArgText
   -- the thread that fork starts
   pub child : ℕ
-  -- whether execve keeps the policy that applies
+  -- whether the policy that applies is inherited over an execve
   pub inherit : Bool
 
 -- a call's result, its changes, and the descriptors after it

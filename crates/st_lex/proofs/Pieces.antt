@@ -11,7 +11,7 @@ use Rattle.st_lex.specs.Tokens.{line_after, with_token, tokens_from, lexed_text}
 use Rattle.st_lex.specs.Pieces.{Piece, PlainWord, QuotedText, Sign, Space, is_sign, sign_bytes, piece_bytes, print, StandApart, StandWell, SpelledToken, spelled_tokens, piece_tokens, IsReadAs}
 use Rattle.st_lex.proofs.Fronts.{EndsWord, text_of_part, word_first, quoted_first, sign_first, space_first}
 
--- the token of some bytes at a place and a line
+-- the token of some bytes at an offset and a line
 abbrev pub token_at : TokenKind → List ℕ → ℕ → ℕ → Token
 token_at kind bytes at line = record { kind = kind; at = at; len = length bytes; line = line }
 

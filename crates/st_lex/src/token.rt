@@ -101,7 +101,7 @@ pub enum LexFault {
     /// A quoted text isn't closed.
     #[error("the quote isn't closed")]
     OpenQuote(u32),
-    /// What follows a backslash in quotes is no escape.
+    /// The bytes after a backslash in quotes are no escape.
     #[error("not an escape")]
     BadEscape(u32),
 }

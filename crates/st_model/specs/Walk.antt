@@ -39,7 +39,7 @@ abbrev pub rest_after_ups : Components → Components
 rest_after_ups [] = []
 rest_after_ups (part ∷ rest) = if is_up part then rest_after_ups rest else part ∷ rest
 
--- the end of a walk at this name
+-- the state of a walk that ends at this name: a fault if the name is too long
 abbrev pub walk_end : Components → WalkState
 walk_end done = if nat_lt LONGEST_NAME (length (printed_name done)) then Fault ENAMETOOLONG else Name done
 

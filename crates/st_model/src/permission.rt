@@ -6,7 +6,7 @@ ghost use Rattle.st_model.specs.Permission.{bit_of, permission_bits, has_bit, is
 pub enum Want {
     Read,
     Write,
-    /// To go through a directory.
+    /// Search of a directory, to go through it.
     Search,
     Execute,
 }

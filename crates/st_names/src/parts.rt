@@ -16,7 +16,7 @@ pub enum NameFault {
     /// The text has more than 1,024 bytes.
     #[error("the name is too long")]
     TooLong,
-    /// A part of it has more than 255 bytes.
+    /// A part of the text between slashes has more than 255 bytes.
     #[error("a part of the name is too long")]
     PartTooLong,
     #[error("out of memory")]

@@ -7,9 +7,9 @@ use std::alloc::{AllocError, Global};
 /// The result of a look at a name.
 #[derive(Clone, Copy, Debug)]
 pub enum Seen<'a> {
-    /// Nothing has this name, or a directory on the way to it is missing.
+    /// No object has this name, or a proper prefix of the name is missing.
     Missing,
-    /// Something on the way to the name is no directory.
+    /// A proper prefix of the name is no directory.
     NotDir,
     Dir,
     File,

@@ -4,7 +4,7 @@ use st_calls::{Snapshot, SysCall, Verdict};
 use st_model::NewKind;
 use st_names::{AbsName, SeenText};
 
-/// Who moves next.
+/// The choice of who moves next: a thread, a worker or the operator.
 #[derive(Clone, Copy, Debug, PartialEq, Eq)]
 pub enum Choice {
     Thread(Tid),

@@ -61,7 +61,7 @@ abbrev pub is_dir_at : Option Object → Bool
 is_dir_at None = false
 is_dir_at (Some object) = is_directory (kind_of_body object.body)
 
--- the entries of each directory, by its number
+-- the entries of each object, by its number
 abbrev pub dirs_of : List Object → ℕ → Entries
 dirs_of objects number = entries_at (item_at_number objects number)
 

@@ -21,9 +21,9 @@ pub(crate) const ROOT: Obj = 1;
 // Why a name leads to no object.
 #[derive(Clone, Copy, Debug, PartialEq, Eq)]
 pub(crate) enum Gap {
-    // A component on the way, or the last component, is missing.
+    // The name or a proper prefix of it is missing.
     Missing,
-    // Something on the way is no directory.
+    // A proper prefix of the name is no directory.
     NotDir,
 }
 
