@@ -185,7 +185,7 @@ argv_of_1024_bytes_together = refl
 argv_of_1025_bytes_together : map (argv_of_two 425) eight ≡ replicate 8 (Fault E2BIG)
 argv_of_1025_bytes_together = refl
 
--- a byte too many is a fault at once, before the end of memory is
+-- a byte too many is a fault at once, and is found before the end of memory
 argv_of_many_bytes_so_far :
     spell kind.Argv 8 (80 ∷ words_of 128 (replicate 1024 97)) ∷
     spell kind.Argv 8 (80 ∷ words_of 129 (replicate 1025 97)) ∷

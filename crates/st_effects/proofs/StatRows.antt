@@ -81,7 +81,7 @@ stat_memory : memory_after 1 world.memory (changes Stat (codes "/d/f" ∷ []) (2
     memory_after 1 world.memory (changes Stat (codes "/d/f" ∷ []) (24 ∷ 8 ∷ [])) 1 7 ∷ [] ≡ 164 ∷ 8 ∷ []
 stat_memory = refl
 
--- the tests in order: the mode, the walk, also if no access is requested, a missing name, the access
+-- the tests in order: the mode, the walk (also if no access is requested), a missing name, the access
 access_in_order : Answer world user Access (
     refused "/no/x" (8 ∷ []) EINVAL ∷
     refused "/p/x" (8 ∷ []) EINVAL ∷

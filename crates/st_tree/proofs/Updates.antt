@@ -22,7 +22,7 @@ set_entries (first ∷ objects) zero (suc j) object d same = refl
 set_entries (first ∷ objects) (suc i) zero object d same = refl
 set_entries (first ∷ objects) (suc i) (suc j) object d same = set_entries objects i j object d same
 
--- all directories stay directories if the changed object keeps its kind
+-- the same objects are directories if the changed object keeps its kind
 set_dir : (objects : List Object) (i j : ℕ) (object d : Object) → kind_of_body object.body ≡ kind_of_body (get_or objects i d).body → is_dir_at (slice_get (set objects i object) j) ≡ is_dir_at (slice_get objects j)
 set_dir [] i j object d same = refl
 set_dir (first ∷ objects) zero zero object d same = ap is_directory same
