@@ -30,6 +30,11 @@ def edge(head):
     return "|" + "---|" * (head.count("|") - 1)
 
 
+def row(cells):
+    """Returns a row of a table, with a blank on each side of a bar."""
+    return "|" + "|".join(f" {cell} " if cell else " " for cell in cells) + "|"
+
+
 def quoted(names):
     return ", ".join(f"`{name}`" for name in names)
 
@@ -52,11 +57,11 @@ def crate_list(crates, _):
 def crate_tables(crates, lines):
     """A table of each layer. Its last column is written by hand: what the part has for a crate is kept."""
     by_hand = {cells[0].strip("`"): cells[-1] for cells in map(markdown.cells_of, lines) if len(cells) > 2}
-    head = "|Crate|What it does|What its contracts speak of|"
+    head = row(("Crate", "What it does", "What its contracts speak of"))
     made = []
     for layer, each in tree.layers(crates).items():
         made += ["", f"### {layer[0].upper()}{layer[1:]}", "", head, edge(head)]
-        made += [f"|`{crate.name}`|{crate.description()}|{by_hand.get(crate.name) or ' '}|" for crate in each]
+        made += [row((f"`{crate.name}`", crate.description(), by_hand.get(crate.name))) for crate in each]
     return made[1:]
 
 
@@ -67,10 +72,10 @@ def chain(crates, _):
 
 def sizes(crates, _):
     """The table of sizes."""
-    head = "|Crate|Code|Definitions|Proofs|Mutants in the gate|apart from it|"
+    head = row(("Crate", "Code", "Definitions", "Proofs", "Mutants in the gate", "Other mutants"))
     rows = [(f"`{crate.name}`", crate.sizes()) for crate in crates.values()]
     rows.append(("all", [sum(column) for column in zip(*(counts for _, counts in rows))]))
-    return [head, edge(head)] + [f"|{name}|{'|'.join(f'{count:,}' for count in counts)}|" for name, counts in rows]
+    return [head, edge(head)] + [row((name, *(f"{count:,}" for count in counts))) for name, counts in rows]
 
 
 def measured(name):
@@ -85,7 +90,7 @@ def short_costs(crates, _):
         cells = markdown.cells_of(line)
         rows[cells[0], cells[1]] = [cells[column] for column in SHORT_COLUMNS]
     return [SHORT_HEAD, edge(SHORT_HEAD)] + [
-        f"| {what} | {text} | {' | '.join(rows[kind, text])} |" for kind, text, what in SHORT_COSTS
+        row((what, text, *rows[kind, text])) for kind, text, what in SHORT_COSTS
     ]
 
 
