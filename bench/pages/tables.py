@@ -57,7 +57,7 @@ def crate_list(crates, _):
 def crate_tables(crates, lines):
     """A table of each layer. Its last column is written by hand: what the part has for a crate is kept."""
     by_hand = {cells[0].strip("`"): cells[-1] for cells in map(markdown.cells_of, lines) if len(cells) > 2}
-    head = row(("Crate", "What it does", "What its contracts speak of"))
+    head = row(("Crate", "What it does", "Its contracts are about"))
     made = []
     for layer, each in tree.layers(crates).items():
         made += ["", f"### {layer[0].upper()}{layer[1:]}", "", head, edge(head)]
