@@ -10,16 +10,16 @@ SHORT_COSTS = (
     ("held", "audit", "eight threads hold opens, eight workers serve them"),
     ("held", "trace", "the same"),
     ("filters", "audit", "500 calls that the last of 4,096 filters permits"),
-    ("fast", "audit", "4,076 calls that no worker is asked for"),
+    ("fast", "audit", "4,076 calls that need no worker"),
     ("fast", "trace", "the same"),
-    ("forks", "audit", "63 forks, and 20 held calls of each child"),
-    ("threads", "audit", "64 threads, and 60 held calls of each"),
+    ("forks", "audit", "63 forks, and 20 held calls by each child"),
+    ("threads", "audit", "64 threads, and 60 held calls by each"),
     ("short", "audit", "3,900 held calls on a name of two components"),
     ("deep", "audit", "3,900 held calls on a name of 16 components"),
     ("long", "audit", "3,900 held calls on a name of 960 bytes"),
-    ("names", "audit", "a file made, renamed and taken away, 1,000 times"),
-    ("questions", "audit", "500 questions, each with a reply"),
-    ("learn", "audit", "1,000 calls that are learnt from, and made again"),
+    ("names", "audit", "a file made, renamed and removed, 1,000 times"),
+    ("questions", "audit", "500 questions to the operator, each with a reply"),
+    ("learn", "audit", "1,000 calls that are learnt, and made again"),
 )
 SHORT_HEAD = "| what the run does | text | time, quotient | million instructions, proved | unverified | quotient | MiB, proved | unverified |"
 # The columns of what bench/run_step prints that the short table has: the quotient of times, instructions, and memory.
