@@ -75,7 +75,7 @@ def sizes(crates, _):
     head = row(("Crate", "Code", "Definitions", "Proofs", "Mutants in the gate", "Other mutants"))
     rows = [(f"`{crate.name}`", crate.sizes()) for crate in crates.values()]
     rows.append(("all", [sum(column) for column in zip(*(counts for _, counts in rows))]))
-    return [head, edge(head)] + [row((name, *(f"{count:,}" for count in counts))) for name, counts in rows]
+    return [head, edge(head)] + [row((name, *(f"{count:,}" if count else "" for count in counts))) for name, counts in rows]
 
 
 def measured(name):
