@@ -72,8 +72,8 @@ def chain(crates, _):
 
 def sizes(crates, _):
     """The table of sizes."""
-    head = row(("Crate", "Code", "Definitions", "Proofs", "Mutants in the gate", "Other mutants"))
-    rows = [(f"`{crate.name}`", crate.sizes()) for crate in crates.values()]
+    head = row(("Crate", "Mutants in the gate", "Other mutants", "Proofs", "Definitions", "Code"))
+    rows = [(f"`{crate.name}`", crate.sizes()[3:] + crate.sizes()[2::-1]) for crate in crates.values()]
     rows.append(("all", [sum(column) for column in zip(*(counts for _, counts in rows))]))
     return [head, edge(head)] + [row((name, *(f"{count:,}" if count else "" for count in counts))) for name, counts in rows]
 
