@@ -65,17 +65,12 @@ def crate_tables(crates, lines):
     return made[1:]
 
 
-def chain(crates, _):
-    """The longest chain of crates."""
-    return wrapped(f"The longest chain is {quoted(tree.longest_chain(crates))}.")
-
-
 def sizes(crates, _):
     """The table of sizes."""
-    head = row(("Crate", "Mutants in the gate", "Other mutants", "Proofs", "Definitions", "Code"))
-    rows = [(f"`{crate.name}`", crate.sizes()[3:] + crate.sizes()[2::-1]) for crate in crates.values()]
+    head = row(("Crate", "Code", "Definitions", "Proofs"))
+    rows = [(f"`{crate.name}`", crate.sizes()) for crate in crates.values()]
     rows.append(("all", [sum(column) for column in zip(*(counts for _, counts in rows))]))
-    return [head, edge(head)] + [row((name, *(f"{count:,}" if count else "" for count in counts))) for name, counts in rows]
+    return [head, edge(head)] + [row((name, *(f"{count:,}" for count in counts))) for name, counts in rows]
 
 
 def measured(name):
@@ -98,7 +93,7 @@ def short_costs(crates, _):
 PARTS = {
     "README.md": {"crates": crate_list, "costs": short_costs},
     "bench/README.md": {name: measured(name) for name in ("run", "run_step", "run_check")},
-    "docs/ARCHITECTURE.md": {"crates": crate_tables, "sizes": sizes, "gate times": measured("gate_times"), "chain": chain},
+    "docs/ARCHITECTURE.md": {"crates": crate_tables, "sizes": sizes, "gate times": measured("gate_times")},
 }
 
 

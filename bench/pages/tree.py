@@ -45,9 +45,8 @@ class Crate:
         return [[path.stem for path in files(f"{self.folder}/{folder}", ".edit")] for folder in ("must-fail", "wrong-bodies")]
 
     def sizes(self):
-        """Returns the lines of code, of definitions and of proofs, and the two counts of wrong bodies."""
-        lines = [count_lines(paths) for paths in (self.sources, self.specs, self.proofs)]
-        return lines + [len(names) for names in self.wrong_bodies]
+        """Returns the lines of code, of definitions and of proofs."""
+        return [count_lines(paths) for paths in (self.sources, self.specs, self.proofs)]
 
     def description(self):
         """Returns what the comment at the head of the crate's root file begins with, up to the first full stop or colon."""
@@ -79,16 +78,3 @@ def layers(crates):
     for crate in crates.values():
         found.setdefault(crate.layer, []).append(crate)
     return found
-
-
-def longest_chain(crates):
-    """Returns the longest list of crates each of which stands on the one before it."""
-    chains = {}
-
-    def chain_to(name):
-        if name not in chains:
-            below = [chain_to(each) for each in crates[name].below if each in crates]
-            chains[name] = max(below, key=len, default=[]) + [name]
-        return chains[name]
-
-    return max((chain_to(name) for name in crates), key=len)
