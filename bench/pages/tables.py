@@ -31,8 +31,8 @@ def edge(head):
 
 
 def row(cells):
-    """Returns a row of a table, with a blank on each side of a bar."""
-    return "|" + "|".join(f" {cell} " if cell else " " for cell in cells) + "|"
+    """Returns a row of a table."""
+    return "|" + "|".join(cell or "" for cell in cells) + "|"
 
 
 def quoted(names):
