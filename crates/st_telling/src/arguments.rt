@@ -44,6 +44,9 @@ fn beside_label(refusal: &Refusal<'_>) -> &'static str {
         return "";
     }
     match refusal.row().last() {
+        Some(token) if token.kind.is_colon() && refusal.in_reply => {
+            "'permit', 'deny', 'not', 'true', '(' or "
+        }
         Some(token) if token.kind.is_colon() => "'permit', 'deny', 'ask', 'not', 'true', '(' or ",
         _ => "'not', 'true', '(' or ",
     }

@@ -9,8 +9,8 @@ use st_grammar::{NamedId, Place};
 use st_lex::{Token, TokenKind, unquote};
 use std::alloc::{AllocError, Global};
 
-// The most names that a message tells.
-const MOST_NAMES: usize = 4;
+/// The most names that a message tells.
+pub const MOST_NAMES: usize = 4;
 
 /// The innermost `(` of some tokens that no `)` among them closes.
 pub fn open_bracket(tokens: &[Token]) -> Option<&Token> {
@@ -45,12 +45,17 @@ fn who_at(place: Place) -> Who {
     }
 }
 
-fn append_names(line: &mut Text, names: &[NamedId]) -> Result<(), AllocError> {
-    let mut between = if names.len() > 1 {
-        b"; known are ".as_slice()
+/// What comes before so many names that are known.
+pub fn known_front(count: usize) -> &'static [u8] {
+    if count > 1 {
+        b"; known are "
     } else {
-        b"; known is ".as_slice()
-    };
+        b"; known is "
+    }
+}
+
+fn append_names(line: &mut Text, names: &[NamedId]) -> Result<(), AllocError> {
+    let mut between = known_front(names.len());
     for named in names {
         line.append(between)?;
         append_shown(line, named.name.bytes())?;

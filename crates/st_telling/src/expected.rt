@@ -90,3 +90,16 @@ pub fn expected_of(fault: PolicyFault, place: Place) -> &'static str {
         PolicyFault::TooMany(_) => at_most(place),
     }
 }
+
+/// What was expected in the filter of a reply, where this isn't what a policy may have: a reply doesn't ask, and has no header.
+pub fn expected_in_reply(fault: PolicyFault, place: Place) -> Option<&'static str> {
+    match (fault, place) {
+        (PolicyFault::AskWithLearn(_), _) => Some("'permit' or 'deny': a reply doesn't ask"),
+        (PolicyFault::Expected(_), Place::Row) => Some("a filter 'native-CALL: ...'"),
+        (PolicyFault::Expected(_), Place::Clause) => {
+            Some("'permit', 'deny', 'not', 'true', '(' or a label")
+        }
+        (PolicyFault::Expected(_), Place::Action) => Some("'permit' or 'deny'"),
+        _ => None,
+    }
+}

@@ -3,18 +3,28 @@
 
 mod answer;
 mod arguments;
+mod calls;
 mod caret;
 mod details;
+mod excess;
 mod expected;
+mod fits;
+mod form;
+mod given;
 mod message;
+mod misfit;
 mod names;
+mod naming;
 mod policy_fault;
 mod position;
 mod refusal;
+mod refused_row;
+mod reply;
 mod row;
 mod schedule_fault;
 mod script_fault;
 mod shown;
+mod slot;
 mod sources;
 mod telling;
 

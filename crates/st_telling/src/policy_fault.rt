@@ -4,7 +4,7 @@ ghost use Rattle.st_outside.specs.declared.files.TheConstants.{FILE_LIMIT};
 use crate::arguments::append_expected_argument;
 use crate::caret::append_line_with_caret;
 use crate::details::{append_first_policy, append_known, append_open_bracket, open_bracket};
-use crate::expected::{expected_at, expected_of};
+use crate::expected::{expected_at, expected_in_reply, expected_of};
 use crate::position::position_in;
 use crate::refusal::{Found, Refusal};
 use crate::shown::found_at;
@@ -34,6 +34,11 @@ fn append_expected(
     if let Found::ByteOrderMark = found {
         return line.append(expected_at(Place::Start).as_bytes());
     }
+    if refusal.in_reply
+        && let Some(expected) = expected_in_reply(refusal.fault, refusal.place)
+    {
+        return line.append(expected.as_bytes());
+    }
     match (refusal.fault, refusal.place) {
         (PolicyFault::UnknownArgument(_), _) => return append_expected_argument(line, refusal),
         (PolicyFault::Expected(_), Place::Joint) => return append_expected_joint(line, refusal),
@@ -44,6 +49,22 @@ fn append_expected(
         PolicyFault::DuplicatePolicy(_) => append_first_policy(alloc, line, refusal),
         _ => Ok(()),
     }
+}
+
+/// The message about a refusal, in a file of this name.
+pub fn refusal_message(
+    alloc: Global,
+    name: &[u8],
+    refusal: &Refusal<'_>,
+) -> Result<Text, AllocError> {
+    let at = refusal.at();
+    let found = refusal.found();
+    let mut line = found_at(alloc, name, position_in(refusal.text, at))?;
+    found.append_to(&mut line)?;
+    line.append(b", expected ")?;
+    append_expected(alloc, &mut line, refusal, found)?;
+    append_line_with_caret(&mut line, refusal.text, at, found.len())?;
+    Ok(line)
 }
 
 /// What tells a person why a policy file is refused: a line, the file's line at fault, and one with a `^` under the fault, without the
@@ -64,13 +85,7 @@ pub fn policy_message(
         env,
         fault: refused.fault,
         place: refused.place,
+        in_reply: false,
     };
-    let at = refusal.at();
-    let found = refusal.found();
-    let mut line = found_at(alloc, name, position_in(text, at))?;
-    found.append_to(&mut line)?;
-    line.append(b", expected ")?;
-    append_expected(alloc, &mut line, &refusal, found)?;
-    append_line_with_caret(&mut line, text, at, found.len())?;
-    Ok(line)
+    refusal_message(alloc, name, &refusal)
 }

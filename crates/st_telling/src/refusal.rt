@@ -13,6 +13,8 @@ pub struct Refusal<'a> {
     pub env: &'a Env,
     pub fault: PolicyFault,
     pub place: Place,
+    /// Whether it is the filter of a reply, and the text is that of a script.
+    pub in_reply: bool,
 }
 
 /// What stands at a fault.
@@ -26,6 +28,11 @@ pub enum Found<'a> {
 }
 
 const BYTE_ORDER_MARK: &[u8] = b"\xef\xbb\xbf";
+
+/// Whether a lexical fault is a byte order mark with which a text begins.
+pub fn is_byte_order_mark(text: &[u8], fault: LexFault) -> bool {
+    matches!(fault, LexFault::BadByte(0)) && text.starts_with(BYTE_ORDER_MARK)
+}
 
 impl<'a> Refusal<'a> {
     /// The byte at which the fault stands.
@@ -69,9 +76,7 @@ impl<'a> Refusal<'a> {
     fn broken(&self) -> Found<'a> {
         let rest = rest_of_line(self.text, self.at());
         match self.fault {
-            PolicyFault::Lex(LexFault::BadByte(0)) if self.text.starts_with(BYTE_ORDER_MARK) => {
-                Found::ByteOrderMark
-            }
+            PolicyFault::Lex(fault) if is_byte_order_mark(self.text, fault) => Found::ByteOrderMark,
             PolicyFault::Lex(fault) => Found::Bytes(broken(rest, fault)),
             _ => Found::Bytes(rest),
         }

@@ -57,14 +57,21 @@ pub fn first_word(row: &[u8]) -> &[u8] {
 }
 
 impl Row {
-    /// What a row is.
-    pub fn of(row: &[u8]) -> Self {
-        let first = first_word(row);
+    /// What a row is that begins with this word.
+    pub fn of_word(first: &[u8]) -> Self {
         for (word, kind) in ROWS {
             if first == word {
                 return kind;
             }
         }
         Row::Unknown
+    }
+
+    /// Whether such a row is in the body of a thread.
+    pub fn is_instruction(self) -> bool {
+        matches!(
+            self,
+            Row::Store | Row::Put | Row::Call | Row::Fork | Row::End
+        )
     }
 }

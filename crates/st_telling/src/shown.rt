@@ -1,5 +1,4 @@
-use crate::caret::append_line_with_caret;
-use crate::position::{Position, position_in, rest_of_line};
+use crate::position::Position;
 use st_base::Text;
 use st_lex::{LexFault, hex_digit};
 use std::alloc::{AllocError, Global};
@@ -78,21 +77,4 @@ pub fn token_for(fault: LexFault) -> &'static str {
         LexFault::OpenQuote(_) => "a text that is closed on its line",
         LexFault::BadEscape(_) => "'\\x' and two hexadecimal digits that aren't 00",
     }
-}
-
-/// The lines for a text that has a lexical fault.
-pub fn lexical_message(
-    alloc: Global,
-    name: &[u8],
-    text: &[u8],
-    fault: LexFault,
-) -> Result<Text, AllocError> {
-    let at = place_of(fault);
-    let mut line = found_at(alloc, name, position_in(text, at))?;
-    let found = broken(rest_of_line(text, at), fault);
-    append_shown(&mut line, found)?;
-    line.append(b", expected ")?;
-    line.append(token_for(fault).as_bytes())?;
-    append_line_with_caret(&mut line, text, at, found.len())?;
-    Ok(line)
 }

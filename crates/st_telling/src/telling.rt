@@ -7,6 +7,7 @@ use crate::sources::{env_of, text_of};
 use st_base::Text;
 use st_command::{Command, read_words};
 use st_grammar::PolicyRefusal;
+use st_law::Options;
 use st_outside::Files;
 use st_script_faults::ScriptFault;
 use st_top::{Status, Which};
@@ -30,6 +31,14 @@ fn policy_line<F: Files>(
     Ok(None)
 }
 
+// The options that the script is read with.
+fn options_of(command: &Command<'_>) -> Options {
+    match command {
+        Command::Step(step) => step.options,
+        Command::Check(check) => check.options(),
+    }
+}
+
 // Why the script is refused.
 fn script_line<F: Files>(
     alloc: Global,
@@ -40,7 +49,8 @@ fn script_line<F: Files>(
     if let Some(name) = file_in(command, Which::Script)
         && let Some(text) = text_of(alloc, files, name)?
     {
-        let line = script_message(alloc, name.bytes(), text.bytes(), fault)?;
+        let options = options_of(command);
+        let line = script_message(alloc, name.bytes(), text.bytes(), &options, fault)?;
         return Ok(Some(line));
     }
     Ok(None)
