@@ -62,7 +62,7 @@ quotient() {
     awk -v a="$1" -v b="$2" 'BEGIN { if (b > 0) printf "%.2f", a / b; else printf "-" }'
 }
 
-# Has each program write its text of these words, behind the kind that they are of. Both have to end with 0 and to write the same.
+# Has each program write its text of these words, after the kind that they are of. Both have to end with 0 and to write the same.
 write_texts() {
     local program status
     for program in proved unverified; do

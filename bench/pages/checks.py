@@ -353,17 +353,17 @@ def modules_stand_under_their_crates(known, page):
 
 def names_stand_under_their_modules(known, page):
     """A definition that an item of DEFINITIONS.md names stands in a module of that item, or is named in an item of its own module too."""
-    told, elsewhere = set(), []
+    listed, elsewhere = set(), []
     for block, modules, crates in items_of_modules(known, page):
         here = set(modules) | {span.text for span in block.spans()}
         for span in block.spans():
             for name in WITHIN.findall(span.text):
                 found = [each for crate in crates for each in known.names[crate].definitions.get(name, []) if each.module != "Lib"]
-                told |= {(each.path, name) for each in found if each.module in here}
+                listed |= {(each.path, name) for each in found if each.module in here}
                 if found and not any(each.module in here for each in found):
                     elsewhere.append((span.line, name, found[0]))
     for line, name, definition in elsewhere:
-        if (definition.path, name) not in told:
+        if (definition.path, name) not in listed:
             yield line, f"`{name}` stands in {definition.module}"
 
 

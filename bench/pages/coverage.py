@@ -40,7 +40,7 @@ def is_exported(crate, path, item):
     return item.is_public and (is_in_sight or bool({item.name, *item.owner} & passed_on))
 
 
-def told_names():
+def listed_names():
     """Returns the names that the page has in backticks."""
     spans = (span for block in markdown.Page(tree.TOP / PAGE).text_blocks() for span in block.spans())
     return {name for span in spans for name in re.findall(r"[A-Za-z_]\w*", span.text)}
@@ -48,11 +48,11 @@ def told_names():
 
 def definitions_missing(known):
     """Returns the citations of definitions that the page lacks."""
-    told = told_names()
-    return {cited: by for cited, by in sorted(cited_definitions(known).items()) if cited[2] not in told}
+    listed = listed_names()
+    return {cited: by for cited, by in sorted(cited_definitions(known).items()) if cited[2] not in listed}
 
 
-def definitions_are_told(known, page):
+def definitions_are_listed(known, page):
     """DEFINITIONS.md has each definition that a public contract of these crates cites."""
     if page.name == PAGE:
         for (crate, module, name), by in definitions_missing(known).items():

@@ -22,15 +22,15 @@ impl Pattern {
                 b'*' => Item::Star,
                 b'?' => Item::Any,
                 b'[' => match class(tail) {
-                    Some((item, behind)) => {
-                        rest = behind;
+                    Some((item, following)) => {
+                        rest = following;
                         item
                     }
                     None => Item::Byte(b'['),
                 },
                 b'\\' => match tail.split_first() {
-                    Some((&next, behind)) => {
-                        rest = behind;
+                    Some((&next, following)) => {
+                        rest = following;
                         Item::Byte(next)
                     }
                     None => Item::Byte(b'\\'),
@@ -61,10 +61,10 @@ impl Pattern {
                 _ => {}
             }
             match star {
-                Some((behind, from)) if text.get(from).is_some_and(|&b| b != b'/') => {
-                    item = behind;
+                Some((following, from)) if text.get(from).is_some_and(|&b| b != b'/') => {
+                    item = following;
                     at = from + 1;
-                    star = Some((behind, at));
+                    star = Some((following, at));
                 }
                 _ => return false,
             }
@@ -94,8 +94,8 @@ fn class(text: &[u8]) -> Option<(Item, &[u8])> {
         if rest.first() == Some(&b']') && !ranges.is_empty() {
             return Some((Item::Class { negated, ranges }, &rest[1..]));
         }
-        let (low, behind) = class_byte(rest)?;
-        rest = behind;
+        let (low, following) = class_byte(rest)?;
+        rest = following;
         let mut high = low;
         if rest.first() == Some(&b'-') && rest.get(1).is_some_and(|&b| b != b']') {
             (high, rest) = class_byte(&rest[1..])?;

@@ -111,7 +111,7 @@ fn fetch(name: &str) -> Result<Vec<u8>, Status> {
     if text.len() as u64 > MOST_BYTES { Err(Status::TooLong) } else { Ok(text) }
 }
 
-/// What `step` is asked to do by the words behind it, or none where they are none that is served.
+/// What `step` is asked to do by the words after it, or none where they are none that is served.
 fn parse(words: &[String]) -> Option<Command> {
     let mut words = words.iter().map(String::as_str);
     let mut policies = Vec::new();

@@ -429,7 +429,7 @@ impl<'a> Parser<'a> {
         Ok(binary)
     }
 
-    /// One filter, behind the name that it is for, and its rule where the model has it.
+    /// One filter, after the name that it is for, and its rule where the model has it.
     fn filter(&mut self) -> Parsed<(&'a str, Option<Rule>, Filter)> {
         let word = std::str::from_utf8(self.take(Kind::Word)?).map_err(|_| PolicyError)?;
         let name = word.strip_prefix("native-").ok_or(PolicyError)?;

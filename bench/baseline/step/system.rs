@@ -390,7 +390,7 @@ impl System {
 
     // Names.
 
-    /// The object of a name, behind the test of the walk to it.
+    /// The object of a name, after the test of the walk to it.
     fn present(&self, name: &[u8], ids: Ids) -> Result<usize, Errno> {
         self.tree.walk(name, ids.euid, ids.egid)?;
         self.tree.object(name).ok_or(Errno::NoEnt)
@@ -710,7 +710,7 @@ impl System {
     }
 }
 
-/// The port of an address's text, which stands behind its last colon.
+/// The port of an address's text, which is after its last colon.
 fn port_of(text: &[u8]) -> u16 {
     let digits = text.rsplit(|&b| b == b':').next().unwrap_or_default();
     std::str::from_utf8(digits).ok().and_then(|digits| digits.parse().ok()).unwrap_or(0)

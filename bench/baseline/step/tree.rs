@@ -1,4 +1,4 @@
-//! The file tree. Names are absolute and in normal form: `/`, or parts behind slashes.
+//! The file tree. Names are absolute and in normal form: `/`, or parts after slashes.
 use crate::calls::Errno;
 use std::collections::BTreeMap;
 
