@@ -3,6 +3,7 @@
 
 mod answer;
 mod arguments;
+mod blocked;
 mod calls;
 mod caret;
 mod details;
@@ -15,10 +16,12 @@ mod message;
 mod misfit;
 mod names;
 mod naming;
+mod options;
 mod policy_fault;
 mod position;
 mod refusal;
 mod refused_row;
+mod replay;
 mod reply;
 mod row;
 mod schedule_fault;
@@ -27,8 +30,13 @@ mod shown;
 mod slot;
 mod sources;
 mod telling;
+mod threads;
+mod unread;
+mod wrong_words;
 
 pub use answer::answer_of;
 pub use message::OUT_OF_MEMORY;
 pub use policy_fault::policy_message;
 pub use telling::line_of;
+pub use unread::{Unread, unread_message};
+pub use wrong_words::no_text_message;

@@ -7,7 +7,8 @@ use std::alloc::{AllocError, Global};
 /// The line of a program that has no memory left.
 pub const OUT_OF_MEMORY: &str = "systrace: out of memory";
 
-const USAGE: &str =
+/// How the commands are written.
+pub const USAGE: &str =
     "usage: systrace step [-f POLICY]... [-a|-A|-t] [-i] [-u] [-c U:G] [-w N] [--print audit|trace|schedule|policy] SCRIPT SCHEDULE
        systrace check [-c U:G] POLICY [SCRIPT]";
 

@@ -1,38 +1,84 @@
 ghost use Rattle.std.specs.Prelude.{◌≤◌, length};
+ghost use Rattle.st_command.specs.Reading.{IsWithinLimits};
 ghost use Rattle.st_outside.specs.declared.files.TheConstants.{FILE_LIMIT};
 
-use crate::row::{first_word, row_numbered};
-use crate::shown::row_message;
+use crate::names::file_in;
+use crate::replay::reason_at;
+use crate::row::row_numbered;
+use crate::shown::row_found;
+use crate::sources::text_of;
 use st_base::Text;
+use st_command::Command;
+use st_outside::Files;
+use st_reading::{Refusal, Which};
 use st_schedule::read_schedule;
 use std::alloc::{AllocError, Global};
 
-const FORM: &str =
-    "'thread N', 'worker N' or 'operator', behind which a count from 1 to 1000000 may stand, or 'rest'";
+const FORM: &[u8] =
+    b", expected 'thread N', 'worker N' or 'operator', after which a count from 1 to 1000000 may stand, or 'rest'";
 
-// Who can be told to move at its turn.
-fn mover_of(row: &[u8]) -> &'static str {
-    let word = first_word(row);
-    if word == b"thread".as_slice() {
-        "a thread that can move at each turn: it has started, hasn't ended, and waits for neither a worker nor the operator"
-    } else if word == b"worker".as_slice() {
-        "a worker that can move at each turn: one of those of '-w N', with a call to serve"
-    } else {
-        "a question for the operator at each turn: there is none without '-A' or '-t'"
+// Whether the line of this number is the first that isn't in the form.
+fn is_out_of_form(alloc: Global, text: &Text, number: u32) -> Result<bool, AllocError>
+    requires { length text.now ≤ FILE_LIMIT }
+{
+    let schedule = read_schedule(alloc, text.bytes())?;
+    Ok(schedule.bad == Some(number))
+}
+
+// What a message says of the line of this number after showing it: which form it should have, or who can't move and why. Nothing where a
+// file of the command wasn't kept.
+fn fault_of<F: Files>(
+    alloc: Global,
+    files: &mut F,
+    command: &Command<'_>,
+    text: &Text,
+    number: u32,
+) -> Result<Option<Text>, AllocError>
+    requires limits { IsWithinLimits command.now }
+    requires short { length text.now ≤ FILE_LIMIT }
+{
+    if is_out_of_form(alloc, text, number)? {
+        return Ok(Some(Text::of(alloc, FORM)?));
+    }
+    match reason_at(alloc, files, command, number) {
+        Ok(reason) => Ok(reason),
+        Err(Refusal::NoMemory) => Err(AllocError),
+        Err(_) => Ok(None),
     }
 }
 
-/// The line that tells a person why a schedule is refused at a line, without its newline.
-pub fn schedule_message(
+// The message about the line of this number, which has this fault.
+fn line_with(
     alloc: Global,
-    name: &[u8],
-    text: &[u8],
+    name: &Text,
+    text: &Text,
     number: u32,
-) -> Result<Text, AllocError>
-    requires { length text.now ≤ FILE_LIMIT }
+    fault: &Text,
+) -> Result<Text, AllocError> {
+    let row = row_numbered(text.bytes(), number);
+    let mut line = row_found(alloc, name.bytes(), number, row)?;
+    line.append(fault.bytes())?;
+    Ok(line)
+}
+
+/// The line that tells a person why the schedule of a command is refused at a line, without its newline; nothing where a file of the command
+/// wasn't kept.
+pub fn schedule_message<F: Files>(
+    alloc: Global,
+    files: &mut F,
+    command: &Command<'_>,
+    number: u32,
+) -> Result<Option<Text>, AllocError>
+    requires limits { IsWithinLimits command.now }
 {
-    let row = row_numbered(text, number);
-    let is_bad = read_schedule(alloc, text)?.bad == Some(number);
-    let expected = if is_bad { FORM } else { mover_of(row) };
-    row_message(alloc, name, number, row, expected)
+    let Some(name) = file_in(command, Which::Schedule) else {
+        return Ok(None);
+    };
+    let Some(text) = text_of(alloc, files, name)? else {
+        return Ok(None);
+    };
+    match fault_of(alloc, files, command, &text, number)? {
+        Some(fault) => Ok(Some(line_with(alloc, name, &text, number, &fault)?)),
+        None => Ok(None),
+    }
 }

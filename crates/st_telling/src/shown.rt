@@ -36,6 +36,14 @@ pub fn found_at(alloc: Global, name: &[u8], position: Position) -> Result<Text, 
     Ok(line)
 }
 
+/// A message about a row of a file, by the number of its line, up to the row.
+pub fn row_found(alloc: Global, name: &[u8], number: u32, row: &[u8]) -> Result<Text, AllocError> {
+    let mut line = at_line(alloc, name, u64::from(number))?;
+    line.append(b": found ")?;
+    append_shown(&mut line, row)?;
+    Ok(line)
+}
+
 /// The line for a row of a file that can't stand there, by the number of its line.
 pub fn row_message(
     alloc: Global,
@@ -44,9 +52,7 @@ pub fn row_message(
     row: &[u8],
     expected: &str,
 ) -> Result<Text, AllocError> {
-    let mut line = at_line(alloc, name, u64::from(number))?;
-    line.append(b": found ")?;
-    append_shown(&mut line, row)?;
+    let mut line = row_found(alloc, name, number, row)?;
     line.append(b", expected ")?;
     line.append(expected.as_bytes())?;
     Ok(line)

@@ -1,9 +1,12 @@
+ghost use Rattle.st_command.specs.Reading.{IsWithinLimits};
+
 use crate::message::message;
 use crate::names::file_in;
 use crate::policy_fault::policy_message;
 use crate::schedule_fault::schedule_message;
 use crate::script_fault::script_message;
 use crate::sources::{env_of, text_of};
+use crate::wrong_words::usage_message;
 use st_base::Text;
 use st_command::{Command, read_words};
 use st_grammar::PolicyRefusal;
@@ -56,45 +59,35 @@ fn script_line<F: Files>(
     Ok(None)
 }
 
-// Why the schedule is refused at a line.
-fn schedule_line<F: Files>(
-    alloc: Global,
-    files: &mut F,
-    command: &Command<'_>,
-    number: u32,
-) -> Result<Option<Text>, AllocError> {
-    if let Some(name) = file_in(command, Which::Schedule)
-        && let Some(text) = text_of(alloc, files, name)?
-    {
-        let line = schedule_message(alloc, name.bytes(), text.bytes(), number)?;
-        return Ok(Some(line));
-    }
-    Ok(None)
-}
-
 // What a refused file tells of a status.
 fn told_of_file<F: Files>(
     alloc: Global,
     files: &mut F,
     command: &Command<'_>,
     status: Status,
-) -> Result<Option<Text>, AllocError> {
+) -> Result<Option<Text>, AllocError>
+    requires limits { IsWithinLimits command.now }
+{
     match status {
         Status::Policy(number, refused) => policy_line(alloc, files, command, number, refused),
         Status::Script(fault) => script_line(alloc, files, command, fault),
-        Status::Schedule(number) => schedule_line(alloc, files, command, number),
+        Status::Schedule(number) => schedule_message(alloc, files, command, number),
         _ => Ok(None),
     }
 }
 
 /// The line that tells a person how a call with these words ended, over the files that it read, without its newline. Where a file is
-/// refused, the line says what stands there, and where it tells of a byte, two more lines show it.
+/// refused, the line says what stands there, and where it tells of a byte, two more lines show it. Where words are no command, the line says
+/// why, and two more how a command is written.
 pub fn line_of<F: Files>(
     alloc: Global,
     files: &mut F,
     words: &[Text],
     status: Status,
 ) -> Result<Text, AllocError> {
+    if matches!(status, Status::Usage) {
+        return usage_message(alloc, words);
+    }
     let command = read_words(alloc, words)?;
     if let Some(command) = &command
         && let Some(line) = told_of_file(alloc, files, command, status)?

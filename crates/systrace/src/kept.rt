@@ -1,4 +1,5 @@
-//! Files that keep copies of what they gave, so that a refusal is reported from the very bytes that were refused.
+//! Files that keep copies of what they gave, so that a refusal is reported from the very bytes that were refused, and a failure by the name
+//! of its file.
 
 ghost use Rattle.std.specs.Prelude.{◌≡◌, ◌≢◌, ◌≤◌, [], ◌∷◌, ◌++◌, length, IfOk};
 ghost use Rattle.st_outside.specs.Count.{HasRisen};
@@ -9,11 +10,30 @@ use st_base::Text;
 use st_outside::{FetchFault, Files, MemoryFiles};
 use std::alloc::{AllocError, Global};
 
-/// Files, with a copy of each that was fetched.
+/// Files, with what is kept of those that were fetched.
 #[derive(Drop)]
 pub struct KeptFiles<F> {
     files: F,
-    kept: MemoryFiles,
+    kept: Kept,
+}
+
+/// What is kept of files that were fetched.
+#[derive(Drop)]
+pub struct Kept {
+    /// A copy of each that was read.
+    pub files: MemoryFiles,
+    /// The name of the last that could not be read.
+    pub failed: Option<Text>,
+}
+
+impl Kept {
+    /// What is kept before any file was fetched.
+    pub fn new(alloc: Global) -> Self {
+        Kept {
+            files: MemoryFiles::new(alloc),
+            failed: None,
+        }
+    }
 }
 
 impl<F: Drop> KeptFiles<F> {
@@ -21,12 +41,12 @@ impl<F: Drop> KeptFiles<F> {
     pub fn new(alloc: Global, files: F) -> Self {
         KeptFiles {
             files,
-            kept: MemoryFiles::new(alloc),
+            kept: Kept::new(alloc),
         }
     }
 
-    /// The copies of the files that were fetched.
-    pub fn into_kept(self) -> MemoryFiles {
+    /// What was kept of the files that were fetched.
+    pub fn into_kept(self) -> Kept {
         self.kept
     }
 }
@@ -37,6 +57,17 @@ fn keep(alloc: Global, kept: &mut MemoryFiles, name: &Text, text: &Text) -> Resu
         Text::of(alloc, name.bytes())?,
         Text::of(alloc, text.bytes())?,
     )
+}
+
+// Keeps what a fetch gave. Without memory for it nothing is kept, and then only why a file is refused can't be told.
+fn note(alloc: Global, kept: &mut Kept, name: &Text, fetched: &Result<Text, FetchFault>) {
+    match fetched {
+        Ok(text) => {
+            let _ = keep(alloc, &mut kept.files, name, text);
+        }
+        Err(FetchFault::Failed) => kept.failed = Text::of(alloc, name.bytes()).ok(),
+        Err(_) => {}
+    }
 }
 
 impl<F: Files> Files for KeptFiles<F> {
@@ -57,9 +88,8 @@ impl<F: Files> Files for KeptFiles<F> {
         ensures failed { result ≡ Err FetchFault.Failed → HasRisen (F.faults self.old.files) (F.faults self.new.files) }
         ensures quiet { result ≢ Err FetchFault.Failed → F.faults self.new.files ≡ F.faults self.old.files }
     {
-        let text = self.files.fetch(alloc, name)?;
-        // If memory runs out for the copy, the file is read all the same; only the reason of a refusal can't be reported then.
-        let _ = keep(alloc, &mut self.kept, name, &text);
-        Ok(text)
+        let fetched = self.files.fetch(alloc, name);
+        note(alloc, &mut self.kept, name, &fetched);
+        fetched
     }
 }

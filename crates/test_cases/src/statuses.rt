@@ -1,5 +1,6 @@
 use st_grammar::{Place, PolicyFault, PolicyRefusal};
 use st_script_faults::ScriptFault;
+use st_telling::Unread;
 use st_top::{Status, Which};
 
 const REFUSAL: PolicyRefusal = PolicyRefusal {
@@ -30,5 +31,15 @@ pub fn status_of(number: u32) -> Status {
         3 => Status::WriteFault,
         4 => Status::NoMemory,
         _ => status_of_file(number),
+    }
+}
+
+/// The reason of a number by which a table names it, why a file can't be read.
+pub fn reason_of(number: u32) -> Unread {
+    match number {
+        0 => Unread::Directory,
+        1 => Unread::Denied,
+        2 => Unread::NoText,
+        _ => Unread::Other,
     }
 }

@@ -13,6 +13,7 @@
 //! | `n` | the number of a status |
 //! | `$`, `&`, `?`, `!`, `^` | words, each after a blank: a call |
 //! | `:` | words that end with the status of the number, if no file can be read |
+//! | `u` | a name, after a blank: a file that can't be read, for the reason of the number |
 //! | `a` | words: whether they are answered, as `--help` and `--version` are |
 //!
 //! What is written of a call, after its line: for `$` its output, the number that it ends with, and its message; for `&` its output, and
@@ -20,10 +21,10 @@
 
 use crate::call::{Ended, call, tell_status};
 use crate::lines::{count_of, first_line, other_lines, words_of};
-use crate::statuses::status_of;
+use crate::statuses::{reason_of, status_of};
 use st_base::Text;
 use st_outside::MemoryFiles;
-use st_telling::answer_of;
+use st_telling::{answer_of, unread_message};
 use std::alloc::{AllocError, Global};
 
 /// The state of a table after the lines so far, and what was written of them.
@@ -158,6 +159,7 @@ impl Table {
         match mark {
             b'a' => self.answer(words.as_slice()),
             b':' => self.tell(words.as_slice()),
+            b'u' => self.tell_unread(words.as_slice()),
             b'$' | b'&' | b'?' | b'!' | b'^' => self.call(mark, words.as_slice()),
             _ => self.write_line(b"no such line"),
         }
@@ -176,6 +178,15 @@ impl Table {
         self.write_number(status.number())?;
         let told = tell_status(self.alloc, words, status)?;
         self.write_line(told.bytes())
+    }
+
+    // Tells of a file that can't be read.
+    fn tell_unread(&mut self, words: &[Text]) -> Result<(), AllocError> {
+        for name in words {
+            let told = unread_message(self.alloc, name.bytes(), reason_of(self.number))?;
+            self.write_line(told.bytes())?;
+        }
+        Ok(())
     }
 
     fn write_number(&mut self, number: u8) -> Result<(), AllocError> {

@@ -1,0 +1,94 @@
+//! The two commands with their options and operands, as messages name them.
+
+/// The most operands that a command has.
+pub const MOST_OPERANDS: u32 = 2;
+
+/// A command, by its name.
+#[derive(Clone, Copy)]
+pub enum CommandName {
+    Step,
+    Check,
+}
+
+/// Whether an option says what becomes of a call that no filter decides.
+pub fn is_mode(word: &[u8]) -> bool {
+    word == b"-a".as_slice() || word == b"-A".as_slice() || word == b"-t".as_slice()
+}
+
+/// What an option takes as its value; none where a word is an option without a value, or no option.
+pub fn value_of(word: &[u8]) -> Option<&'static str> {
+    if word == b"-f".as_slice() {
+        Some("the name of a policy file")
+    } else if word == b"-c".as_slice() {
+        Some("U:G, two decimals below 4294967296 without a zero in front")
+    } else if word == b"-w".as_slice() {
+        Some("1 to 8")
+    } else if word == b"--print".as_slice() {
+        Some("audit, trace, schedule or policy")
+    } else {
+        None
+    }
+}
+
+// Whether a word is an option of `step`.
+fn is_of_step(word: &[u8]) -> bool {
+    is_mode(word)
+        || word == b"-i".as_slice()
+        || word == b"-u".as_slice()
+        || value_of(word).is_some()
+}
+
+impl CommandName {
+    /// The command of this name.
+    pub fn of(word: &[u8]) -> Option<Self> {
+        if word == b"step".as_slice() {
+            Some(CommandName::Step)
+        } else if word == b"check".as_slice() {
+            Some(CommandName::Check)
+        } else {
+            None
+        }
+    }
+
+    /// Whether a word is an option of the command.
+    pub fn has_option(self, word: &[u8]) -> bool {
+        match self {
+            CommandName::Step => is_of_step(word),
+            CommandName::Check => word == b"-c".as_slice(),
+        }
+    }
+
+    /// The operand that is missing after so many others; none where they are enough.
+    pub fn missing_after(self, count: u32) -> Option<&'static str> {
+        match (self, count) {
+            (CommandName::Step, 0) => Some("SCRIPT"),
+            (CommandName::Step, 1) => Some("SCHEDULE"),
+            (CommandName::Check, 0) => Some("POLICY"),
+            _ => None,
+        }
+    }
+
+    /// What is wrong with a word that begins with a dash, and is no option of the command.
+    pub fn not_an_option(self) -> &'static str {
+        match self {
+            CommandName::Step => " is no option of step",
+            CommandName::Check => " is no option of check",
+        }
+    }
+
+    /// What is wrong with an option after an operand.
+    pub fn option_too_late(self) -> &'static str {
+        match self {
+            CommandName::Step => " stands after SCRIPT; options stand before it",
+            CommandName::Check => " stands after POLICY; options stand before it",
+        }
+    }
+
+    /// What is wrong with a third operand.
+    pub fn operand_too_many(self) -> &'static str {
+        match self {
+            CommandName::Step => " is an operand too many after SCRIPT and SCHEDULE",
+            CommandName::Check => " is an operand too many after POLICY and SCRIPT",
+        }
+    }
+}
